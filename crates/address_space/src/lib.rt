@@ -1,0 +1,16 @@
+//! The modelled address space: what a kernel is asked, ports that stand for kernels, and the windows
+//! that a thread's asks must not pass. All of it is this project's own.
+#![tactic(auto)]
+
+mod asks;
+mod budget;
+mod kernel;
+mod space;
+
+pub use asks::{Answer, Ask, Back};
+pub use budget::Budget;
+pub use kernel::{Always, Kernel};
+pub use space::{MAIN_START, Space, Windows};
+
+#[cfg(test)]
+mod tests;

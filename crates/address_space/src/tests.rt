@@ -1,0 +1,87 @@
+use super::*;
+use std::test::Fail;
+
+fn windows() -> Windows {
+    Windows {
+        main_max: 67_108_864,
+        heap_max: 67_108_864,
+        heaps: 64,
+    }
+}
+
+#[test]
+fn a_window_is_passed_without_an_ask(rt: HostRuntime) -> Result<(), Fail> {
+    let alloc = rt.alloc();
+    let mut space = Space::new(Budget::new(1 << 40, Vec::new(alloc)), 0, windows());
+    let end = MAIN_START + 67_108_864;
+    assert_eq!(rt; space.brk(MAIN_START, end + 1), Answer::Refused);
+    assert_eq!(rt; space.brk(MAIN_START, end), Answer::Granted);
+    space.back(Back::Break {
+        old: end,
+        new: MAIN_START,
+    });
+    let mut kernel = space.into_kernel();
+    assert_eq!(rt;
+        kernel.ask(Ask::Map {
+            addr: 0,
+            len: 1 << 40
+        }),
+        Answer::Granted
+    );
+    assert_eq!(rt; kernel.ask(Ask::Map { addr: 0, len: 1 }), Answer::Refused);
+    Ok(())
+}
+
+#[test]
+fn a_budget_counts_what_is_held(rt: HostRuntime) -> Result<(), Fail> {
+    let mut refuse_at = Vec::new(rt.alloc());
+    refuse_at.push(2)?;
+    let mut budget = Budget::new(100, refuse_at);
+    assert_eq!(rt;
+        budget.ask(Ask::Break { old: 10, new: 70 }),
+        Answer::Granted
+    );
+    assert_eq!(rt;
+        budget.ask(Ask::Piece { addr: 0, len: 1 }),
+        Answer::Refused,
+        "the second ask"
+    );
+    assert_eq!(rt;
+        budget.ask(Ask::NewHeap {
+            arena: 1,
+            heap: 0,
+            len: 41
+        }),
+        Answer::Refused
+    );
+    assert_eq!(rt;
+        budget.ask(Ask::GrowHeap {
+            arena: 1,
+            heap: 0,
+            old_len: 8,
+            new_len: 48
+        }),
+        Answer::Granted
+    );
+    budget.back(Back::Unmap { addr: 0, len: 1000 });
+    assert_eq!(rt; budget.ask(Ask::Map { addr: 0, len: 100 }), Answer::Granted);
+    assert_eq!(rt;
+        budget.ask(Ask::Remap {
+            old_addr: 0,
+            old_len: 100,
+            new_addr: 0,
+            new_len: 60
+        }),
+        Answer::Granted
+    );
+    assert_eq!(rt; budget.ask(Ask::Map { addr: 0, len: 40 }), Answer::Granted);
+    assert_eq!(rt; budget.ask(Ask::Map { addr: 0, len: 1 }), Answer::Refused);
+    assert_eq!(rt;
+        Always.ask(Ask::Map {
+            addr: 0,
+            len: u64::MAX
+        }),
+        Answer::Granted
+    );
+    Ok(())
+}
