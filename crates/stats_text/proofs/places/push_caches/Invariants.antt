@@ -1,0 +1,6 @@
+use Rattle.std.proofs.Common.{◌≡◌, ◌++◌, take}
+use Rattle.stats_text.specs.Report.{cache_lines}
+use Rattle.stats_text.proofs.places.push_caches.Given as goal
+
+abbrev pub invariant-loop-cache : goal.invariant-loop-cache
+invariant-loop-cache l = l.out.items ≡ l.initial.out.items ++ cache_lines (take l.cache-index l.caches)

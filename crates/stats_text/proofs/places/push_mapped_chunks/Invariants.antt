@@ -1,0 +1,6 @@
+use Rattle.std.proofs.Common.{◌≡◌, ◌++◌, take}
+use Rattle.stats_text.specs.Report.{mapped_lines}
+use Rattle.stats_text.proofs.places.push_mapped_chunks.Given as goal
+
+abbrev pub invariant-loop-tile : goal.invariant-loop-tile
+invariant-loop-tile l = l.out.items ≡ l.initial.out.items ++ mapped_lines (take l.tile-index l.tiles)

@@ -1,0 +1,6 @@
+use Rattle.std.proofs.Common.{◌≡◌, ◌++◌, take}
+use Rattle.stats_text.specs.Report.{tile_lines}
+use Rattle.stats_text.proofs.places.push_tiles.Given as goal
+
+abbrev pub invariant-loop-tile : goal.invariant-loop-tile
+invariant-loop-tile l = l.out.items ≡ l.initial.out.items ++ tile_lines (take l.tile-index l.tiles)

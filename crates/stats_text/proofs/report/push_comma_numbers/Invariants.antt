@@ -1,0 +1,6 @@
+use Rattle.std.proofs.Common.{◌≡◌, ◌++◌, take}
+use Rattle.stats_text.specs.Report.{comma_numbers}
+use Rattle.stats_text.proofs.report.push_comma_numbers.Given as goal
+
+abbrev pub invariant-loop-n : goal.invariant-loop-n
+invariant-loop-n l = l.out.items ≡ l.initial.out.items ++ comma_numbers (take l.n-index l.ns)

@@ -1,0 +1,5 @@
+pub mod Views
+pub mod Words
+pub mod Records
+pub mod Report
+pub mod Totals

@@ -1,0 +1,181 @@
+//! The lines of a report that say where each chunk is.
+
+ghost use Rattle.std.specs.Prelude.{◌≡◌, ◌++◌, OnOk};
+ghost use Rattle.stats_text.specs.Views.{lists_of};
+ghost use Rattle.stats_text.specs.Report.{address_or_dash, place_text, tile_line, tile_lines, mapped_line, mapped_lines, numbered_list, bin_line, bin_lines, arena_line, arena_section, arena_sections, cache_line, cache_lines};
+
+use crate::views::{ArenaView, CacheView, Place, TileView};
+use crate::words::{
+    push_address, push_addresses, push_block, push_number, push_numbered, push_text,
+};
+use chunk_tags::{Addr, NoMemory};
+
+/// Appends a chunk's user address, or a dash where there is none.
+#[tactic(auto, unfolding(crate::specs::Report::address_or_dash))]
+fn push_address_or_dash(out: &mut Vec<u8>, at: Option<Addr>) -> Result<(), NoMemory>
+    ensures { OnOk result (out.new.items ≡ out.old.items ++ address_or_dash at) }
+{
+    match at {
+        None => push_text(out, b"-"),
+        Some(at) => push_address(out, at),
+    }
+}
+
+/// Appends where a chunk is.
+#[tactic(auto, unfolding(crate::specs::Report::place_text))]
+fn push_place(out: &mut Vec<u8>, place: Place) -> Result<(), NoMemory>
+    ensures { OnOk result (out.new.items ≡ out.old.items ++ place_text place) }
+{
+    match place {
+        Place::Live { thread, name } => {
+            push_numbered(out, b"live ", u64::from(thread))?;
+            push_numbered(out, b" ", u64::from(name))
+        }
+        Place::Cache { thread } => push_numbered(out, b"cache ", u64::from(thread)),
+        Place::Structure { thread } => push_numbered(out, b"structure ", u64::from(thread)),
+        Place::Tray { tray } => push_numbered(out, b"tray ", u64::from(tray)),
+        Place::Fast { bin } => push_numbered(out, b"fast ", u64::from(bin)),
+        Place::Bin { bin } => push_numbered(out, b"bin ", u64::from(bin)),
+        Place::Top => push_text(out, b"top"),
+        Place::Fence => push_text(out, b"fence"),
+    }
+}
+
+/// Appends the line of an arena's chunk.
+#[tactic(auto, unfolding(crate::specs::Report::tile_line))]
+fn push_tile(out: &mut Vec<u8>, tile: &TileView) -> Result<(), NoMemory>
+    ensures { OnOk result (out.new.items ≡ out.old.items ++ tile_line tile.now) }
+{
+    push_block(out, tile.addr, tile.size)?;
+    push_text(out, b" ")?;
+    push_place(out, tile.place)?;
+    push_text(out, b"\n")
+}
+
+/// Appends the lines of an arena's chunks.
+#[tactic(auto, unfolding(crate::specs::Report::tile_lines))]
+fn push_tiles(out: &mut Vec<u8>, tiles: &[TileView]) -> Result<(), NoMemory>
+    ensures { OnOk result (out.new.items ≡ out.old.items ++ tile_lines tiles.now) }
+{
+    for tile in tiles {
+        push_tile(out, tile)?;
+    }
+    Ok(())
+}
+
+/// Appends the line of a mapped chunk.
+#[tactic(auto, unfolding(crate::specs::Report::mapped_line))]
+fn push_mapped(out: &mut Vec<u8>, tile: &TileView) -> Result<(), NoMemory>
+    ensures { OnOk result (out.new.items ≡ out.old.items ++ mapped_line tile.now) }
+{
+    push_block(out, tile.addr, tile.size)?;
+    push_numbered(out, b" lead ", tile.lead)?;
+    push_text(out, b" ")?;
+    push_place(out, tile.place)?;
+    push_text(out, b"\n")
+}
+
+/// Appends the lines of mapped chunks.
+#[tactic(auto, unfolding(crate::specs::Report::mapped_lines))]
+pub(crate) fn push_mapped_chunks(out: &mut Vec<u8>, tiles: &[TileView]) -> Result<(), NoMemory>
+    ensures { OnOk result (out.new.items ≡ out.old.items ++ mapped_lines tiles.now) }
+{
+    for tile in tiles {
+        push_mapped(out, tile)?;
+    }
+    Ok(())
+}
+
+/// Appends the number and the chunks of a list.
+#[tactic(auto, unfolding(crate::specs::Report::numbered_list))]
+fn push_list(out: &mut Vec<u8>, number: u8, ats: &[Addr]) -> Result<(), NoMemory>
+    ensures { OnOk result (out.new.items ≡ out.old.items ++ numbered_list number ats.now) }
+{
+    push_number(out, u64::from(number))?;
+    push_text(out, b":")?;
+    push_addresses(out, ats)?;
+    push_text(out, b"\n")
+}
+
+/// Appends the line of a bin that isn't empty.
+#[tactic(auto, unfolding(crate::specs::Report::bin_line))]
+fn push_bin(out: &mut Vec<u8>, name: &[u8], bin: &(u8, Vec<Addr>)) -> Result<(), NoMemory>
+    ensures { OnOk result (out.new.items ≡ out.old.items ++ bin_line name.now (bin.now.0, bin.now.1.items)) }
+{
+    if bin.1.is_empty() {
+        return Ok(());
+    }
+    push_text(out, name)?;
+    push_list(out, bin.0, &bin.1)
+}
+
+/// Appends the lines of the bins that aren't empty.
+#[tactic(auto, unfolding(crate::specs::Report::bin_lines))]
+fn push_bins(out: &mut Vec<u8>, name: &[u8], bins: &[(u8, Vec<Addr>)]) -> Result<(), NoMemory>
+    ensures { OnOk result (out.new.items ≡ out.old.items ++ bin_lines name.now (lists_of bins.now)) }
+{
+    for bin in bins {
+        push_bin(out, name, bin)?;
+    }
+    Ok(())
+}
+
+/// Appends an arena's own line.
+#[tactic(auto, unfolding(crate::specs::Report::arena_line))]
+fn push_arena_line(out: &mut Vec<u8>, a: &ArenaView) -> Result<(), NoMemory>
+    ensures { OnOk result (out.new.items ≡ out.old.items ++ arena_line a.now) }
+{
+    push_numbered(out, b"arena ", u64::from(a.number))?;
+    push_numbered(out, b" system ", a.system)?;
+    push_numbered(out, b" max ", a.max)?;
+    push_numbered(out, b" list ", u64::from(a.list))?;
+    push_text(out, b" last ")?;
+    push_address_or_dash(out, a.last)?;
+    push_text(out, b"\n")
+}
+
+/// Appends an arena: its line, its chunks and its bins.
+#[tactic(auto, unfolding(crate::specs::Report::arena_section))]
+fn push_arena(out: &mut Vec<u8>, a: &ArenaView) -> Result<(), NoMemory>
+    ensures { OnOk result (out.new.items ≡ out.old.items ++ arena_section a.now) }
+{
+    push_arena_line(out, a)?;
+    push_tiles(out, &a.tiles)?;
+    push_bins(out, b"fast ", &a.fast)?;
+    push_bins(out, b"bin ", &a.bins)
+}
+
+/// Appends the arenas.
+#[tactic(auto, unfolding(crate::specs::Report::arena_sections))]
+pub(crate) fn push_arenas(out: &mut Vec<u8>, arenas: &[ArenaView]) -> Result<(), NoMemory>
+    ensures { OnOk result (out.new.items ≡ out.old.items ++ arena_sections arenas.now) }
+{
+    for arena in arenas {
+        push_arena(out, arena)?;
+    }
+    Ok(())
+}
+
+/// Appends the line of a cache's list that isn't empty.
+#[tactic(auto, unfolding(crate::specs::Report::cache_line))]
+fn push_cache(out: &mut Vec<u8>, cache: &CacheView) -> Result<(), NoMemory>
+    ensures { OnOk result (out.new.items ≡ out.old.items ++ cache_line cache.now) }
+{
+    if cache.addrs.is_empty() {
+        return Ok(());
+    }
+    push_numbered(out, b"cache ", u64::from(cache.thread))?;
+    push_text(out, b" ")?;
+    push_list(out, cache.bin, &cache.addrs)
+}
+
+/// Appends the lines of the caches' lists that aren't empty.
+#[tactic(auto, unfolding(crate::specs::Report::cache_lines))]
+pub(crate) fn push_caches(out: &mut Vec<u8>, caches: &[CacheView]) -> Result<(), NoMemory>
+    ensures { OnOk result (out.new.items ≡ out.old.items ++ cache_lines caches.now) }
+{
+    for cache in caches {
+        push_cache(out, cache)?;
+    }
+    Ok(())
+}
