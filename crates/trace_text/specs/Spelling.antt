@@ -1,0 +1,72 @@
+-- The one spelling of a trace, and which traces there are (this project's own).
+use Rattle.std.specs.Prelude.{◌≡◌, ℕ, ◌+◌, ◌^◌, ◌<◌, ◌≤◌, true, false, List, [], ◌∷◌, ◌++◌, length, codes}
+use Rattle.std.specs.Fmt.{decimal}
+use Rattle.std.specs.List.{flat_map}
+use Rattle.trace_text.specs.declared.trace.Call.{Call}
+use Rattle.trace_text.specs.declared.trace.Call.TheVariants.{Malloc, Calloc, Realloc, Align, Free, Post, Take, Exit}
+use Rattle.trace_text.specs.declared.trace.Line.{Line}
+use Rattle.trace_text.specs.Before.{is_held, has_ended, was_posted, was_taken}
+
+-- a number behind a space
+abbrev pub spaced : ℕ → List ℕ
+spaced n = codes " " ++ decimal n
+
+-- a call: the command, and the numbers behind it
+abbrev pub call_spelling : Call → List ℕ
+call_spelling (Malloc name size) = codes "m" ++ spaced name ++ spaced size
+call_spelling (Calloc name n size) = codes "c" ++ spaced name ++ spaced n ++ spaced size
+call_spelling (Realloc name size) = codes "r" ++ spaced name ++ spaced size
+call_spelling (Align name align size) = codes "a" ++ spaced name ++ spaced align ++ spaced size
+call_spelling (Free name) = codes "f" ++ spaced name
+call_spelling (Post name tray) = codes "p" ++ spaced name ++ spaced tray
+call_spelling (Take name tray) = codes "t" ++ spaced name ++ spaced tray
+call_spelling Exit = codes "x"
+
+-- a line, without its newline
+abbrev pub spelling_of : Line → List ℕ
+spelling_of line = decimal line.thread ++ codes " " ++ call_spelling line.call
+
+-- a trace: the header, and each line with its newline
+abbrev pub spelling : List Line → List ℕ
+spelling lines = codes "ptmtrace 1\n" ++ flat_map (λ line. spelling_of line ++ codes "\n") lines
+
+-- what a name may be
+abbrev pub IsName : ℕ → Type 0
+IsName name = (1 ≤ name) × (name ≤ 65535)
+
+-- a name that is made is one that the thread doesn't hold
+pub record Makes (before : List Line) (thread name : ℕ) : Type 0 where
+  pub named : IsName name
+  pub free : is_held thread name before ≡ false
+
+-- a name that is used is one that the thread holds
+pub record Uses (before : List Line) (thread name : ℕ) : Type 0 where
+  pub named : IsName name
+  pub held : is_held thread name before ≡ true
+
+-- what a thread may call behind these lines
+abbrev pub MayCall : List Line → ℕ → Call → Type 0
+MayCall before thread (Malloc name size) = Makes before thread name × (size < 2 ^ 64)
+MayCall before thread (Calloc name n size) = Makes before thread name × (n < 2 ^ 64) × (size < 2 ^ 64)
+MayCall before thread (Align name align size) = Makes before thread name × (align < 2 ^ 64) × (size < 2 ^ 64)
+MayCall before thread (Realloc name size) = Uses before thread name × (size < 2 ^ 64)
+MayCall before thread (Free name) = Uses before thread name
+MayCall before thread (Post name tray) = Uses before thread name × (tray ≤ 65535) × (was_posted tray before ≡ false)
+MayCall before thread (Take name tray) = Makes before thread name × (tray ≤ 65535) × (was_taken tray before ≡ false)
+MayCall before thread Exit = 0 < thread
+
+-- a line that may stand behind these lines: its number is its place, where the header is line 1
+pub record Fits (before : List Line) (line : Line) : Type 0 where
+  pub number : line.number ≡ length before + 2
+  pub thread : line.thread ≤ 63
+  pub goes_on : has_ended line.thread before ≡ false
+  pub call : MayCall before line.thread line.call
+
+-- each line fits the lines before it
+unfoldable pub AllFit : List Line → List Line → Type 0
+AllFit before [] = Unit {0}
+AllFit before (line ∷ lines) = Fits before line × AllFit (before ++ line ∷ []) lines
+
+-- the lines of a trace
+abbrev pub Allows : List Line → Type 0
+Allows lines = AllFit [] lines
