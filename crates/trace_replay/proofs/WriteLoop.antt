@@ -1,0 +1,49 @@
+-- Writing in pieces.
+use Rattle.std.proofs.Common.{◌≡◌, ℕ, ◌≤◌, List, [], ◌++◌, length, take, drop, Option, Some, refl, sym, ap, ◌∙◌, append_assoc, append-nil, arith}
+use Rattle.std.proofs.lemmas.List.{take-append-drop, nil_from_length}
+use Rattle.std.proofs.Math.Seq.{take-append_seam}
+use Rattle.trace_replay.specs.Streams.{Written, Adds, FailsAlone, IsFlushed}
+use Rattle.trace_replay.specs.Output.{IsWritten, IsCutShort}
+
+-- a front of the text stands behind what was written before, and the rest is to come
+pub record IsUnderWay {S : Type 0} (written : S → Option Written) (faults : S → ℕ) (first now : S) (text rest : List ℕ) : Type 0 where
+  pub later : faults first ≤ faults now
+  pub told : (w : Written) → written first ≡ Some w → (front : List ℕ) × (front ++ rest ≡ text) × (written now ≡ Some (record w { bytes = w.bytes ++ front }))
+
+pub nothing_yet : {S : Type 0} (written : S → Option Written) (faults : S → ℕ) (first : S) (text : List ℕ) → IsUnderWay written faults first first text text
+nothing_yet written faults first text = record {
+  later = omega arith;
+  told = λ w h. ([], refl, h ∙ ap (λ (bytes : List ℕ). Some (record w { bytes = bytes })) (sym (append-nil w.bytes)));
+}
+
+pub one_more : {S : Type 0} (written : S → Option Written) (faults : S → ℕ) (first now next : S) (text rest : List ℕ) (n : ℕ) → IsUnderWay written faults first now text rest → faults now ≤ faults next → Adds written now rest n next → IsUnderWay written faults first next text (drop n rest)
+one_more written faults first now next text rest n under_way later adds = record {
+  later = omega (arith, under_way.later);
+  told = λ w h.
+      let was = under_way.told w h in (
+        was.0 ++ take n rest,
+        append_assoc was.0 (take n rest) (drop n rest) ∙ ap (λ (more : List ℕ). was.0 ++ more) (take-append-drop n rest) ∙ was.1,
+        adds.told (record w { bytes = w.bytes ++ was.0 }) was.2 ∙ ap (λ (bytes : List ℕ). Some (record w { bytes = bytes })) (append_assoc w.bytes was.0 (take n rest)),
+      );
+}
+
+pub all_flushed : {S : Type 0} (written : S → Option Written) (faults : S → ℕ) (first now next : S) (text rest : List ℕ) → IsUnderWay written faults first now text rest → length rest ≡ 0 → IsFlushed written now next → IsWritten written first text next
+all_flushed written faults first now next text rest under_way empty flushed = record {
+  told = λ w h.
+      let was = under_way.told w h in
+      let whole : was.0 ≡ text = sym (append-nil was.0) ∙ ap (λ (more : List ℕ). was.0 ++ more) (sym (nil_from_length rest empty)) ∙ was.1 in
+      flushed.told (record w { bytes = w.bytes ++ was.0 }) was.2
+      ∙ ap (λ (front : List ℕ). Some (record { bytes = w.bytes ++ front; flushed = length (w.bytes ++ front) })) whole;
+}
+
+pub cut_short : {S : Type 0} (written : S → Option Written) (faults : S → ℕ) (first now next : S) (text rest : List ℕ) → IsUnderWay written faults first now text rest → FailsAlone written faults now next → IsCutShort written faults first text next
+cut_short written faults first now next text rest under_way fails = record {
+  rose = omega (arith, under_way.later, fails.rose);
+  told = λ w h.
+      let was = under_way.told w h in
+      let front : take (length was.0) text ≡ was.0 = ap (take (length was.0)) (sym was.1) ∙ take-append_seam was.0 rest in (
+        length was.0,
+        fails.told (record w { bytes = w.bytes ++ was.0 }) was.2
+            ∙ ap (λ (bytes : List ℕ). Some (record w { bytes = w.bytes ++ bytes })) (sym front),
+      );
+}

@@ -1,0 +1,15 @@
+pub use Rattle.address_space.specs.Ports
+pub mod Streams
+pub mod InMemory
+pub mod Status
+pub mod Input
+pub mod Output
+pub mod World
+pub mod Halts
+pub mod Processes
+pub mod SerialText
+pub mod Replays
+pub mod Headline
+pub mod Messages
+pub mod Places
+pub mod ByIndex

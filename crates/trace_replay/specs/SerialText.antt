@@ -1,0 +1,117 @@
+-- The text that a serial run writes for the words, the bytes read and the ports; or how it refuses them
+-- (this project's own).
+use Rattle.std.specs.Prelude.{ℕ, ◌==◌, Bool, false, not, nat_lt, List, [], ◌∷◌, ◌++◌, length, codes, slice_get, Option, Some, None, Result, Ok, Err, if◌then◌else◌}
+use Rattle.chunk_tags.specs.Tunables.{defaults_of}
+use Rattle.chunk_tags.specs.declared.tunables.Mode.TheVariants.{Serial}
+use Rattle.chunk_tags.specs.declared.tunables.Tunables.{Tunables}
+use Rattle.address_space.specs.declared.space.Windows.{Windows}
+use Rattle.address_space.specs.Ports.{Port}
+use Rattle.address_space.specs.Spaces.{new_space}
+use Rattle.stats_text.specs.declared.records.Outcome.{Outcome}
+use Rattle.stats_text.specs.Views.{Shown}
+use Rattle.stats_text.specs.Report.{places_of}
+use Rattle.stats_text.specs.Totals.{statistics_of}
+use Rattle.stats_text.specs.Records.{record_text}
+use Rattle.trace_text.specs.declared.fault.Fault.{Fault}
+use Rattle.trace_text.specs.declared.trace.Line.{Line}
+use Rattle.trace_text.specs.Grammar.{Reading, reading_of}
+use Rattle.trace_text.specs.Spelling.{spelling_of}
+use Rattle.trace_replay.specs.declared.exit.Exit.{Exit}
+use Rattle.trace_replay.specs.declared.exit.Exit.TheVariants.{BadTrace, TooLong, NotBuilt}
+use Rattle.trace_replay.specs.Places.{shown_of}
+use Rattle.trace_replay.specs.Input.{max_input}
+use Rattle.trace_replay.specs.World.{World, opening_world, step}
+
+-- ---- the run over the lines
+
+-- a text in front of what is written for the rest
+abbrev pub in_front : {K : Type 0} → List ℕ → Result (List ℕ × World K) Exit → Result (List ℕ × World K) Exit
+in_front text (Ok (more, w)) = Ok (text ++ more, w)
+in_front text (Err exit) = Err exit
+
+-- the answer of a line; a call that isn't built refuses the run
+abbrev pub answer_of : {K : Type 0} → Line → Option (Outcome × World K) → Result (Outcome × World K) Exit
+answer_of line (Some answer) = Ok answer
+answer_of line None = Err (NotBuilt line.number)
+
+-- the record of a line in front of the rest
+abbrev pub recorded : {K : Type 0} → Line → Result (Outcome × World K) Exit → (World K → Result (List ℕ × World K) Exit) → Result (List ℕ × World K) Exit
+recorded line (Ok (said, w)) rest = in_front (record_text (spelling_of line) said false) (rest w)
+recorded line (Err exit) rest = Err exit
+
+-- the record lines of a run from a world, in file order, and the world at its end
+unfoldable pub replayed : {K : Type 0} → Port K → Tunables → List Line → World K → Result (List ℕ × World K) Exit
+replayed port t [] w = Ok ([], w)
+replayed port t (line ∷ lines) w = recorded line (answer_of line (step port t line w)) (replayed port t lines)
+
+-- ---- the whole text
+
+-- the tunables of a serial run
+abbrev pub serial_tunables : Tunables
+serial_tunables = defaults_of Serial
+
+-- the windows that the tunables give
+abbrev pub windows_of : Tunables → Windows
+windows_of t = record { main_max = t.main_max; heap_max = t.heap_max; heaps = t.heaps }
+
+-- the world that a run begins with, over the port of thread 0
+abbrev pub started : {K : Type 0} → Tunables → K → World K
+started t kernel = opening_world (new_space kernel 0 (windows_of t))
+
+-- whether a trace has a line behind its header
+abbrev pub has_lines : List Line → Bool
+has_lines lines = not (length lines == 0)
+
+-- the sections behind the records: the places and the text of malloc_stats
+abbrev pub sections : Shown → List ℕ
+sections s = places_of s ++ statistics_of s
+
+-- the report: its first line, the record lines, and the sections on the world at the end
+abbrev pub reported : {K : Type 0} → Tunables → Bool → Result (List ℕ × World K) Exit → Result (List ℕ) Exit
+reported t lines (Ok (records, w)) = Ok (codes "ptmreport 1 serial\n" ++ records ++ sections (shown_of t lines w))
+reported t lines (Err exit) = Err exit
+
+-- the report on a run of lines, over the port of thread 0
+abbrev pub report_of : {K : Type 0} → Port K → Tunables → List Line → K → Result (List ℕ) Exit
+report_of port t lines kernel = reported t (has_lines lines) (replayed port t lines (started t kernel))
+
+-- the same, out of the ports of all threads; that there are 64 is a condition of the run
+abbrev pub over_first : {K : Type 0} → Port K → List Line → Option K → Result (List ℕ) Exit
+over_first port lines (Some kernel) = report_of port serial_tunables lines kernel
+over_first port lines None = Err (NotBuilt 0)
+
+abbrev pub serial_text : {K : Type 0} → Port K → List Line → List K → Result (List ℕ) Exit
+serial_text port lines kernels = over_first port lines (slice_get kernels 0)
+
+-- ---- what is refused before
+
+-- a word behind the program's name
+abbrev pub has_word : ℕ → Bool
+has_word words = nat_lt 1 words
+
+-- the lines of a text, or its first fault
+abbrev pub without_fault : List Line → Option Fault → Result (List Line) Exit
+without_fault lines None = Ok lines
+without_fault lines (Some fault) = Err (BadTrace fault.line fault.why)
+
+abbrev pub lines_of : Reading → Result (List Line) Exit
+lines_of r = without_fault r.lines r.fault
+
+abbrev pub text_of : {K : Type 0} → Port K → List K → Result (List Line) Exit → Result (List ℕ) Exit
+text_of port kernels (Ok lines) = serial_text port lines kernels
+text_of port kernels (Err exit) = Err exit
+
+-- the lines of a trace; where a word stands behind the program's name, what it asks for isn't built
+abbrev pub without_word : ℕ → Result (List Line) Exit → Result (List Line) Exit
+without_word words (Ok lines) = if has_word words then Err (NotBuilt 0) else Ok lines
+without_word words (Err exit) = Err exit
+
+-- the lines that a run is asked for by a number of words and the bytes, or how these refuse it: the first that applies
+abbrev pub asked_lines : ℕ → List ℕ → Result (List Line) Exit
+asked_lines words bytes =
+    if nat_lt max_input (length bytes) then Err TooLong
+    else without_word words (lines_of (reading_of bytes))
+
+-- what a run writes for these, over the ports, or how it refuses them
+unfoldable pub verdict : {K : Type 0} → Port K → List K → ℕ → List ℕ → Result (List ℕ) Exit
+verdict port kernels words bytes = text_of port kernels (asked_lines words bytes)
