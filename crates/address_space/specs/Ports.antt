@@ -5,9 +5,13 @@ use Rattle.address_space.specs.declared.asks.Back.{Back}
 use Rattle.address_space.specs.declared.asks.Answer.{Answer}
 use Rattle.address_space.specs.declared.asks.Answer.TheVariants.{Refused}
 
--- a count of 64 bits went up by one at least, or stands at its end
+-- a count of 64 bits that goes up by one, and stays at its end
+abbrev pub counted : ℕ → ℕ
+counted n = min (n + 1) (2 ^ 64 - 1)
+
+-- a count went up by one at least, or stands at its end
 abbrev pub Rose : ℕ → ℕ → Type 0
-Rose before now = min (before + 1) (2 ^ 64 - 1) ≤ now
+Rose before now = counted before ≤ now
 
 -- What a port is: its count of refusals, and where it tells, its answer to each ask and itself after each
 -- ask and each giving back.

@@ -5,8 +5,7 @@ use Rattle.address_space.specs.declared.asks.Answer.{Answer}
 use Rattle.address_space.specs.declared.asks.Answer.TheVariants.{Refused}
 use Rattle.address_space.specs.declared.space.Windows.{Windows}
 use Rattle.address_space.specs.declared.space.Space.{Space}
-use Rattle.address_space.specs.Ports.{Port, Rose, Asks}
-use Rattle.address_space.specs.Budgets.{counted}
+use Rattle.address_space.specs.Ports.{Port, counted, Rose, Asks}
 
 -- where main's break begins
 abbrev pub main_start : ℕ
@@ -37,7 +36,7 @@ space_asked port s passes ask =
     if passes then record s { passed = counted s.passed } else record s { kernel = port.asked s.kernel ask }
 
 -- one ask of a space
-pub record Puts {K : Type 0} (port : Port K) (before : Space K) (passes : Bool) (ask : Ask) (answer : Answer) (now : Space K) : Type 0 where
+pub record AsksWithin {K : Type 0} (port : Port K) (before : Space K) (passes : Bool) (ask : Ask) (answer : Answer) (now : Space K) : Type 0 where
   pub later : space_refusals port before ≤ space_refusals port now
   -- refused only where the count rose
   pub cause : answer ≡ Refused → Rose (space_refusals port before) (space_refusals port now)

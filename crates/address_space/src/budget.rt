@@ -3,7 +3,7 @@
 ghost use Rattle.std.specs.Prelude.{◌≡◌, ◌+◌, nat_lt};
 ghost use Rattle.address_space.specs.declared.asks.Ask.{Ask};
 ghost use Rattle.address_space.specs.declared.asks.Back.{Back};
-ghost use Rattle.address_space.specs.Budgets.{Purse, new_purse, purse_port, new_bytes, left_over, returned_bytes};
+ghost use Rattle.address_space.specs.Budgets.{BudgetState, new_budget, budget_port, new_bytes, shrunk_bytes, returned_bytes};
 
 use crate::asks::{Answer, Ask, Back};
 use crate::kernel::Kernel;
@@ -21,9 +21,9 @@ pub struct Budget {
 }
 
 impl Model for Budget {
-    ghost use Rattle.address_space.specs.Budgets.{Purse};
+    ghost use Rattle.address_space.specs.Budgets.{BudgetState};
 
-    ghost Value = { Purse };
+    ghost Value = { BudgetState };
 
     ghost view = { λ b. record {
       bytes = b.bytes;
@@ -37,7 +37,7 @@ impl Model for Budget {
 impl Budget {
     /// A port with a budget of `bytes`, which refuses the asks with these numbers.
     pub fn new(bytes: u64, refuse_at: Vec<u64>) -> Budget
-        ensures { result ≡ new_purse bytes refuse_at.items }
+        ensures { result ≡ new_budget bytes refuse_at.items }
     {
         Budget {
             bytes,
@@ -71,7 +71,7 @@ fn added_bytes(ask: Ask) -> u64
 
 /// The bytes that a granted ask gives back: a remap to a smaller length does.
 fn dropped_bytes(ask: Ask) -> u64
-    ensures { result ≡ left_over ask }
+    ensures { result ≡ shrunk_bytes ask }
 {
     match ask {
         Ask::Remap {
@@ -106,7 +106,7 @@ fn passes(held: u64, added: u64, bytes: u64) -> bool
 }
 
 impl Kernel for Budget {
-    ghost port = { purse_port };
+    ghost port = { budget_port };
 
     fn ask(&mut self, ask: Ask) -> Answer {
         let added = added_bytes(ask);

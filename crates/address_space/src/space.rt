@@ -33,7 +33,7 @@ pub struct Space<K: Kernel> {
 }
 
 impl<K: Kernel> Space<K> {
-    ghost use Rattle.address_space.specs.Spaces.{Puts, new_space, break_passes};
+    ghost use Rattle.address_space.specs.Spaces.{AsksWithin, new_space, break_passes};
 
     /// The space of a thread, over its kernel.
     pub fn new(kernel: K, thread: u8, windows: Windows) -> Space<K>
@@ -52,7 +52,7 @@ impl<K: Kernel> Space<K> {
     /// or the kernel refused, and then the count of refusals rose.
     pub fn brk(&mut self, old: u64, new: u64) -> Answer
         requires { old < new }
-        ensures { Puts K.port self.old (break_passes self.old.windows new) (Ask.Break old new) result self.new }
+        ensures { AsksWithin K.port self.old (break_passes self.old.windows new) (Ask.Break old new) result self.new }
     {
         let passes = new
             .checked_sub(MAIN_START)
@@ -61,7 +61,7 @@ impl<K: Kernel> Space<K> {
     }
 
     fn put(&mut self, passes: bool, ask: Ask) -> Answer
-        ensures { Puts K.port self.old passes ask result self.new }
+        ensures { AsksWithin K.port self.old passes ask result self.new }
     {
         if passes {
             self.passed = self.passed.saturating_add(1);

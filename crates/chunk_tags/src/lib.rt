@@ -3,12 +3,16 @@
 #![tactic(auto)]
 
 mod block;
+mod refusals;
 mod sizes;
 mod tunables;
 
-pub use block::{Block, NoMemory, Refused};
-pub use sizes::{Addr, MAX_REQUEST, Size, cache_index, request_size};
+pub use block::Block;
+pub use refusals::{NoMemory, Refused};
+pub use sizes::{Addr, MAX_CACHED, MAX_REQUEST, Size, cache_index, cached_size, request_size};
 pub use tunables::{Mode, Tunables};
 
+#[cfg(test)]
+mod examples;
 #[cfg(test)]
 mod tests;

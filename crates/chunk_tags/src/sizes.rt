@@ -1,7 +1,7 @@
 //! Addresses, sizes, and what follows from a size.
 
-ghost use Rattle.std.specs.Prelude.{◌≡◌, ◌+◌, ◌-◌, ◌/◌, ◌≤◌};
-ghost use Rattle.chunk_tags.specs.Sizes.{IsChunkSize, padded_request, cache_index_of};
+ghost use Rattle.std.specs.Prelude.{◌≡◌, ◌+◌, ◌-◌, ◌/◌, ◌<◌, ◌≤◌};
+ghost use Rattle.chunk_tags.specs.Sizes.{padded_request, max_cached, cache_index_of, cached_size_at};
 
 use std::marker::Model;
 
@@ -52,11 +52,21 @@ pub fn request_size(r: u64) -> Option<Size>
     }
 }
 
+/// The largest size of a cached chunk: that of a request of glibc's `MAX_TCACHE_SIZE`.
+pub const MAX_CACHED: Size = Size(1040);
+
 /// The index of the cache list for chunks of this size: glibc's `csize2tidx`.
 pub fn cache_index(s: Size) -> u8
-    requires chunk { IsChunkSize s }
-    requires cached { s ≤ 1040 }
+    requires { s ≤ max_cached }
     ensures { result ≡ cache_index_of s }
 {
-    ((s.0 - 32 + 15) >> 4) as u8
+    ((s.0.saturating_sub(32) + 15) >> 4) as u8
+}
+
+/// The size of the chunks in the cache list at this index: glibc's `tidx2usize`, with the size word.
+pub fn cached_size(index: u8) -> Size
+    requires { index < 64 }
+    ensures { result ≡ cached_size_at index }
+{
+    Size(32 + (u64::from(index) << 4))
 }

@@ -28,6 +28,7 @@ fn sizes_round_up_to_sixteen(rt: HostRuntime) {
 fn cache_lists_are_sixteen_bytes_apart(rt: HostRuntime) {
     for (size, index) in [(32, 0), (48, 1), (656, 39), (1024, 62), (1040, 63)] {
         assert_eq!(rt; cache_index(Size(size)), index, "{size}");
+        assert_eq!(rt; cached_size(index), Size(size), "{index}");
     }
 }
 

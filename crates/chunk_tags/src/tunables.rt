@@ -1,7 +1,7 @@
 //! The numbers that tune the allocator.
 
 ghost use Rattle.std.specs.Prelude.{◌≡◌};
-ghost use Rattle.chunk_tags.specs.Tunables.{defaults_of};
+ghost use Rattle.chunk_tags.specs.Tunables.{serial_values, defaults_of};
 
 /// Whether the lines of a trace run in one order or each thread's in a worker of its own (this project's own).
 #[derive(Clone, Copy, Debug, PartialEq, Eq)]
@@ -52,24 +52,40 @@ impl Tunables {
     pub fn defaults(mode: Mode) -> Tunables
         ensures { result ≡ defaults_of mode }
     {
-        let serial = mode == Mode::Serial;
-        Tunables {
-            mmap_threshold: 131_072,
-            trim_threshold: 131_072,
-            top_pad: 131_072,
-            mmaps_max: 65_536,
-            max_fast: 128,
-            dynamic: true,
-            tcache_count: 7,
-            tcache_bins: 64,
-            arena_test: 8,
-            arena_max: 0,
-            cores: 4,
-            records: if serial { 64 } else { 16 },
-            heap_max: if serial { 67_108_864 } else { 1_048_576 },
-            heaps: if serial { 64 } else { 4 },
-            main_max: if serial { 67_108_864 } else { 16_777_216 },
-            polls: if serial { 1 } else { 1_000_000 },
+        match mode {
+            Mode::Serial => serial_defaults(),
+            Mode::Threads => Tunables {
+                records: 16,
+                heap_max: 1_048_576,
+                heaps: 4,
+                main_max: 16_777_216,
+                polls: 1_000_000,
+                ..serial_defaults()
+            },
         }
+    }
+}
+
+/// The starting values of a serial run.
+fn serial_defaults() -> Tunables
+    ensures { result ≡ serial_values }
+{
+    Tunables {
+        mmap_threshold: 131_072,
+        trim_threshold: 131_072,
+        top_pad: 131_072,
+        mmaps_max: 65_536,
+        max_fast: 128,
+        dynamic: true,
+        tcache_count: 7,
+        tcache_bins: 64,
+        arena_test: 8,
+        arena_max: 0,
+        cores: 4,
+        records: 64,
+        heap_max: 67_108_864,
+        heaps: 64,
+        main_max: 67_108_864,
+        polls: 1,
     }
 }

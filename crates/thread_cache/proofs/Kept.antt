@@ -13,7 +13,7 @@ use Rattle.thread_cache.specs.Held.{IsCachedAt, IsListAt}
 use Rattle.thread_cache.specs.Stacks.{Stacked, seen, IsKept}
 
 -- what holds at each index still does where the new element meets it
-at_each-set : {X : Type 0} (P : ℕ → X → Type 0) (xs : List X) (i : ℕ) (y d : X) → i < length xs → P i y → ((k : ℕ) → P k (get_or xs k d)) → (k : ℕ) → P k (get_or (set xs i y) k d)
+pub at_each-set : {X : Type 0} (P : ℕ → X → Type 0) (xs : List X) (i : ℕ) (y d : X) → i < length xs → P i y → ((k : ℕ) → P k (get_or xs k d)) → (k : ℕ) → P k (get_or (set xs i y) k d)
 at_each-set P xs i y d h p all k =
     elim (cases_eq k i) [
       | inl e ↦ subst (λ n. P n (get_or (set xs i y) n d)) (sym e) (subst (P i) (sym (get_or-set_same xs i y d h)) p)
@@ -43,8 +43,8 @@ seen_with structure count bins ss i s t r f e =
     map-set (λ x. x.blocks) ss i t ∙ ap (set (map (λ x. x.blocks) ss) i) (e ∙ ap f (sym (list_seen structure count bins ss i s r)))
 
 -- a list with room is put in the place of another
-pub kept_with : (structure : Block) (count bins : ℕ) (ss : List Stacked) (i : ℕ) (s t : Stacked) → Reads structure count bins ss i s → IsListAt count i t.blocks → s.room ≤ t.room → IsKept structure count bins (set ss i t)
-kept_with structure count bins ss i s t r at room =
+pub kept_with : (structure : Block) (count bins : ℕ) (ss : List Stacked) (i : ℕ) (s t : Stacked) → Reads structure count bins ss i s → IsListAt count i t.blocks → (bins ≤ i → t.blocks ≡ []) → s.room ≤ t.room → IsKept structure count bins (set ss i t)
+kept_with structure count bins ss i s t r at unused room =
     let e : map (λ x. x.blocks) (set ss i t) ≡ set (map (λ x. x.blocks) ss) i t.blocks = map-set (λ x. x.blocks) ss i t in
     record {
       sound = record {
@@ -53,6 +53,8 @@ kept_with structure count bins ss i s t r at room =
         width = ap length e ∙ (length-set (map (λ x. x.blocks) ss) i t.blocks ∙ r.kept.sound.width);
         lists = λ n. subst (λ ls. IsListAt count n (get_or ls n [])) (sym e)
             (at_each-set (IsListAt count) (map (λ x. x.blocks) ss) i t.blocks [] (omega (arith, r.below, r.kept.sound.width)) at r.kept.sound.lists n);
+        unused = λ n. subst (λ (ls : List (List Block)). bins ≤ n → get_or ls n [] ≡ []) (sym e)
+            (at_each-set (λ k ls. bins ≤ k → ls ≡ []) (map (λ x. x.blocks) ss) i t.blocks [] (omega (arith, r.below, r.kept.sound.width)) unused r.kept.sound.unused n);
       };
       room = All-set (λ x. count ≤ x.room) ss i t (omega (arith, room, room_of structure count bins ss i s r)) r.kept.room;
     }
@@ -64,7 +66,8 @@ list_at-rest count i (b ∷ blocks) at = record { short = omega (arith, at.short
 
 pub kept_without : (structure : Block) (count bins : ℕ) (ss : List Stacked) (i : ℕ) (s t : Stacked) → Reads structure count bins ss i s → t.blocks ≡ drop 1 s.blocks → t.room ≡ s.room → IsKept structure count bins (set ss i t)
 kept_without structure count bins ss i s t r e room =
-    kept_with structure count bins ss i s t r (subst (IsListAt count i) (sym e) (list_at-rest count i s.blocks (list_at structure count bins ss i s r))) (omega (arith, room))
+    kept_with structure count bins ss i s t r (subst (IsListAt count i) (sym e) (list_at-rest count i s.blocks (list_at structure count bins ss i s r)))
+    (λ past. e ∙ ap (λ (blocks : List Block). drop 1 blocks) (sym (list_seen structure count bins ss i s r) ∙ r.kept.sound.unused i past)) (omega (arith, room))
 
 -- the newest block of a list is one of it
 pub list_at-newest : (count i : ℕ) (blocks : List Block) → IsListAt count i blocks → IfSome (slice_get blocks 0) (IsCachedAt i)
@@ -85,10 +88,11 @@ kept_more structure count bins ss b s t r room chunk arena e more =
     let at = list_at structure count bins ss i s r in
     let short : length s.blocks < count = subst (λ (l : List Block). length l < count) (list_seen structure count bins ss i s r) (room_at (seen structure count bins ss) b.size room).short in
     let now : IsListAt count i (b ∷ s.blocks) = record { short = omega (arith, short); cached = (record { chunk = chunk; index = refl; arena = arena }, at.cached) } in
-    kept_with structure count bins ss i s t r (subst (IsListAt count i) (sym e) now) more
+    kept_with structure count bins ss i s t r (subst (IsListAt count i) (sym e) now)
+    (λ past. let no : ⊥ = omega (arith, past, (room_at (seen structure count bins ss) b.size room).used) in absurd no) more
 
 -- a cache as it is opened
-get_or-empty : {X : Type 0} → (n k : ℕ) → let none : List X = [] in get_or (replicate n none) k none ≡ none
+pub get_or-empty : {X : Type 0} → (n k : ℕ) → let none : List X = [] in get_or (replicate n none) k none ≡ none
 get_or-empty zero k = refl
 get_or-empty (suc n) zero = refl
 get_or-empty (suc n) (suc k) = get_or-empty n k
@@ -102,6 +106,7 @@ kept_empty structure count bins ss c b e room =
         bins = b;
         width = ap length e ∙ length-replicate {A = List Block} 64 [];
         lists = λ i. subst (IsListAt count i) (sym (ap (λ ls. get_or ls i []) e ∙ get_or-empty 64 i)) (record { short = omega arith; cached = tt });
+        unused = λ i past. ap (λ (ls : List (List Block)). get_or ls i []) e ∙ get_or-empty 64 i;
       };
       room = room;
     }

@@ -1,7 +1,7 @@
 -- A thread's cache: tcache_put, tcache_get, tcache_init and tcache_thread_shutdown of glibc 2.31 malloc/malloc.c.
-use Rattle.std.specs.Prelude.{ℕ, Bool, false, true, ◌&&◌, nat_lt, nat_le, List, [], ◌∷◌, drop, length, map, replicate, Option, Some, None, slice_get, slice_index_or, slice_set}
+use Rattle.std.specs.Prelude.{ℕ, Bool, false, true, ◌&&◌, nat_lt, nat_le, List, [], ◌∷◌, drop, length, map, replicate, Option, Some, None, is_some, slice_get, slice_index_or, slice_set}
 use Rattle.std.specs.List.{flat_map}
-use Rattle.chunk_tags.specs.Sizes.{cache_index_of}
+use Rattle.chunk_tags.specs.Sizes.{max_cached, cache_index_of}
 use Rattle.chunk_tags.specs.declared.block.Block.{Block}
 
 -- An open cache: the chunk of its structure, how many blocks a list takes, how many lists are used, and the
@@ -42,7 +42,11 @@ with_list (Some c) i blocks = Some (record c { lists = slice_set c.lists i block
 abbrev pub has_room : CacheValue → ℕ → Bool
 has_room None s = false
 has_room (Some c) s =
-    nat_le s 1040 && nat_lt (cache_index_of s) c.bins && nat_lt (length (list_of (Some c) (cache_index_of s))) c.count
+    nat_le s max_cached && nat_lt (cache_index_of s) c.bins && nat_lt (length (list_of (Some c) (cache_index_of s))) c.count
+
+-- whether a block is taken: there is room for its size, and it isn't mapped
+abbrev pub takes : CacheValue → Block → Bool
+takes c b = has_room c b.size && is_some b.arena
 
 -- the newest block of a list, and the cache without it
 abbrev pub newest : CacheValue → ℕ → Option Block

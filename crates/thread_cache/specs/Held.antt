@@ -17,9 +17,10 @@ pub record IsListAt (count i : ℕ) (blocks : List Block) : Type 0 where
   pub short : length blocks ≤ count
   pub cached : AllByRecursion (IsCachedAt i) blocks
 
--- 64 lists, each at its index
+-- 64 lists, each at its index; those that aren't used are empty
 pub record IsSound (c : Opened) : Type 0 where
   pub count : c.count ≤ 127
   pub bins : c.bins ≤ 64
   pub width : length c.lists ≡ 64
   pub lists : (i : ℕ) → IsListAt c.count i (slice_index_or c.lists i [])
+  pub unused : (i : ℕ) → c.bins ≤ i → slice_index_or c.lists i [] ≡ []

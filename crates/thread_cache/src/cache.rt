@@ -2,7 +2,7 @@
 
 ghost use Rattle.std.specs.Prelude.{◌≡◌, ◌<◌, ◌≤◌, ◌&&◌, false, [], ◌++◌, map, None, is_some, is_ok, option_to_list, option_copied, OnOk, OnErr, IfOk, IfErr, IfSome, IfNone};
 ghost use Rattle.chunk_tags.specs.Sizes.{IsChunkSize, cache_index_of};
-ghost use Rattle.thread_cache.specs.Caches.{opened, is_open, has_room, newest, without_newest, with_newest, blocks_of, next_drained, without_next, structure_of, addresses_of};
+ghost use Rattle.thread_cache.specs.Caches.{opened, is_open, has_room, takes, newest, without_newest, with_newest, blocks_of, next_drained, without_next, structure_of, addresses_of};
 ghost use Rattle.thread_cache.specs.Held.{IsCachedAt, IsSound};
 
 use crate::open::OpenCache;
@@ -76,7 +76,6 @@ impl Cache {
     /// Whether one more chunk of this size is taken: the cache is open, the size has a list that is used, and that
     /// list is shorter than the count.
     pub fn has_room(&self, s: Size) -> bool
-        requires { IsChunkSize s }
         ensures { result ≡ has_room self.now s }
     {
         match &self.open {
@@ -105,7 +104,7 @@ impl Cache {
     /// cache has no room for its size or the block is mapped.
     pub fn put(&mut self, b: Block) -> Result<(), Block>
         requires { IsChunkSize b.size }
-        ensures taken { is_ok result ≡ (has_room self.old b.size && is_some b.arena) }
+        ensures taken { is_ok result ≡ takes self.old b }
         ensures ok { OnOk result (self.new ≡ with_newest self.old b) }
         ensures err { IfErr result (λ back. back ≡ b) }
         ensures unchanged { OnErr result (self.new ≡ self.old) }

@@ -8,15 +8,12 @@ ghost use Rattle.thread_cache.specs.Held.{IsCachedAt, IsSound};
 ghost use Rattle.thread_cache.specs.Stacks.{Stacked};
 
 use crate::stack::Stack;
-use chunk_tags::{Addr, Block, NoMemory, Size, cache_index};
+use chunk_tags::{Addr, Block, MAX_CACHED, NoMemory, Size, cache_index};
 use std::alloc::{AllocError, Global};
 use std::marker::Model;
 
 /// How many lists a cache has: glibc's `TCACHE_MAX_BINS`.
 const LISTS: usize = 64;
-
-/// The largest size that has a list.
-const LARGEST: Size = Size(1040);
 
 /// An open cache: the chunk of its structure, and its lists (glibc's `tcache_perthread_struct`).
 #[derive(Debug, Drop)]
@@ -80,10 +77,9 @@ impl OpenCache {
 
     /// Whether one more chunk of this size is taken.
     pub fn has_room(&self, s: Size) -> bool
-        requires { IsChunkSize s }
         ensures { result ≡ has_room (Some self.now) s }
     {
-        if s > LARGEST {
+        if s > MAX_CACHED {
             return false;
         }
         let bin = cache_index(s);
