@@ -1,10 +1,9 @@
 pub mod Digits
 pub mod Cuts
-pub mod Counts
 pub mod Before
 pub mod Loop
 pub mod Numerals
 pub mod Steps
 pub mod Calls
 pub mod Spelled
-pub mod Law
+pub mod RoundTrip

@@ -1,12 +1,12 @@
 -- Steps that did not fail.
-use Rattle.std.proofs.Common.{◌≡◌, ℕ, ◌^◌, ◌<◌, ◌≤◌, Bool, true, false, cond, leb, ◌&&◌, List, [], ◌∷◌, Option, Some, None, Result, Ok, Err, refl, ap, subst, ◌∙◌, arith}
+use Rattle.std.proofs.Common.{◌≡◌, ℕ, ◌^◌, ◌<◌, ◌≤◌, Bool, true, false, cond, leb, eqb, ◌&&◌, List, [], ◌∷◌, Option, Some, None, Result, Ok, Err, refl, ap, subst, ◌∙◌, arith}
 use Rattle.std.specs.Option.{ok_or}
 use Rattle.std.specs.Fmt.{decimal}
-use Rattle.std.proofs.lemmas.Bool.{and_parts, leb-true, le-leb}
+use Rattle.std.proofs.lemmas.Bool.{and_parts, leb-true, le-leb, eqb-false}
 use Rattle.trace_text.specs.declared.fault.BadWhy.{BadWhy}
 use Rattle.trace_text.specs.declared.fault.BadWhy.TheVariants as bad
 use Rattle.trace_text.specs.Numbers.{number_of}
-use Rattle.trace_text.specs.Grammar.{◌>>=◌, thread_of, number_at, name_at, tray_at, one_number, two_numbers, three_numbers}
+use Rattle.trace_text.specs.Grammar.{◌>>=◌, thread_of, number_at, name_at, tray_at, one_number, two_numbers, three_numbers, fault_if, name_alone, name_and_size, name_and_tray, name_and_sizes, end_of}
 use Rattle.trace_text.specs.Spelling.{IsName}
 use Rattle.trace_text.proofs.Numerals.{number_again, number_is}
 
@@ -16,13 +16,13 @@ bind_ok (Ok x) f y e = (x, refl, e)
 bind_ok (Err why) f y e = absurd cc
 
 -- a test that was to hold, and one that was not to
-pub guard_ok : {A : Type 0} (b : Bool) (why : BadWhy) (x y : A) → cond b (Ok x) (Err why) ≡ Ok y → (b ≡ true) × (x ≡ y)
-guard_ok true why x y e = (refl, cc)
-guard_ok false why x y e = absurd cc
+pub guard_ok : {A : Type 0} (b : Bool) (why : BadWhy) (r : Result A BadWhy) (y : A) → cond b r (Err why) ≡ Ok y → (b ≡ true) × (r ≡ Ok y)
+guard_ok true why r y e = (refl, e)
+guard_ok false why r y e = absurd cc
 
-pub bar_ok : {A : Type 0} (b : Bool) (why : BadWhy) (x y : A) → cond b (Err why) (Ok x) ≡ Ok y → (b ≡ false) × (x ≡ y)
-bar_ok true why x y e = absurd cc
-bar_ok false why x y e = (refl, cc)
+pub no_fault : (faulty : Bool) (why : BadWhy) (y : Unit {0}) → fault_if faulty why ≡ Ok y → faulty ≡ false
+no_fault true why y e = absurd cc
+no_fault false why y e = refl
 
 abbrev pub done : {A : Type 0} → A → Result A BadWhy
 done x = Ok x
@@ -39,10 +39,11 @@ some_from_ok (Some m) why n e = cc
 pub thread_is : (field : List ℕ) (n : ℕ) → thread_of field ≡ Ok n → (field ≡ decimal n) × (n ≤ 63)
 unfolding thread_of
 thread_is field n e =
-    let read = bind_ok (ok_or (number_of field) bad.Thread) (λ thread. cond (leb thread 63) (Ok thread) (Err bad.Thread)) n e in
-    let small = guard_ok (leb read.0 63) bad.Thread read.0 n read.2 in
+    let read = bind_ok (ok_or (number_of field) bad.Thread) _ n e in
+    let small = guard_ok (leb read.0 63) bad.Thread (Ok read.0) n read.2 in
+    let same = ok_is read.0 n small.1 in
     let found = number_is field read.0 (some_from_ok (number_of field) bad.Thread read.0 read.1) in
-    (found.0 ∙ ap decimal small.1, omega (arith, leb-true read.0 63 small.0, small.1))
+    (found.0 ∙ ap decimal same, omega (arith, leb-true read.0 63 small.0, same))
 
 pub thread_again : (n : ℕ) → n ≤ 63 → thread_of (decimal n) ≡ Ok n
 unfolding thread_of
@@ -59,9 +60,10 @@ number_at_again n h = rw (number_again n h) refl
 pub name_is : (number name : ℕ) → name_at number ≡ Ok name → (number ≡ name) × IsName name
 unfolding name_at
 name_is number name e =
-    let found = guard_ok (leb 1 number && leb number 65535) bad.Name number name e in
+    let found = guard_ok (leb 1 number && leb number 65535) bad.Name (Ok number) name e in
+    let same = ok_is number name found.1 in
     let tests = and_parts (leb 1 number) (leb number 65535) found.0 in
-    (found.1, (omega (arith, leb-true 1 number tests.0, found.1), omega (arith, leb-true number 65535 tests.1, found.1)))
+    (same, (omega (arith, leb-true 1 number tests.0, same), omega (arith, leb-true number 65535 tests.1, same)))
 
 pub name_again : (name : ℕ) → IsName name → name_at name ≡ Ok name
 unfolding name_at
@@ -70,8 +72,9 @@ name_again name h = rw (le-leb 1 name h.0, le-leb name 65535 h.1) refl
 pub tray_is : (number tray : ℕ) → tray_at number ≡ Ok tray → (number ≡ tray) × (tray ≤ 65535)
 unfolding tray_at
 tray_is number tray e =
-    let found = guard_ok (leb number 65535) bad.Tray number tray e in
-    (found.1, omega (arith, leb-true number 65535 found.0, found.1))
+    let found = guard_ok (leb number 65535) bad.Tray (Ok number) tray e in
+    let same = ok_is number tray found.1 in
+    (same, omega (arith, leb-true number 65535 found.0, same))
 
 pub tray_again : (tray : ℕ) → tray ≤ 65535 → tray_at tray ≡ Ok tray
 unfolding tray_at
@@ -100,8 +103,8 @@ unfolding two_numbers
 two_is [] p e = absurd cc
 two_is (a ∷ []) p e = absurd cc
 two_is (a ∷ b ∷ []) p e =
-    let x = bind_ok (number_at a) (λ first. number_at b >>= λ second. Ok (first, second)) p e in
-    let y = bind_ok (number_at b) (λ second. Ok (x.0, second)) p x.2 in
+    let x = bind_ok (number_at a) _ p e in
+    let y = bind_ok (number_at b) _ p x.2 in
     let first = number_at_is a x.0 x.1 in
     let second = number_at_is b y.0 y.1 in
     let made : ℕ × ℕ = (x.0, y.0) in
@@ -118,9 +121,9 @@ three_is [] p e = absurd cc
 three_is (a ∷ []) p e = absurd cc
 three_is (a ∷ b ∷ []) p e = absurd cc
 three_is (a ∷ b ∷ c ∷ []) p e =
-    let x = bind_ok (number_at a) (λ first. number_at b >>= λ second. number_at c >>= λ third. Ok (first, second, third)) p e in
-    let y = bind_ok (number_at b) (λ second. number_at c >>= λ third. Ok (x.0, second, third)) p x.2 in
-    let z = bind_ok (number_at c) (λ third. Ok (x.0, y.0, third)) p y.2 in
+    let x = bind_ok (number_at a) _ p e in
+    let y = bind_ok (number_at b) _ p x.2 in
+    let z = bind_ok (number_at c) _ p y.2 in
     let first = number_at_is a x.0 x.1 in
     let second = number_at_is b y.0 y.1 in
     let third = number_at_is c z.0 z.1 in
@@ -131,3 +134,47 @@ three_is (a ∷ b ∷ c ∷ d ∷ more) p e = absurd cc
 pub three_again : (m n o : ℕ) → m < 2 ^ 64 → n < 2 ^ 64 → o < 2 ^ 64 → three_numbers (decimal m ∷ decimal n ∷ decimal o ∷ []) ≡ Ok (m, n, o)
 unfolding three_numbers
 three_again m n o h k l = rw (number_at_again m h, number_at_again n k, number_at_again o l) refl
+
+-- ---- the fields behind a command
+
+pub alone_is : (fields : List (List ℕ)) (name : ℕ) → name_alone fields ≡ Ok name → (fields ≡ decimal name ∷ []) × IsName name
+alone_is fields name e =
+    let n = bind_ok (one_number fields) name_at name e in
+    let found = one_is fields n.0 n.1 in
+    let named = name_is n.0 name n.2 in
+    (rw named.0 at found.0, named.1)
+
+pub size_is : (fields : List (List ℕ)) (p : ℕ × ℕ) → name_and_size fields ≡ Ok p → (fields ≡ decimal p.0 ∷ decimal p.1 ∷ []) × IsName p.0 × (p.1 < 2 ^ 64)
+size_is fields p e =
+    let n = bind_ok (two_numbers fields) _ p e in
+    let x = bind_ok (name_at n.0.0) _ p n.2 in
+    let found = two_is fields n.0 n.1 in
+    let named = name_is n.0.0 x.0 x.1 in
+    let read : ℕ × ℕ = (x.0, n.0.1) in
+    subst (λ (q : ℕ × ℕ). (fields ≡ decimal q.0 ∷ decimal q.1 ∷ []) × IsName q.0 × (q.1 < 2 ^ 64)) {x = read} (ok_is read p x.2) (rw named.0 at found.0, named.1, found.2)
+
+pub tray_pair_is : (fields : List (List ℕ)) (p : ℕ × ℕ) → name_and_tray fields ≡ Ok p → (fields ≡ decimal p.0 ∷ decimal p.1 ∷ []) × IsName p.0 × (p.1 ≤ 65535)
+tray_pair_is fields p e =
+    let n = bind_ok (two_numbers fields) _ p e in
+    let x = bind_ok (name_at n.0.0) _ p n.2 in
+    let y = bind_ok (tray_at n.0.1) _ p x.2 in
+    let found = two_is fields n.0 n.1 in
+    let named = name_is n.0.0 x.0 x.1 in
+    let trayed = tray_is n.0.1 y.0 y.1 in
+    let read : ℕ × ℕ = (x.0, y.0) in
+    subst (λ (q : ℕ × ℕ). (fields ≡ decimal q.0 ∷ decimal q.1 ∷ []) × IsName q.0 × (q.1 ≤ 65535)) {x = read} (ok_is read p y.2) (found.0 ∙ same_two (decimal n.0.0) (decimal n.0.1) (decimal x.0) (decimal y.0) (ap decimal named.0) (ap decimal trayed.0), named.1, trayed.1)
+
+pub sizes_is : (fields : List (List ℕ)) (p : ℕ × ℕ × ℕ) → name_and_sizes fields ≡ Ok p → (fields ≡ decimal p.0 ∷ decimal p.1 ∷ decimal p.2 ∷ []) × IsName p.0 × (p.1 < 2 ^ 64) × (p.2 < 2 ^ 64)
+sizes_is fields p e =
+    let n = bind_ok (three_numbers fields) _ p e in
+    let x = bind_ok (name_at n.0.0) _ p n.2 in
+    let found = three_is fields n.0 n.1 in
+    let named = name_is n.0.0 x.0 x.1 in
+    let read : ℕ × ℕ × ℕ = (x.0, n.0.1, n.0.2) in
+    subst (λ (q : ℕ × ℕ × ℕ). (fields ≡ decimal q.0 ∷ decimal q.1 ∷ decimal q.2 ∷ []) × IsName q.0 × (q.1 < 2 ^ 64) × (q.2 < 2 ^ 64)) {x = read} (ok_is read p x.2) (rw named.0 at found.0, named.1, found.2, found.3)
+
+pub end_is : (thread : ℕ) (fields : List (List ℕ)) (y : Unit {0}) → end_of thread fields ≡ Ok y → (fields ≡ []) × (0 < thread)
+end_is thread [] y e =
+    let ne : thread ≡ 0 → ⊥ = eqb-false thread 0 (no_fault (eqb thread 0) bad.MainExit y e) in
+    (refl, omega (arith, ne))
+end_is thread (a ∷ more) y e = absurd cc

@@ -1,7 +1,7 @@
-pub mod Names
+pub mod FaultWords
 pub mod Numbers
 pub mod Before
 pub mod Grammar
 pub mod Spelling
-pub mod Answers
+pub mod ReadsAs
 pub mod Seen

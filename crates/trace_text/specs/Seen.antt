@@ -7,11 +7,11 @@ use Rattle.trace_text.specs.declared.seen.Seen.{Seen}
 use Rattle.trace_text.specs.declared.trace.Line.{Line}
 use Rattle.trace_text.specs.Before.{held_after, is_held, is_exit, has_ended, is_post, was_posted, is_take, was_taken}
 
-abbrev pub Numbers : Type 0
-Numbers = HashSet ℕ (BuildHasherDefault FoldHasher)
+abbrev pub NumberSet : Type 0
+NumberSet = HashSet ℕ (BuildHasherDefault FoldHasher)
 
 -- whether the set has the number
-abbrev pub has : Numbers → ℕ → Bool
+abbrev pub has : NumberSet → ℕ → Bool
 has set n = contains nat_eq set n
 
 -- the number of a thread's name
@@ -25,8 +25,8 @@ pub record Knows (seen : Seen) (before : List Line) : Type 0 where
   pub posted : (tray : ℕ) → has seen.posted tray ≡ was_posted tray before
   pub taken : (tray : ℕ) → has seen.taken tray ≡ was_taken tray before
 
--- the sets follow a line
-pub record Follows (old new : Seen) (line : Line) : Type 0 where
+-- the sets take a line in
+pub record Adds (old new : Seen) (line : Line) : Type 0 where
   pub held : (thread name : ℕ) → name < 2 ^ 32 → has new.held (key_of thread name)
       ≡ (if line.thread == thread then held_after name (has old.held (key_of thread name)) line.call else has old.held (key_of thread name))
   pub ended : (thread : ℕ) → has new.ended thread ≡ (is_exit line.call && line.thread == thread || has old.ended thread)

@@ -1,11 +1,12 @@
 -- The one spelling of a trace, and which traces there are (this project's own).
-use Rattle.std.specs.Prelude.{◌≡◌, ℕ, ◌+◌, ◌^◌, ◌<◌, ◌≤◌, true, false, List, [], ◌∷◌, ◌++◌, length, codes}
+use Rattle.std.specs.Prelude.{◌≡◌, ℕ, ◌+◌, ◌^◌, ◌<◌, ◌≤◌, false, List, [], ◌∷◌, ◌++◌, length, codes, Ok}
 use Rattle.std.specs.Fmt.{decimal}
 use Rattle.std.specs.List.{flat_map}
 use Rattle.trace_text.specs.declared.trace.Call.{Call}
 use Rattle.trace_text.specs.declared.trace.Call.TheVariants.{Malloc, Calloc, Realloc, Align, Free, Post, Take, Exit}
 use Rattle.trace_text.specs.declared.trace.Line.{Line}
-use Rattle.trace_text.specs.Before.{is_held, has_ended, was_posted, was_taken}
+use Rattle.trace_text.specs.Before.{has_ended}
+use Rattle.trace_text.specs.Grammar.{header, fitting}
 
 -- a number behind a space
 abbrev pub spaced : ℕ → List ℕ
@@ -28,39 +29,30 @@ spelling_of line = decimal line.thread ++ codes " " ++ call_spelling line.call
 
 -- a trace: the header, and each line with its newline
 abbrev pub spelling : List Line → List ℕ
-spelling lines = codes "ptmtrace 1\n" ++ flat_map (λ line. spelling_of line ++ codes "\n") lines
+spelling lines = header ++ codes "\n" ++ flat_map (λ line. spelling_of line ++ codes "\n") lines
 
 -- what a name may be
 abbrev pub IsName : ℕ → Type 0
 IsName name = (1 ≤ name) × (name ≤ 65535)
 
--- a name that is made is one that the thread doesn't hold
-pub record Makes (before : List Line) (thread name : ℕ) : Type 0 where
-  pub named : IsName name
-  pub free : is_held thread name before ≡ false
+-- what a thread may call, whatever stands before: the numbers are in their ranges, and thread 0 doesn't end
+abbrev pub IsCall : ℕ → Call → Type 0
+IsCall thread (Malloc name size) = IsName name × (size < 2 ^ 64)
+IsCall thread (Calloc name n size) = IsName name × (n < 2 ^ 64) × (size < 2 ^ 64)
+IsCall thread (Realloc name size) = IsName name × (size < 2 ^ 64)
+IsCall thread (Align name align size) = IsName name × (align < 2 ^ 64) × (size < 2 ^ 64)
+IsCall thread (Free name) = IsName name
+IsCall thread (Post name tray) = IsName name × (tray ≤ 65535)
+IsCall thread (Take name tray) = IsName name × (tray ≤ 65535)
+IsCall thread Exit = 0 < thread
 
--- a name that is used is one that the thread holds
-pub record Uses (before : List Line) (thread name : ℕ) : Type 0 where
-  pub named : IsName name
-  pub held : is_held thread name before ≡ true
-
--- what a thread may call behind these lines
-abbrev pub MayCall : List Line → ℕ → Call → Type 0
-MayCall before thread (Malloc name size) = Makes before thread name × (size < 2 ^ 64)
-MayCall before thread (Calloc name n size) = Makes before thread name × (n < 2 ^ 64) × (size < 2 ^ 64)
-MayCall before thread (Align name align size) = Makes before thread name × (align < 2 ^ 64) × (size < 2 ^ 64)
-MayCall before thread (Realloc name size) = Uses before thread name × (size < 2 ^ 64)
-MayCall before thread (Free name) = Uses before thread name
-MayCall before thread (Post name tray) = Uses before thread name × (tray ≤ 65535) × (was_posted tray before ≡ false)
-MayCall before thread (Take name tray) = Makes before thread name × (tray ≤ 65535) × (was_taken tray before ≡ false)
-MayCall before thread Exit = 0 < thread
-
--- a line that may stand behind these lines: its number is its place, where the header is line 1
+-- a line that may stand behind these lines; its number is its place, where the header is line 1
 pub record Fits (before : List Line) (line : Line) : Type 0 where
   pub number : line.number ≡ length before + 2
   pub thread : line.thread ≤ 63
   pub goes_on : has_ended line.thread before ≡ false
-  pub call : MayCall before line.thread line.call
+  pub call : IsCall line.thread line.call
+  pub suits : fitting before line.thread line.call ≡ Ok tt
 
 -- each line fits the lines before it
 unfoldable pub AllFit : List Line → List Line → Type 0

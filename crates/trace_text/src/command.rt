@@ -1,10 +1,10 @@
 //! The commands of a trace, and the calls that they ask for.
 
-ghost use Rattle.std.specs.Prelude.{◌≡◌, ◌≢◌, true, [], MatchResult};
-ghost use Rattle.trace_text.specs.Grammar.{fields_of, all_filled, thread_of, command_of, number_at, name_at, tray_at, one_number, two_numbers, three_numbers, exit_of, call_of};
+ghost use Rattle.std.specs.Prelude.{◌≡◌};
+ghost use Rattle.trace_text.specs.Grammar.{thread_of, command_of, number_at, name_at, tray_at, one_number, two_numbers, three_numbers, name_alone, name_and_size, name_and_tray, name_and_sizes, end_of, call_of};
 
 use crate::fault::BadWhy;
-use crate::fields::take_field;
+use crate::fields::Fields;
 use crate::numbers::parse_number;
 use crate::trace::Call;
 
@@ -79,46 +79,33 @@ fn tray_from(number: u64) -> Result<u32, BadWhy>
     Ok(number as u32)
 }
 
-fn end_of_fields(text: &[u8]) -> Result<(), BadWhy>
-    ensures { MatchResult result (λ _. fields_of text.now ≡ []) (λ why. (why ≡ BadWhy.Fields) × (fields_of text.now ≢ [])) }
-{
-    if text.is_empty() {
-        Ok(())
-    } else {
-        Err(BadWhy::Fields)
-    }
-}
-
 #[tactic(auto, unfolding(crate::specs::Grammar::one_number))]
-fn read_one(text: &[u8]) -> Result<u64, BadWhy>
-    requires { all_filled (fields_of text.now) ≡ true }
-    ensures { result ≡ one_number (fields_of text.now) }
+fn read_one(mut fields: Fields<'_>) -> Result<u64, BadWhy>
+    ensures { result ≡ one_number fields.entry }
 {
-    let (first, rest) = take_field(text)?;
-    end_of_fields(rest)?;
+    let first = fields.take()?;
+    fields.end()?;
     read_number(first)
 }
 
 #[tactic(auto, unfolding(crate::specs::Grammar::two_numbers))]
-fn read_two(text: &[u8]) -> Result<(u64, u64), BadWhy>
-    requires { all_filled (fields_of text.now) ≡ true }
-    ensures { result ≡ two_numbers (fields_of text.now) }
+fn read_two(mut fields: Fields<'_>) -> Result<(u64, u64), BadWhy>
+    ensures { result ≡ two_numbers fields.entry }
 {
-    let (first, rest) = take_field(text)?;
-    let (second, rest) = take_field(rest)?;
-    end_of_fields(rest)?;
+    let first = fields.take()?;
+    let second = fields.take()?;
+    fields.end()?;
     Ok((read_number(first)?, read_number(second)?))
 }
 
 #[tactic(auto, unfolding(crate::specs::Grammar::three_numbers))]
-fn read_three(text: &[u8]) -> Result<(u64, u64, u64), BadWhy>
-    requires { all_filled (fields_of text.now) ≡ true }
-    ensures { result ≡ three_numbers (fields_of text.now) }
+fn read_three(mut fields: Fields<'_>) -> Result<(u64, u64, u64), BadWhy>
+    ensures { result ≡ three_numbers fields.entry }
 {
-    let (first, rest) = take_field(text)?;
-    let (second, rest) = take_field(rest)?;
-    let (third, rest) = take_field(rest)?;
-    end_of_fields(rest)?;
+    let first = fields.take()?;
+    let second = fields.take()?;
+    let third = fields.take()?;
+    fields.end()?;
     Ok((
         read_number(first)?,
         read_number(second)?,
@@ -126,60 +113,80 @@ fn read_three(text: &[u8]) -> Result<(u64, u64, u64), BadWhy>
     ))
 }
 
-#[tactic(auto, unfolding(crate::specs::Grammar::exit_of))]
-fn read_exit(thread: u8, text: &[u8]) -> Result<Call, BadWhy>
-    ensures { result ≡ exit_of thread (fields_of text.now) }
+fn read_name(fields: Fields<'_>) -> Result<u32, BadWhy>
+    ensures { result ≡ name_alone fields.entry }
 {
-    end_of_fields(text)?;
+    name_from(read_one(fields)?)
+}
+
+fn read_name_and_size(fields: Fields<'_>) -> Result<(u32, u64), BadWhy>
+    ensures { result ≡ name_and_size fields.entry }
+{
+    let (name, size) = read_two(fields)?;
+    Ok((name_from(name)?, size))
+}
+
+fn read_name_and_tray(fields: Fields<'_>) -> Result<(u32, u32), BadWhy>
+    ensures { result ≡ name_and_tray fields.entry }
+{
+    let (name, tray) = read_two(fields)?;
+    Ok((name_from(name)?, tray_from(tray)?))
+}
+
+fn read_name_and_sizes(fields: Fields<'_>) -> Result<(u32, u64, u64), BadWhy>
+    ensures { result ≡ name_and_sizes fields.entry }
+{
+    let (name, first, second) = read_three(fields)?;
+    Ok((name_from(name)?, first, second))
+}
+
+fn read_end(thread: u8, fields: Fields<'_>) -> Result<(), BadWhy>
+    ensures { result ≡ end_of thread fields.entry }
+{
+    fields.end()?;
     if thread == 0 {
         return Err(BadWhy::MainExit);
     }
-    Ok(Call::Exit)
+    Ok(())
 }
 
 /// The call of a thread, by its command and the fields behind it.
 #[tactic(auto, unfolding(crate::specs::Grammar::call_of))]
-pub(crate) fn read_call(thread: u8, command: Command, text: &[u8]) -> Result<Call, BadWhy>
-    requires { all_filled (fields_of text.now) ≡ true }
-    ensures { result ≡ call_of thread command (fields_of text.now) }
+pub(crate) fn read_call(thread: u8, command: Command, fields: Fields<'_>) -> Result<Call, BadWhy>
+    ensures { result ≡ call_of thread command fields.entry }
 {
     match command {
         Command::Malloc => {
-            let (name, size) = read_two(text)?;
-            let name = name_from(name)?;
+            let (name, size) = read_name_and_size(fields)?;
             Ok(Call::Malloc { name, size })
         }
         Command::Calloc => {
-            let (name, n, size) = read_three(text)?;
-            let name = name_from(name)?;
+            let (name, n, size) = read_name_and_sizes(fields)?;
             Ok(Call::Calloc { name, n, size })
         }
         Command::Realloc => {
-            let (name, size) = read_two(text)?;
-            let name = name_from(name)?;
+            let (name, size) = read_name_and_size(fields)?;
             Ok(Call::Realloc { name, size })
         }
         Command::Align => {
-            let (name, align, size) = read_three(text)?;
-            let name = name_from(name)?;
+            let (name, align, size) = read_name_and_sizes(fields)?;
             Ok(Call::Align { name, align, size })
         }
         Command::Free => {
-            let name = name_from(read_one(text)?)?;
+            let name = read_name(fields)?;
             Ok(Call::Free { name })
         }
         Command::Post => {
-            let (name, tray) = read_two(text)?;
-            let name = name_from(name)?;
-            let tray = tray_from(tray)?;
+            let (name, tray) = read_name_and_tray(fields)?;
             Ok(Call::Post { name, tray })
         }
         Command::Take => {
-            let (name, tray) = read_two(text)?;
-            let name = name_from(name)?;
-            let tray = tray_from(tray)?;
+            let (name, tray) = read_name_and_tray(fields)?;
             Ok(Call::Take { name, tray })
         }
-        Command::Exit => read_exit(thread, text),
+        Command::Exit => {
+            read_end(thread, fields)?;
+            Ok(Call::Exit)
+        }
     }
 }

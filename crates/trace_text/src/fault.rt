@@ -1,8 +1,10 @@
 //! Why a text is no trace.
 
 ghost use Rattle.std.specs.Prelude.{◌≡◌};
-ghost use Rattle.trace_text.specs.Names.{name_of};
+ghost use Rattle.trace_text.specs.FaultWords.{word_of};
 ghost use Rattle.trace_text.specs.declared.fault.TraceFault.TheVariants.{NoMemory};
+
+use std::alloc::AllocFailed;
 
 /// What is wrong with a line (this project's own).
 #[derive(Clone, Copy, Debug, PartialEq, Eq)]
@@ -38,7 +40,7 @@ pub enum BadWhy {
 impl BadWhy {
     /// The word for the fault, as the program prints it.
     pub fn name(self) -> &'static str
-        ensures { result.now ≡ name_of self }
+        ensures { result.now ≡ word_of self }
     {
         match self {
             BadWhy::Cut => "Cut",
@@ -58,14 +60,6 @@ impl BadWhy {
     }
 }
 
-/// The first faulty line of a text, with its first fault.
-#[derive(Clone, Copy, Debug, PartialEq, Eq)]
-pub struct Fault {
-    /// The line's place, from 1 on.
-    pub line: u64,
-    pub why: BadWhy,
-}
-
 /// Why no trace was read.
 #[derive(Clone, Copy, Debug, PartialEq, Eq)]
 pub enum TraceFault {
@@ -79,6 +73,14 @@ impl From<chunk_tags::NoMemory> for TraceFault {
     ghost from_gives = { λ _ e. e ≡ NoMemory };
 
     fn from(_e: chunk_tags::NoMemory) -> TraceFault {
+        TraceFault::NoMemory
+    }
+}
+
+impl<T: Drop> From<AllocFailed<T>> for TraceFault {
+    ghost from_gives = { λ _ e. e ≡ NoMemory };
+
+    fn from(_e: AllocFailed<T>) -> TraceFault {
         TraceFault::NoMemory
     }
 }

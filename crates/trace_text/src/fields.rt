@@ -1,11 +1,13 @@
 //! The fields of a line: the parts round its spaces.
 
-ghost use Rattle.std.specs.Prelude.{◌≡◌, ◌==◌, ◌&&◌, ◌<◌, ◌∷◌, [], true, nat_lt, length, IfSome, MatchOption, MatchResult};
+ghost use Rattle.std.specs.Prelude.{◌≡◌, ◌≢◌, ◌==◌, ◌<◌, ◌∷◌, [], ℕ, List, length, if◌then◌else◌, IfSome, MatchOption, MatchResult};
 ghost use Rattle.std.specs.List.{position, slice_split};
 ghost use Rattle.trace_text.specs.Grammar.{fields_of, all_filled};
 
 use crate::fault::BadWhy;
+use std::marker::Model;
 
+/// The place of the first that equals `byte`.
 fn place_of(text: &[u8], byte: u8) -> Option<usize>
     ensures { result ≡ position (λ b. b == byte) text.now }
 {
@@ -23,37 +25,71 @@ pub(crate) fn cut(text: &[u8], byte: u8) -> Option<(&[u8], &[u8])>
     Some((&text[..end], &text[end + 1..]))
 }
 
-/// Whether a line has two fields at least, and none of them is empty.
+/// Whether no field of a line is empty.
 pub(crate) fn are_filled(text: &[u8]) -> bool
-    ensures { result ≡ nat_lt 1 (length (fields_of text.now)) && all_filled (fields_of text.now) }
+    ensures { result ≡ all_filled (fields_of text.now) }
 {
-    let mut has_space = false;
-    let mut is_empty = true;
-    for byte in text {
-        if *byte != b' ' {
-            is_empty = false;
-        } else if is_empty {
-            return false;
-        } else {
-            has_space = true;
-            is_empty = true;
-        }
-    }
-    has_space && !is_empty
+    text.split(|byte| *byte == b' ')
+        .all(|field| !field.is_empty())
 }
 
-/// The first field, and the fields behind it.
-pub(crate) fn take_field(text: &[u8]) -> Result<(&[u8], &[u8]), BadWhy>
-    requires { all_filled (fields_of text.now) ≡ true }
-    ensures { MatchResult result
-        (λ parts. fields_of text.now ≡ parts.0.now ∷ fields_of parts.1.now)
-        (λ why. (why ≡ BadWhy.Fields) × (fields_of text.now ≡ [])) }
-{
-    if text.is_empty() {
-        return Err(BadWhy::Fields);
+/// The fields of a line that aren't taken yet.
+#[derive(Drop)]
+pub(crate) struct Fields<'a> {
+    /// The text from the next field on.
+    rest: &'a [u8],
+    /// Whether the last field is taken.
+    is_done: bool,
+}
+
+impl<'a> Model for Fields<'a> {
+    ghost Value = { List (List ℕ) };
+
+    ghost view = { λ f. if f.is_done then [] else fields_of f.rest.now };
+}
+
+impl<'a> Fields<'a> {
+    pub(crate) fn of(line: &'a [u8]) -> Fields<'a>
+        ensures { result ≡ fields_of line.now }
+    {
+        Fields {
+            rest: line,
+            is_done: false,
+        }
     }
-    match cut(text, b' ') {
-        Some(parts) => Ok(parts),
-        None => Ok((text, &[])),
+
+    /// The next field.
+    pub(crate) fn take(&mut self) -> Result<&'a [u8], BadWhy>
+        ensures { MatchResult result
+            (λ field. self.old ≡ field.now ∷ self.new)
+            (λ why. (why ≡ BadWhy.Fields) × (self.old ≡ [])) }
+    {
+        if self.is_done {
+            return Err(BadWhy::Fields);
+        }
+        match cut(self.rest, b' ') {
+            Some((field, rest)) => {
+                self.rest = rest;
+                Ok(field)
+            }
+            None => {
+                self.is_done = true;
+                Ok(self.rest)
+            }
+        }
+    }
+
+    /// Fails where a field is left.
+    #[tactic(auto, using(crate::proofs::Cuts::has_field))]
+    pub(crate) fn end(self) -> Result<(), BadWhy>
+        ensures { MatchResult result
+            (λ _. self.entry ≡ [])
+            (λ why. (why ≡ BadWhy.Fields) × (self.entry ≢ [])) }
+    {
+        if self.is_done {
+            Ok(())
+        } else {
+            Err(BadWhy::Fields)
+        }
     }
 }

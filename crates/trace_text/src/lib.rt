@@ -10,8 +10,8 @@ mod seen;
 mod trace;
 mod write;
 
-pub use fault::{BadWhy, Fault, TraceFault};
-pub use read::{Front, read_lines, read_trace};
+pub use fault::{BadWhy, TraceFault};
+pub use read::read_trace;
 pub use trace::{Call, Line, Trace};
 pub use write::{append_line, print_trace};
 

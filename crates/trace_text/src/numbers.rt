@@ -3,8 +3,8 @@
 ghost use Rattle.std.specs.Prelude.{◌≡◌};
 ghost use Rattle.trace_text.specs.Numbers.{number_of};
 
-#[tactic(auto, using(crate::proofs::Digits::number_cases))]
 /// The number that a field stands for; `None` where it stands for none.
+#[tactic(auto, using(crate::proofs::Digits::number_cases))]
 pub(crate) fn parse_number(field: &[u8]) -> Option<u64>
     ensures { result ≡ number_of field.now }
 {

@@ -29,7 +29,7 @@ impl Seen {
     ghost use Rattle.trace_text.specs.declared.trace.Line.{Line};
     ghost use Rattle.trace_text.specs.Before.{has_ended};
     ghost use Rattle.trace_text.specs.Grammar.{fitting, making, using};
-    ghost use Rattle.trace_text.specs.Seen.{Knows, Follows};
+    ghost use Rattle.trace_text.specs.Seen.{Knows, Adds};
 
     /// Before any line.
     #[tactic(auto, unfolding(crate::specs::Before::is_held, crate::specs::Before::has_ended, crate::specs::Before::was_posted, crate::specs::Before::was_taken))]
@@ -50,57 +50,57 @@ impl Seen {
         self.ended.contains(&thread)
     }
 
-    /// Whether a call that makes its name may.
-    fn make(&self, thread: u8, name: u32, call: Call) -> Result<Call, BadWhy>
-        ensures { (before : List Line) → Knows self.now before → result ≡ making thread name before call }
+    /// Fails where a name that is to be made is held.
+    fn check_making(&self, thread: u8, name: u32) -> Result<(), BadWhy>
+        ensures { (before : List Line) → Knows self.now before → result ≡ making before thread name }
     {
         if self.held.contains(&key_of(thread, name)) {
             return Err(BadWhy::Held);
         }
-        Ok(call)
+        Ok(())
     }
 
-    /// Whether a call that uses its name may.
-    fn use_name(&self, thread: u8, name: u32, call: Call) -> Result<Call, BadWhy>
-        ensures { (before : List Line) → Knows self.now before → result ≡ using thread name before call }
+    /// Fails where a name that is to be used isn't held.
+    fn check_using(&self, thread: u8, name: u32) -> Result<(), BadWhy>
+        ensures { (before : List Line) → Knows self.now before → result ≡ using before thread name }
     {
         if !self.held.contains(&key_of(thread, name)) {
             return Err(BadWhy::NotHeld);
         }
-        Ok(call)
+        Ok(())
     }
 
-    /// The call, where it fits the lines so far.
+    /// Fails where a call doesn't fit the lines so far.
     #[tactic(auto, unfolding(crate::specs::Grammar::fitting))]
-    pub(crate) fn fit(&self, thread: u8, call: Call) -> Result<Call, BadWhy>
+    pub(crate) fn check(&self, thread: u8, call: Call) -> Result<(), BadWhy>
         ensures { (before : List Line) → Knows self.now before → result ≡ fitting before thread call }
     {
         match call {
             Call::Malloc { name, .. } | Call::Calloc { name, .. } | Call::Align { name, .. } => {
-                self.make(thread, name, call)
+                self.check_making(thread, name)
             }
-            Call::Realloc { name, .. } | Call::Free { name } => self.use_name(thread, name, call),
+            Call::Realloc { name, .. } | Call::Free { name } => self.check_using(thread, name),
             Call::Post { name, tray } => {
-                self.use_name(thread, name, call)?;
+                self.check_using(thread, name)?;
                 if self.posted.contains(&tray) {
                     return Err(BadWhy::TrayTwice);
                 }
-                Ok(call)
+                Ok(())
             }
             Call::Take { name, tray } => {
-                self.make(thread, name, call)?;
+                self.check_making(thread, name)?;
                 if self.taken.contains(&tray) {
                     return Err(BadWhy::TrayTwice);
                 }
-                Ok(call)
+                Ok(())
             }
-            Call::Exit => Ok(call),
+            Call::Exit => Ok(()),
         }
     }
 
     /// Takes a line in.
-    pub(crate) fn follow(&mut self, line: &Line) -> Result<(), NoMemory>
-        ensures { OnOk result (Follows self.old self.new line.now) }
+    pub(crate) fn add(&mut self, line: &Line) -> Result<(), NoMemory>
+        ensures { OnOk result (Adds self.old self.new line.now) }
     {
         match line.call {
             Call::Malloc { name, .. } | Call::Calloc { name, .. } | Call::Align { name, .. } => {

@@ -3,131 +3,7 @@ use std::alloc::Global;
 use std::process::Abort;
 use std::test::Fail;
 
-// Texts with the first faulty line and its first fault. The values come from an independent
-// implementation of the rules.
-const FAULTY: [(&[u8], u64, BadWhy); 88] = [
-    (b"", 1, BadWhy::Cut),
-    (b"\n", 1, BadWhy::Header),
-    (b"ptmtrace 1", 1, BadWhy::Cut),
-    (b"ptmtrace 2x\n", 1, BadWhy::Header),
-    (b"ptmtrace  1\n", 1, BadWhy::Header),
-    (b"ptmtrace 1 \n", 1, BadWhy::Header),
-    (b"ptmtrace 1\r\n", 1, BadWhy::Header),
-    (b"PTMTRACE 1\n", 1, BadWhy::Header),
-    (b"ptmtrace 01\n0 m 1 8\n", 1, BadWhy::Header),
-    (b"0 m 1 8\n", 1, BadWhy::Header),
-    (b"\nptmtrace 1\n", 1, BadWhy::Header),
-    (b"ptmtrace 1\n\n", 2, BadWhy::Fields),
-    (b"ptmtrace 1\n0 m 1 8", 2, BadWhy::Cut),
-    (b"ptmtrace 1\n0 m 1 8\n0 f 1", 3, BadWhy::Cut),
-    (b"ptmtrace 1\n 0 m 1 8\n", 2, BadWhy::Fields),
-    (b"ptmtrace 1\n0 m 1 8 \n", 2, BadWhy::Fields),
-    (b"ptmtrace 1\n0  m 1 8\n", 2, BadWhy::Fields),
-    (b"ptmtrace 1\n \n", 2, BadWhy::Fields),
-    (b"ptmtrace 1\n0\n", 2, BadWhy::Fields),
-    (b"ptmtrace 1\n64\n", 2, BadWhy::Fields),
-    (b"ptmtrace 1\n0 m 1\n", 2, BadWhy::Fields),
-    (b"ptmtrace 1\n0 m 1 8 9\n", 2, BadWhy::Fields),
-    (b"ptmtrace 1\n1 x 1\n", 2, BadWhy::Fields),
-    (b"ptmtrace 1\n0 f\n", 2, BadWhy::Fields),
-    (b"ptmtrace 1\n0 q \n", 2, BadWhy::Fields),
-    (b"ptmtrace 1\n0\tm 1 8\n", 2, BadWhy::Thread),
-    (b"ptmtrace 1\n0 m\t1 8\n", 2, BadWhy::Command),
-    (b"ptmtrace 1\n64 m 1 8\n", 2, BadWhy::Thread),
-    (b"ptmtrace 1\n01 m 1 8\n", 2, BadWhy::Thread),
-    (b"ptmtrace 1\n-0 m 1 8\n", 2, BadWhy::Thread),
-    (b"ptmtrace 1\n+1 m 1 8\n", 2, BadWhy::Thread),
-    (b"ptmtrace 1\nm m 1 8\n", 2, BadWhy::Thread),
-    (
-        b"ptmtrace 1\n18446744073709551616 m 1 8\n",
-        2,
-        BadWhy::Thread,
-    ),
-    (b"ptmtrace 1\n1 x\n1 m 1 8\n", 3, BadWhy::Ended),
-    (b"ptmtrace 1\n1 x\n1 q\n", 3, BadWhy::Ended),
-    (b"ptmtrace 1\n1 x\n1 x\n", 3, BadWhy::Ended),
-    (b"ptmtrace 1\n0 q 1 8\n", 2, BadWhy::Command),
-    (b"ptmtrace 1\n0 M 1 8\n", 2, BadWhy::Command),
-    (b"ptmtrace 1\n0 mm 1 8\n", 2, BadWhy::Command),
-    (b"ptmtrace 1\n0 q\n", 2, BadWhy::Command),
-    (b"ptmtrace 1\n0 \xff 1 8\n", 2, BadWhy::Command),
-    (
-        b"ptmtrace 1\n0 m 1 18446744073709551616\n",
-        2,
-        BadWhy::Number,
-    ),
-    (
-        b"ptmtrace 1\n0 m 1 184467440737095516150\n",
-        2,
-        BadWhy::Number,
-    ),
-    (b"ptmtrace 1\n0 m 1 08\n", 2, BadWhy::Number),
-    (b"ptmtrace 1\n0 m 01 8\n", 2, BadWhy::Number),
-    (b"ptmtrace 1\n0 m 1 -0\n", 2, BadWhy::Number),
-    (b"ptmtrace 1\n0 m 1 +8\n", 2, BadWhy::Number),
-    (b"ptmtrace 1\n0 m 1 8\r\n", 2, BadWhy::Number),
-    (b"ptmtrace 1\n0 m 1 0x8\n", 2, BadWhy::Number),
-    (b"ptmtrace 1\n0 m 1 00\n", 2, BadWhy::Number),
-    (b"ptmtrace 1\n0 m x 8\n", 2, BadWhy::Number),
-    (b"ptmtrace 1\n0 c 1 8 y\n", 2, BadWhy::Number),
-    (b"ptmtrace 1\n0 m 0 y\n", 2, BadWhy::Number),
-    (b"ptmtrace 1\n0 m 1 8\xc2\xa0\n", 2, BadWhy::Number),
-    (b"ptmtrace 1\n0 f 18446744073709551616\n", 2, BadWhy::Number),
-    (b"ptmtrace 1\n0 x\n", 2, BadWhy::MainExit),
-    (b"ptmtrace 1\n0 x 1\n", 2, BadWhy::Fields),
-    (b"ptmtrace 1\n0 m 0 8\n", 2, BadWhy::Name),
-    (b"ptmtrace 1\n0 m 65536 8\n", 2, BadWhy::Name),
-    (b"ptmtrace 1\n0 f 0\n", 2, BadWhy::Name),
-    (b"ptmtrace 1\n0 p 0 65536\n", 2, BadWhy::Name),
-    (b"ptmtrace 1\n0 m 18446744073709551615 8\n", 2, BadWhy::Name),
-    (b"ptmtrace 1\n0 p 1 65536\n", 2, BadWhy::Tray),
-    (b"ptmtrace 1\n0 m 1 8\n0 p 1 65536\n", 3, BadWhy::Tray),
-    (b"ptmtrace 1\n0 t 1 65536\n", 2, BadWhy::Tray),
-    (b"ptmtrace 1\n0 m 1 8\n0 t 1 65536\n", 3, BadWhy::Tray),
-    (b"ptmtrace 1\n0 m 1 8\n0 m 1 8\n", 3, BadWhy::Held),
-    (b"ptmtrace 1\n0 m 1 8\n0 c 1 8 8\n", 3, BadWhy::Held),
-    (b"ptmtrace 1\n0 m 1 8\n0 a 1 8 8\n", 3, BadWhy::Held),
-    (b"ptmtrace 1\n0 m 1 8\n0 t 1 0\n", 3, BadWhy::Held),
-    (b"ptmtrace 1\n0 f 1\n", 2, BadWhy::NotHeld),
-    (b"ptmtrace 1\n0 r 1 8\n", 2, BadWhy::NotHeld),
-    (b"ptmtrace 1\n0 p 1 0\n", 2, BadWhy::NotHeld),
-    (b"ptmtrace 1\n0 m 1 8\n1 f 1\n", 3, BadWhy::NotHeld),
-    (b"ptmtrace 1\n0 m 1 8\n0 f 1\n0 f 1\n", 4, BadWhy::NotHeld),
-    (b"ptmtrace 1\n0 m 1 8\n0 r 1 0\n0 f 1\n", 4, BadWhy::NotHeld),
-    (b"ptmtrace 1\n0 m 1 8\n0 p 1 0\n0 f 1\n", 4, BadWhy::NotHeld),
-    (b"ptmtrace 1\n0 m 1 8\n0 r 1 8\n0 m 1 8\n", 4, BadWhy::Held),
-    (b"ptmtrace 1\n1 m 1 8\n1 x\n0 f 1\n", 4, BadWhy::NotHeld),
-    (
-        b"ptmtrace 1\n0 m 1 8\n0 p 1 0\n0 m 1 8\n0 p 1 0\n",
-        5,
-        BadWhy::TrayTwice,
-    ),
-    (b"ptmtrace 1\n0 t 1 0\n0 t 2 0\n", 3, BadWhy::TrayTwice),
-    (b"ptmtrace 1\n0 t 1 0\n1 t 1 0\n", 3, BadWhy::TrayTwice),
-    (
-        b"ptmtrace 1\n0 m 1 8\n0 p 1 0\n0 p 1 0\n",
-        4,
-        BadWhy::NotHeld,
-    ),
-    (b"ptmtrace 1\n0 t 1 0\n0 t 1 0\n", 3, BadWhy::Held),
-    (b"ptmtrace 1\n0 q 1\n64 m 1 8\n", 2, BadWhy::Command),
-    (b"ptmtrace 1\n0 m 1 8\n64 m 1 8\n0 q 1\n", 3, BadWhy::Thread),
-    (b"ptmtrace 1\n0 m 1 8\n\n0 m 1 8\n", 3, BadWhy::Fields),
-    (b"ptmtrace 1\n0 m 1 8\n0 m 1 8\n0 f", 3, BadWhy::Held),
-];
-
-const WHOLE: [&[u8]; 10] = [
-    b"ptmtrace 1\n",
-    b"ptmtrace 1\n0 m 1 8\n0 r 1 16\n0 f 1\n",
-    b"ptmtrace 1\n1 c 65535 3 5\n1 a 1 64 100\n1 p 1 65535\n0 t 9 65535\n1 x\n",
-    b"ptmtrace 1\n63 m 1 18446744073709551615\n",
-    b"ptmtrace 1\n0 m 1 8\n0 r 1 0\n0 m 1 8\n",
-    b"ptmtrace 1\n0 t 1 0\n",
-    b"ptmtrace 1\n0 m 1 0\n1 m 1 0\n",
-    b"ptmtrace 1\n1 x\n2 m 1 8\n",
-    b"ptmtrace 1\n0 m 1 8\n0 p 1 0\n0 t 1 0\n",
-    b"ptmtrace 1\n0 t 1 7\n0 p 1 7\n",
-];
+// What is expected of each text comes from an independent implementation of the rules.
 
 fn check_fault(rt: &impl Abort, alloc: Global, text: &[u8], line: u64, why: BadWhy) {
     let read = read_trace(alloc, text).err();
@@ -141,16 +17,289 @@ fn check_whole(rt: &impl Abort, alloc: Global, text: &[u8]) -> Result<(), Fail> 
     Ok(())
 }
 
+/// Of these lines behind a header, the last is the first that is faulty.
+fn check_last_line(rt: &impl Abort, alloc: Global, why: BadWhy, lines: &[u8]) -> Result<(), Fail> {
+    let mut text = Vec::from_slice(alloc, b"ptmtrace 1\n")?;
+    text.extend_from_slice(lines)?;
+    text.push(b'\n')?;
+    let before = lines.iter().filter(|byte| **byte == b'\n').count() as u64;
+    check_fault(rt, alloc, text.as_slice(), before.saturating_add(2), why);
+    Ok(())
+}
+
+fn check_last_lines(
+    rt: &impl Abort,
+    alloc: Global,
+    why: BadWhy,
+    texts: &[&[u8]],
+) -> Result<(), Fail> {
+    for lines in texts {
+        check_last_line(rt, alloc, why, lines)?;
+    }
+    Ok(())
+}
+
 #[test]
-fn each_fault_is_the_first(rt: HostRuntime) {
-    for (text, line, why) in FAULTY {
-        check_fault(&rt, rt.alloc(), text, line, why);
+fn lines_without_newline_are_cut(rt: HostRuntime) {
+    let alloc = rt.alloc();
+    check_fault(&rt, alloc, b"", 1, BadWhy::Cut);
+    check_fault(&rt, alloc, b"ptmtrace 1", 1, BadWhy::Cut);
+    check_fault(&rt, alloc, b"ptmtrace 1\n0 m 1 8", 2, BadWhy::Cut);
+    check_fault(&rt, alloc, b"ptmtrace 1\n0 m 1 8\n0 f 1", 3, BadWhy::Cut);
+}
+
+#[test]
+fn other_first_lines_are_no_headers(rt: HostRuntime) {
+    const TEXTS: [&[u8]; 9] = [
+        b"\n",
+        b"ptmtrace 2x\n",
+        b"ptmtrace  1\n",
+        b"ptmtrace 1 \n",
+        b"ptmtrace 1\r\n",
+        b"PTMTRACE 1\n",
+        b"ptmtrace 01\n0 m 1 8\n",
+        b"0 m 1 8\n",
+        b"\nptmtrace 1\n",
+    ];
+    for text in TEXTS {
+        check_fault(&rt, rt.alloc(), text, 1, BadWhy::Header);
     }
 }
 
 #[test]
+fn fields_stand_between_single_spaces(rt: HostRuntime) -> Result<(), Fail> {
+    check_last_lines(
+        &rt,
+        rt.alloc(),
+        BadWhy::Fields,
+        &[
+            b"",
+            b" 0 m 1 8",
+            b"0 m 1 8 ",
+            b"0  m 1 8",
+            b" ",
+            b"0",
+            b"64",
+            b"0 q ",
+        ],
+    )
+}
+
+#[test]
+fn commands_have_their_number_of_fields(rt: HostRuntime) -> Result<(), Fail> {
+    check_last_lines(
+        &rt,
+        rt.alloc(),
+        BadWhy::Fields,
+        &[b"0 m 1", b"0 m 1 8 9", b"1 x 1", b"0 f", b"0 x 1"],
+    )
+}
+
+#[test]
+fn threads_are_0_to_63(rt: HostRuntime) -> Result<(), Fail> {
+    check_last_lines(
+        &rt,
+        rt.alloc(),
+        BadWhy::Thread,
+        &[
+            b"0\tm 1 8",
+            b"64 m 1 8",
+            b"01 m 1 8",
+            b"-0 m 1 8",
+            b"+1 m 1 8",
+            b"m m 1 8",
+            b"18446744073709551616 m 1 8",
+        ],
+    )
+}
+
+#[test]
+fn threads_end_once(rt: HostRuntime) -> Result<(), Fail> {
+    check_last_lines(
+        &rt,
+        rt.alloc(),
+        BadWhy::Ended,
+        &[b"1 x\n1 m 1 8", b"1 x\n1 q", b"1 x\n1 x"],
+    )
+}
+
+#[test]
+fn commands_are_single_letters(rt: HostRuntime) -> Result<(), Fail> {
+    check_last_lines(
+        &rt,
+        rt.alloc(),
+        BadWhy::Command,
+        &[
+            b"0 m\t1 8",
+            b"0 q 1 8",
+            b"0 M 1 8",
+            b"0 mm 1 8",
+            b"0 q",
+            b"0 \xff 1 8",
+        ],
+    )
+}
+
+#[test]
+fn numbers_are_decimal(rt: HostRuntime) -> Result<(), Fail> {
+    check_last_lines(
+        &rt,
+        rt.alloc(),
+        BadWhy::Number,
+        &[
+            b"0 m 1 18446744073709551616",
+            b"0 m 1 184467440737095516150",
+            b"0 m 1 08",
+            b"0 m 01 8",
+            b"0 m 1 -0",
+            b"0 m 1 +8",
+            b"0 m 1 8\r",
+            b"0 m 1 0x8",
+            b"0 m 1 00",
+            b"0 m x 8",
+            b"0 c 1 8 y",
+            b"0 m 0 y",
+            b"0 m 1 8\xc2\xa0",
+            b"0 f 18446744073709551616",
+        ],
+    )
+}
+
+#[test]
+fn thread_0_goes_on(rt: HostRuntime) -> Result<(), Fail> {
+    check_last_lines(&rt, rt.alloc(), BadWhy::MainExit, &[b"0 x"])
+}
+
+#[test]
+fn names_are_1_to_65535(rt: HostRuntime) -> Result<(), Fail> {
+    check_last_lines(
+        &rt,
+        rt.alloc(),
+        BadWhy::Name,
+        &[
+            b"0 m 0 8",
+            b"0 m 65536 8",
+            b"0 f 0",
+            b"0 p 0 65536",
+            b"0 m 18446744073709551615 8",
+        ],
+    )
+}
+
+#[test]
+fn trays_are_0_to_65535(rt: HostRuntime) -> Result<(), Fail> {
+    check_last_lines(
+        &rt,
+        rt.alloc(),
+        BadWhy::Tray,
+        &[
+            b"0 p 1 65536",
+            b"0 m 1 8\n0 p 1 65536",
+            b"0 t 1 65536",
+            b"0 m 1 8\n0 t 1 65536",
+        ],
+    )
+}
+
+#[test]
+fn held_names_are_not_made(rt: HostRuntime) -> Result<(), Fail> {
+    check_last_lines(
+        &rt,
+        rt.alloc(),
+        BadWhy::Held,
+        &[
+            b"0 m 1 8\n0 m 1 8",
+            b"0 m 1 8\n0 c 1 8 8",
+            b"0 m 1 8\n0 a 1 8 8",
+            b"0 m 1 8\n0 t 1 0",
+            b"0 m 1 8\n0 r 1 8\n0 m 1 8",
+            b"0 t 1 0\n0 t 1 0",
+        ],
+    )
+}
+
+#[test]
+fn other_names_are_not_used(rt: HostRuntime) -> Result<(), Fail> {
+    check_last_lines(
+        &rt,
+        rt.alloc(),
+        BadWhy::NotHeld,
+        &[
+            b"0 f 1",
+            b"0 r 1 8",
+            b"0 p 1 0",
+            b"0 m 1 8\n1 f 1",
+            b"0 m 1 8\n0 f 1\n0 f 1",
+            b"0 m 1 8\n0 r 1 0\n0 f 1",
+            b"0 m 1 8\n0 p 1 0\n0 f 1",
+            b"1 m 1 8\n1 x\n0 f 1",
+            b"0 m 1 8\n0 p 1 0\n0 p 1 0",
+        ],
+    )
+}
+
+#[test]
+fn trays_are_used_once_each_way(rt: HostRuntime) -> Result<(), Fail> {
+    check_last_lines(
+        &rt,
+        rt.alloc(),
+        BadWhy::TrayTwice,
+        &[
+            b"0 m 1 8\n0 p 1 0\n0 m 1 8\n0 p 1 0",
+            b"0 t 1 0\n0 t 2 0",
+            b"0 t 1 0\n1 t 1 0",
+        ],
+    )
+}
+
+#[test]
+fn the_first_faulty_line_is_named(rt: HostRuntime) {
+    let alloc = rt.alloc();
+    check_fault(
+        &rt,
+        alloc,
+        b"ptmtrace 1\n0 q 1\n64 m 1 8\n",
+        2,
+        BadWhy::Command,
+    );
+    check_fault(
+        &rt,
+        alloc,
+        b"ptmtrace 1\n0 m 1 8\n64 m 1 8\n0 q 1\n",
+        3,
+        BadWhy::Thread,
+    );
+    check_fault(
+        &rt,
+        alloc,
+        b"ptmtrace 1\n0 m 1 8\n\n0 m 1 8\n",
+        3,
+        BadWhy::Fields,
+    );
+    check_fault(
+        &rt,
+        alloc,
+        b"ptmtrace 1\n0 m 1 8\n0 m 1 8\n0 f",
+        3,
+        BadWhy::Held,
+    );
+}
+
+#[test]
 fn whole_traces_are_printed_as_they_were(rt: HostRuntime) -> Result<(), Fail> {
-    for text in WHOLE {
+    const TEXTS: [&[u8]; 10] = [
+        b"ptmtrace 1\n",
+        b"ptmtrace 1\n0 m 1 8\n0 r 1 16\n0 f 1\n",
+        b"ptmtrace 1\n1 c 65535 3 5\n1 a 1 64 100\n1 p 1 65535\n0 t 9 65535\n1 x\n",
+        b"ptmtrace 1\n63 m 1 18446744073709551615\n",
+        b"ptmtrace 1\n0 m 1 8\n0 r 1 0\n0 m 1 8\n",
+        b"ptmtrace 1\n0 t 1 0\n",
+        b"ptmtrace 1\n0 m 1 0\n1 m 1 0\n",
+        b"ptmtrace 1\n1 x\n2 m 1 8\n",
+        b"ptmtrace 1\n0 m 1 8\n0 p 1 0\n0 t 1 0\n",
+        b"ptmtrace 1\n0 t 1 7\n0 p 1 7\n",
+    ];
+    for text in TEXTS {
         check_whole(&rt, rt.alloc(), text)?;
     }
     Ok(())
@@ -174,60 +323,61 @@ fn a_cut_trace_is_faulty_where_it_is_cut(rt: HostRuntime) -> Result<(), Fail> {
     Ok(())
 }
 
+const EACH_CALL: &[u8] = b"\
+ptmtrace 1
+0 m 1 8
+63 c 2 3 4
+0 r 1 5
+0 a 65535 64 6
+0 f 1
+0 p 65535 7
+63 t 9 7
+63 x
+";
+
+const CALLS: [(u8, Call); 8] = [
+    (0, Call::Malloc { name: 1, size: 8 }),
+    (
+        63,
+        Call::Calloc {
+            name: 2,
+            n: 3,
+            size: 4,
+        },
+    ),
+    (0, Call::Realloc { name: 1, size: 5 }),
+    (
+        0,
+        Call::Align {
+            name: 65535,
+            align: 64,
+            size: 6,
+        },
+    ),
+    (0, Call::Free { name: 1 }),
+    (
+        0,
+        Call::Post {
+            name: 65535,
+            tray: 7,
+        },
+    ),
+    (63, Call::Take { name: 9, tray: 7 }),
+    (63, Call::Exit),
+];
+
 #[test]
 fn lines_say_their_calls(rt: HostRuntime) -> Result<(), Fail> {
-    let text =
-        b"ptmtrace 1\n0 m 1 8\n63 c 2 3 4\n0 r 1 5\n0 a 65535 64 6\n0 f 1\n0 p 65535 7\n63 t 9 7\n63 x\n0 f 1\n";
-    let front = read_lines(rt.alloc(), text)?;
-    let calls = [
-        (0, Call::Malloc { name: 1, size: 8 }),
-        (
-            63,
-            Call::Calloc {
-                name: 2,
-                n: 3,
-                size: 4,
-            },
-        ),
-        (0, Call::Realloc { name: 1, size: 5 }),
-        (
-            0,
-            Call::Align {
-                name: 65535,
-                align: 64,
-                size: 6,
-            },
-        ),
-        (0, Call::Free { name: 1 }),
-        (
-            0,
-            Call::Post {
-                name: 65535,
-                tray: 7,
-            },
-        ),
-        (63, Call::Take { name: 9, tray: 7 }),
-        (63, Call::Exit),
-    ];
-    assert_eq!(rt; front.lines.len(), 8);
-    for (i, (thread, call)) in calls.iter().enumerate() {
-        let number = i as u64 + 2;
-        assert_eq!(rt;
-            front.lines.get(i).copied(),
-            Some(Line {
-                thread: *thread,
-                number,
-                call: *call
-            })
-        );
+    let trace = read_trace(rt.alloc(), EACH_CALL)?;
+    assert_eq!(rt; trace.lines.len(), CALLS.len());
+    for (i, (thread, call)) in CALLS.iter().enumerate() {
+        let line = Line {
+            thread: *thread,
+            number: i as u64 + 2,
+            call: *call,
+        };
+        assert_eq!(rt; trace.lines.get(i).copied(), Some(line));
     }
-    assert_eq!(rt;
-        front.fault,
-        Some(Fault {
-            line: 10,
-            why: BadWhy::NotHeld
-        })
-    );
     Ok(())
 }
 

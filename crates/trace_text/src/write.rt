@@ -1,6 +1,6 @@
 //! Writing a trace.
 
-ghost use Rattle.std.specs.Prelude.{◌≡◌, ◌+◌, ◌≤◌, [], ◌∷◌, ◌++◌, length, drop, IfOk, OnOk, OnErr, None};
+ghost use Rattle.std.specs.Prelude.{◌≡◌, ◌+◌, ◌≤◌, [], ◌∷◌, ◌++◌, length, drop, Ok, IfOk, OnOk, OnErr};
 ghost use Rattle.std.specs.Fmt.{decimal};
 ghost use Rattle.trace_text.specs.Grammar.{reading_of};
 ghost use Rattle.trace_text.specs.Spelling.{spaced, call_spelling, spelling_of, spelling, Allows};
@@ -21,8 +21,8 @@ fn put_letter(text: &mut [u8], end: usize, letter: u8) -> usize
     start
 }
 
-#[tactic(auto, using(crate::proofs::Digits::decimal_lengths))]
 /// Puts a number before `end`, and gives the place where it begins.
+#[tactic(auto, using(crate::proofs::Digits::decimal_lengths))]
 fn put_digits(text: &mut [u8], end: usize, n: u64) -> usize
     requires { (20 ≤ end) × (end ≤ length text.old) }
     ensures start { end ≤ result + 20 }
@@ -125,7 +125,7 @@ pub fn print_trace(alloc: Global, t: &Trace) -> Result<Vec<u8>, NoMemory>
 
     // What is written is read again as that trace.
     ensures again { IfOk result (λ text. Allows t.now.lines.items →
-        reading_of text.items ≡ record { lines = t.now.lines.items; fault = None }) }
+        reading_of text.items ≡ Ok t.now.lines.items) }
 {
     let mut text = Vec::from_slice(alloc, b"ptmtrace 1\n")?;
     for line in &t.lines {

@@ -1,12 +1,11 @@
-use Rattle.std.proofs.Common.{◌∙◌, arith}
-use Rattle.trace_text.proofs.Cuts.{scan_stops, scan_ends}
+use Rattle.std.proofs.Common.{rules, not, ◌==◌}
+use Rattle.std.proofs.lemmas.Iterator.Search.{all_from_yields_List}
+use Rattle.std.proofs.lemmas.Iterator.Splits.{YieldsList-from_slice_split}
+use Rattle.trace_text.specs.Grammar.{is_empty}
 use Rattle.trace_text.proofs.fields.are_filled.Goals as goal
 
-pub returns-then-is_empty : goal.returns-then-is_empty
-returns-then-is_empty c = scan_stops c.loop-byte.has_space c.args.text.now c.loop-byte.byte-index (omega arith) (omega arith) (rw c.if-is_empty.true at c.loop-byte.invariant)
-
-pub returns-then-has_space : goal.returns-then-has_space
-returns-then-has_space c = rw c.if-has_space.true at (scan_ends c.loop-byte.has_space c.loop-byte.is_empty c.args.text.now c.loop-byte.byte-index (omega arith) c.loop-byte.invariant)
-
-pub returns-else-has_space : goal.returns-else-has_space
-returns-else-has_space c = c.if-has_space.false ∙ (rw c.if-has_space.false at (scan_ends c.loop-byte.has_space c.loop-byte.is_empty c.args.text.now c.loop-byte.byte-index (omega arith) c.loop-byte.invariant))
+pub returns : goal.returns
+returns c =
+    all_from_yields_List (λ field. not (is_empty field)) _ _ _ c.all.ensures.ran
+    (YieldsList-from_slice_split _ (λ b. b == 32) c.args.text.now c.split.ensures.rest c.split.ensures.done c.split.ensures.closure (λ x b q called. search rules))
+    (λ x b q called. search rules)

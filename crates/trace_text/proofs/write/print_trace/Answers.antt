@@ -2,7 +2,7 @@ use Rattle.std.proofs.Common.{◌∙◌, ap, arith}
 use Rattle.std.proofs.lemmas.List.{take_all}
 use Rattle.trace_text.specs.Grammar.{reading_of}
 use Rattle.trace_text.specs.Spelling.{spelling}
-use Rattle.trace_text.proofs.Law.{spelling_again}
+use Rattle.trace_text.proofs.RoundTrip.{spelling_again}
 use Rattle.trace_text.proofs.write.print_trace.Goals as goal
 
 pub returns-clause-again : goal.returns-clause-again
