@@ -4,7 +4,7 @@ use Rattle.std.specs.Fmt.{digit_glyph}
 use Rattle.std.proofs.Math.Pow.{field, mod-mod-pow}
 use Rattle.stats_text.specs.Words.{hex_digits}
 
--- one digit more, of a number whose count of digits isn't 0
+-- one digit more, where the code tests that the count is above 0
 pub one_more : (k n : ℕ) → 0 < k → hex_digits k n ≡ hex_digits (k - 1) (n / 16) ++ digit_glyph false (n % 16) ∷ []
 unfolding hex_digits
 one_more zero n h = absurd (omega arith)

@@ -37,7 +37,7 @@ tile_line t = block_text t.addr t.size ++ codes " " ++ place_text t.place ++ cod
 unfoldable pub tile_lines : List TileView → List ℕ
 tile_lines tiles = flat_map tile_line tiles
 
--- a mapped chunk, which has a lead
+-- a mapped chunk: its block, its lead and its place
 unfoldable pub mapped_line : TileView → List ℕ
 mapped_line t = block_text t.addr t.size ++ codes " lead " ++ decimal t.lead
     ++ codes " " ++ place_text t.place ++ codes "\n"

@@ -1,5 +1,5 @@
 -- The bytes in use and the text of malloc_stats(3): glibc 2.31 malloc/malloc.c, __malloc_stats, with numbers of 64 bits (own).
-use Rattle.std.specs.Prelude.{ℕ, zero, suc, ◌+◌, ◌-◌, ◌^◌, ◌<◌, ◌≤◌, ◌==◌, Bool, true, false, List, [], ◌++◌, length, filter, sum_by, All, codes, decimal}
+use Rattle.std.specs.Prelude.{ℕ, ◌+◌, ◌-◌, ◌^◌, ◌<◌, ◌≤◌, nat_lt, Bool, true, false, if◌then◌else◌, List, [], ◌∷◌, ◌++◌, filter, sum_by, All, codes, decimal}
 use Rattle.std.specs.List.{flat_map}
 use Rattle.stats_text.specs.declared.views.Place.{Place}
 use Rattle.stats_text.specs.declared.views.Place.TheVariants.{Live, Cache, Structure, Tray, Fast, Bin, Top, Fence}
@@ -19,28 +19,28 @@ is_idle_place (Bin bin) = true
 is_idle_place Top = true
 is_idle_place Fence = false
 
--- live, cached, structure and tray chunks and fences are
-abbrev pub is_held_place : Place → Bool
-is_held_place (Live thread name) = true
-is_held_place (Cache thread) = true
-is_held_place (Structure thread) = true
-is_held_place (Tray tray) = true
-is_held_place (Fast bin) = false
-is_held_place (Bin bin) = false
-is_held_place Top = false
-is_held_place Fence = true
+-- live, cached, structure and tray chunks and fences are in use
+abbrev pub is_in_use_place : Place → Bool
+is_in_use_place (Live thread name) = true
+is_in_use_place (Cache thread) = true
+is_in_use_place (Structure thread) = true
+is_in_use_place (Tray tray) = true
+is_in_use_place (Fast bin) = false
+is_in_use_place (Bin bin) = false
+is_in_use_place Top = false
+is_in_use_place Fence = true
 
 -- the sizes of chunks together
 unfoldable pub tile_bytes_of : List TileView → ℕ
 tile_bytes_of tiles = sum_by (λ t. t.size) tiles
 
--- the same of the idle ones alone
+-- the sizes of the chunks that are not in use
 unfoldable pub idle_bytes_of : List TileView → ℕ
 idle_bytes_of tiles = tile_bytes_of (filter (λ t. is_idle_place t.place) tiles)
 
--- the same of the held ones alone
-unfoldable pub held_bytes_of : List TileView → ℕ
-held_bytes_of tiles = tile_bytes_of (filter (λ t. is_held_place t.place) tiles)
+-- the sizes of the chunks in use
+unfoldable pub in_use_bytes_of : List TileView → ℕ
+in_use_bytes_of tiles = tile_bytes_of (filter (λ t. is_in_use_place t.place) tiles)
 
 -- the bytes of an arena that are in use: system less top, fast and binned bytes
 unfoldable pub in_use_of : Arena → ℕ
@@ -54,23 +54,24 @@ system_bytes_of arenas = sum_by (λ a. a.system) arenas
 unfoldable pub used_bytes_of : List Arena → ℕ
 used_bytes_of arenas = sum_by in_use_of arenas
 
--- each arena has its idle bytes from the system
+-- no arena has more idle bytes than system bytes
 abbrev pub AreWithinSystem : List Arena → Type 0
 AreWithinSystem arenas = All (λ a. idle_bytes_of a.tiles ≤ a.system) arenas
 
--- what the totals need: each arena has its idle bytes from the system, and all bytes together have 64 bits
+-- what the totals need: bytes in use that are not below 0, and all bytes together below 2^64
 pub record HasTotals (s : Shown) : Type 0 where
   pub idle : AreWithinSystem s.arenas
   pub fits : system_bytes_of s.arenas + s.dials.bytes < 2 ^ 64
 
--- the arenas at the first places of the list of arenas, so many of them
-unfoldable pub at_first_places : ℕ → List Arena → List Arena
-at_first_places zero arenas = []
-at_first_places (suc place) arenas = at_first_places place arenas ++ filter (λ a. a.list == place) arenas
+-- an arena among others in list order: in front of the first whose place isn't lower
+unfoldable pub insert_by_place : Arena → List Arena → List Arena
+insert_by_place a [] = a ∷ []
+insert_by_place a (b ∷ others) = if nat_lt b.list a.list then b ∷ insert_by_place a others else a ∷ b ∷ others
 
--- the arenas in the order of the list of arenas
+-- the arenas in the order of the list of arenas; those with one place keep their order
 unfoldable pub in_list_order : List Arena → List Arena
-in_list_order arenas = at_first_places (length arenas) arenas
+in_list_order [] = []
+in_list_order (a ∷ arenas) = insert_by_place a (in_list_order arenas)
 
 -- a line with a number at its right
 unfoldable pub total_line : List ℕ → ℕ → List ℕ

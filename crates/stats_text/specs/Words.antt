@@ -20,6 +20,10 @@ block_text addr size = address addr ++ codes " " ++ decimal size
 unfoldable pub addresses : List ℕ → List ℕ
 addresses ats = flat_map (λ at. codes " " ++ address at) ats
 
+-- so many blanks
+abbrev pub blanks : ℕ → List ℕ
+blanks count = replicate count 32
+
 -- a number at the right of ten places; a longer one takes as many as it has digits
 unfoldable pub in_ten_places : ℕ → List ℕ
-in_ten_places n = replicate (10 - length (decimal n)) 32 ++ decimal n
+in_ten_places n = blanks (10 - length (decimal n)) ++ decimal n

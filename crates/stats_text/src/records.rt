@@ -40,7 +40,7 @@ pub enum Outcome {
         size: Size,
         from: Source3,
     },
-    /// Realloc left the block in its place, in an arena under hold `hold`.
+    /// Realloc left the block in its place; in an arena by the hold that stands at place `hold` of its journal.
     Kept {
         addr: Addr,
         size: Size,
@@ -87,7 +87,7 @@ pub struct Record {
     pub said: Outcome,
 }
 
-/// Appends the place of a hold in its arena's journal, where `threads`.
+/// Appends the place of a hold in its arena's journal, which only a report of threads shows.
 #[tactic(auto, unfolding(crate::specs::Records::hold_text))]
 fn push_hold(out: &mut Vec<u8>, threads: bool, hold: u64) -> Result<(), NoMemory>
     ensures { OnOk result (out.new.items ≡ out.old.items ++ hold_text threads hold) }
@@ -222,7 +222,8 @@ fn push_answer(out: &mut Vec<u8>, said: Outcome, threads: bool) -> Result<(), No
     }
 }
 
-/// Appends the record of a line: the line, ` -> ` and the answer, with the places of holds where `threads`.
+/// Appends the record of a line: the line, ` -> ` and the answer. In a report of threads (`threads`) it also shows
+/// the places of holds.
 #[tactic(auto, unfolding(crate::specs::Records::record_text))]
 pub fn append_record(
     out: &mut Vec<u8>,
@@ -239,7 +240,7 @@ pub fn append_record(
     push_text(out, b"\n")
 }
 
-/// The record's line, with the places of holds where `threads`.
+/// The record as a line of a report. In a report of threads (`threads`) it also shows the places of holds.
 pub fn record_line(alloc: Global, r: &Record, threads: bool) -> Result<Vec<u8>, NoMemory>
     ensures { IfOk result (λ text. text.items ≡ record_text r.now.line.items r.now.said threads) }
 {

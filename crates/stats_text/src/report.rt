@@ -1,4 +1,4 @@
-//! The report's sections behind the record lines.
+//! The report's sections between the records and the statistics.
 
 ghost use Rattle.std.specs.Prelude.{◌≡◌, ◌++◌, OnOk, IfOk};
 ghost use Rattle.stats_text.specs.Report.{number_or_dash, numbers_or_dash, comma_numbers, thread_line, thread_lines, book_line, dials_line, places_of};

@@ -1,5 +1,5 @@
-//! The forms of the lines, and that each public call succeeds. The texts wanted are those of a second
-//! implementation of the rules.
+//! The forms of the lines, and that each public call succeeds. Where nothing else is said, the texts wanted are
+//! those of a second implementation of the rules.
 
 ghost use Rattle.std.specs.Prelude.{◌≡◌, ◌<◌, ◌≤◌, ◌+◌, ◌^◌, true};
 ghost use Rattle.stats_text.specs.Totals.{HasTotals, AreWithinSystem, idle_bytes_of, system_bytes_of};
@@ -12,7 +12,7 @@ use std::alloc::Global;
 use std::process::Abort;
 use std::test::Fail;
 
-/// Whether the idle bytes of these chunks are among the system bytes.
+/// Whether the idle bytes of these chunks are at most the system bytes.
 #[tactic(auto, unfolding(crate::specs::Totals::idle_bytes_of, crate::specs::Totals::tile_bytes_of))]
 fn are_idle_within(tiles: &[TileView], system: u64) -> bool
     ensures { result ≡ true → idle_bytes_of tiles.now ≤ system }
@@ -29,14 +29,14 @@ fn are_idle_within(tiles: &[TileView], system: u64) -> bool
     true
 }
 
-/// Whether an arena has its idle bytes from the system.
+/// Whether an arena has no more idle bytes than system bytes.
 fn is_within(a: &ArenaView) -> bool
     ensures { result ≡ true → idle_bytes_of a.now.tiles ≤ a.now.system }
 {
     are_idle_within(&a.tiles, a.system)
 }
 
-/// Whether each arena has.
+/// Whether that holds of each arena.
 fn are_within(arenas: &[ArenaView]) -> bool
     ensures { result ≡ true → AreWithinSystem arenas.now }
 {
@@ -48,7 +48,7 @@ fn are_within(arenas: &[ArenaView]) -> bool
     true
 }
 
-/// Whether the bytes from the system and these have 64 bits together.
+/// Whether the bytes from the system and these are below 2^64 together.
 #[tactic(auto, unfolding(crate::specs::Totals::system_bytes_of))]
 fn fit(arenas: &[ArenaView], bytes: u64) -> bool
     ensures { result ≡ true → system_bytes_of arenas.now + bytes < 2 ^ 64 }
@@ -88,51 +88,20 @@ fn expect(rt: &impl Abort, alloc: Global, s: &Snapshot, want: &str) -> Result<()
 #[test]
 fn snapshots_are_written(rt: HostRuntime) -> Result<(), Fail> {
     let alloc = rt.alloc();
-    expect(&rt, alloc, &snapshots::nothing(alloc)?, texts::NOTHING)?;
-    expect(
-        &rt,
-        alloc,
-        &snapshots::two_blocks(alloc)?,
-        texts::TWO_BLOCKS,
-    )?;
-    expect(&rt, alloc, &snapshots::lists(alloc)?, texts::LISTS)?;
-    expect(
-        &rt,
-        alloc,
-        &snapshots::mapped_chunks(alloc)?,
-        texts::MAPPED_CHUNKS,
-    )?;
-    expect(
-        &rt,
-        alloc,
-        &snapshots::mapped_structure(alloc)?,
-        texts::MAPPED_STRUCTURE,
-    )?;
-    expect(
-        &rt,
-        alloc,
-        &snapshots::three_arenas(alloc)?,
-        texts::THREE_ARENAS,
-    )?;
-    expect(
-        &rt,
-        alloc,
-        &snapshots::fenced_piece(alloc)?,
-        texts::FENCED_PIECE,
-    )?;
-    expect(&rt, alloc, &snapshots::trimmed(alloc)?, texts::TRIMMED)?;
-    expect(
-        &rt,
-        alloc,
-        &snapshots::reused_arena(alloc)?,
-        texts::REUSED_ARENA,
-    )?;
-    expect(
-        &rt,
-        alloc,
-        &snapshots::ended_threads(alloc)?,
-        texts::ENDED_THREADS,
-    )?;
+    for (s, want) in [
+        (snapshots::nothing(alloc)?, texts::NOTHING),
+        (snapshots::two_blocks(alloc)?, texts::TWO_BLOCKS),
+        (snapshots::lists(alloc)?, texts::LISTS),
+        (snapshots::mapped_chunks(alloc)?, texts::MAPPED_CHUNKS),
+        (snapshots::mapped_structure(alloc)?, texts::MAPPED_STRUCTURE),
+        (snapshots::three_arenas(alloc)?, texts::THREE_ARENAS),
+        (snapshots::fenced_piece(alloc)?, texts::FENCED_PIECE),
+        (snapshots::trimmed_main(alloc)?, texts::TRIMMED_MAIN),
+        (snapshots::reused_arena(alloc)?, texts::REUSED_ARENA),
+        (snapshots::ended_threads(alloc)?, texts::ENDED_THREADS),
+    ] {
+        expect(&rt, alloc, &s, want)?;
+    }
     Ok(())
 }
 
@@ -163,13 +132,42 @@ fn totals_stand_alone(rt: HostRuntime) -> Result<(), Fail> {
     Ok(())
 }
 
-/// An answer is written so, and with the places of holds where the report is one of threads.
+/// Written by hand: the arenas at place 7, at place 200, and again at place 200.
+const BY_PLACE: &str = "\
+Arena 7:
+system bytes     =       8192
+in use bytes     =       8192
+Arena 200:
+system bytes     =       4096
+in use bytes     =       4096
+Arena 200:
+system bytes     =      12288
+in use bytes     =      12288
+Total (incl. mmap):
+system bytes     =      24576
+in use bytes     =      24576
+max mmap regions =          0
+max mmap bytes   =          0
+";
+
+/// No arena is left out, wherever it stands.
+#[test]
+fn far_places_are_written(rt: HostRuntime) -> Result<(), Fail> {
+    let alloc = rt.alloc();
+    let s = snapshots::far_places(alloc)?;
+    let fits = has_totals(&s);
+    assert!(rt; fits);
+    assert_eq!(rt; stats_text(alloc, &s)?.as_slice(), BY_PLACE.as_bytes());
+    Ok(())
+}
+
+/// An answer is written so, and with this hold behind it where the report is one of threads.
 fn expect_answer(
     rt: &impl Abort,
     alloc: Global,
     said: Outcome,
     serial: &str,
-    threads: &str,
+    hold: &str,
 ) -> Result<(), NoMemory> {
     let record = Record {
         line: Vec::from_slice(alloc, b"0 m 1 24")?,
@@ -177,7 +175,7 @@ fn expect_answer(
     };
     let mut text = record_line(alloc, &record, false)?;
     append_record(&mut text, b"0 f 1", &said, true)?;
-    let want = format!(in alloc; "0 m 1 24 -> {serial}\n0 f 1 -> {threads}\n")?;
+    let want = format!(in alloc; "0 m 1 24 -> {serial}\n0 f 1 -> {serial}{hold}\n")?;
     assert_eq!(rt; text.as_slice(), want.as_bytes());
     Ok(())
 }
@@ -186,144 +184,97 @@ const ADDR: Addr = Addr(0x555555559290);
 
 const SIZE: Size = Size(32);
 
+const ARENA: Source3 = Source3::Arena { a: 1, hold: 2 };
+
+const BINNED: Sink3 = Sink3::Binned { a: 1, hold: 12 };
+
+fn got(from: Source3) -> Outcome {
+    Outcome::Got {
+        addr: ADDR,
+        size: SIZE,
+        from,
+    }
+}
+
+fn kept(hold: Option<u64>) -> Outcome {
+    Outcome::Kept {
+        addr: ADDR,
+        size: SIZE,
+        hold,
+    }
+}
+
+fn moved(from: Source3) -> Outcome {
+    Outcome::Moved {
+        addr: ADDR,
+        size: SIZE,
+        from,
+    }
+}
+
+fn freed(to: Sink3, by_realloc: bool) -> Outcome {
+    Outcome::Freed { to, by_realloc }
+}
+
 #[test]
-fn answers_are_written(rt: HostRuntime) -> Result<(), Fail> {
-    let alloc = rt.alloc();
-    let (addr, size) = (ADDR, SIZE);
-    let arena = Source3::Arena { a: 1, hold: 2 };
-    let binned = Sink3::Binned { a: 1, hold: 12 };
-    for (said, serial, threads) in [
-        (
-            Outcome::Got {
-                addr,
-                size,
-                from: Source3::Cached,
-            },
-            "0x5555555592a0 32 cached",
-            "0x5555555592a0 32 cached",
-        ),
-        (
-            Outcome::Got {
-                addr,
-                size,
-                from: arena,
-            },
-            "0x5555555592a0 32 arena 1",
-            "0x5555555592a0 32 arena 1 hold 2",
-        ),
-        (
-            Outcome::Got {
-                addr,
-                size,
-                from: Source3::Mapped,
-            },
-            "0x5555555592a0 32 mapped",
-            "0x5555555592a0 32 mapped",
-        ),
-        (
-            Outcome::Kept {
-                addr,
-                size,
-                hold: None,
-            },
-            "0x5555555592a0 32 kept",
-            "0x5555555592a0 32 kept",
-        ),
-        (
-            Outcome::Kept {
-                addr,
-                size,
-                hold: Some(3),
-            },
-            "0x5555555592a0 32 kept",
-            "0x5555555592a0 32 kept hold 3",
-        ),
-        (
-            Outcome::Moved {
-                addr,
-                size,
-                from: Source3::Cached,
-            },
-            "0x5555555592a0 32 moved cached",
-            "0x5555555592a0 32 moved cached",
-        ),
-        (
-            Outcome::Moved {
-                addr,
-                size,
-                from: arena,
-            },
-            "0x5555555592a0 32 moved arena 1",
-            "0x5555555592a0 32 moved arena 1 hold 2",
-        ),
-        (
-            Outcome::Moved {
-                addr,
-                size,
-                from: Source3::Mapped,
-            },
-            "0x5555555592a0 32 moved mapped",
-            "0x5555555592a0 32 moved mapped",
-        ),
-        (Outcome::Null(0), "null big", "null big"),
-        (Outcome::Null(1), "null align", "null align"),
-        (Outcome::Null(2), "null refused", "null refused"),
-        (
-            Outcome::Freed {
-                to: Sink3::Cached,
-                by_realloc: false,
-            },
-            "cached",
-            "cached",
-        ),
-        (
-            Outcome::Freed {
-                to: Sink3::Fast { a: 0, bin: 6 },
-                by_realloc: false,
-            },
-            "fast 0 6",
-            "fast 0 6",
-        ),
-        (
-            Outcome::Freed {
-                to: binned,
-                by_realloc: false,
-            },
-            "binned 1",
-            "binned 1 hold 12",
-        ),
-        (
-            Outcome::Freed {
-                to: Sink3::Unmapped,
-                by_realloc: false,
-            },
-            "unmapped",
-            "unmapped",
-        ),
-        (
-            Outcome::Freed {
-                to: binned,
-                by_realloc: true,
-            },
-            "freed binned 1",
-            "freed binned 1 hold 12",
-        ),
-        (Outcome::Posted, "posted", "posted"),
-        (
-            Outcome::Taken { addr, size },
-            "taken 0x5555555592a0 32",
-            "taken 0x5555555592a0 32",
-        ),
-        (Outcome::Missed { seen: 0 }, "missed empty", "missed empty"),
-        (
-            Outcome::Missed { seen: 1 },
-            "missed claimed",
-            "missed claimed",
-        ),
-        (Outcome::Skip, "skip", "skip"),
-        (Outcome::Ended, "ended", "ended"),
+fn blocks_are_written(rt: HostRuntime) -> Result<(), Fail> {
+    for (said, serial, hold) in [
+        (got(Source3::Cached), "0x5555555592a0 32 cached", ""),
+        (got(ARENA), "0x5555555592a0 32 arena 1", " hold 2"),
+        (got(Source3::Mapped), "0x5555555592a0 32 mapped", ""),
+        (kept(None), "0x5555555592a0 32 kept", ""),
+        (kept(Some(3)), "0x5555555592a0 32 kept", " hold 3"),
+        (moved(Source3::Cached), "0x5555555592a0 32 moved cached", ""),
+        (moved(ARENA), "0x5555555592a0 32 moved arena 1", " hold 2"),
+        (moved(Source3::Mapped), "0x5555555592a0 32 moved mapped", ""),
     ] {
-        expect_answer(&rt, alloc, said, serial, threads)?;
+        expect_answer(&rt, rt.alloc(), said, serial, hold)?;
+    }
+    Ok(())
+}
+
+#[test]
+fn frees_are_written(rt: HostRuntime) -> Result<(), Fail> {
+    for (said, serial, hold) in [
+        (freed(Sink3::Cached, false), "cached", ""),
+        (freed(Sink3::Fast { a: 0, bin: 6 }, false), "fast 0 6", ""),
+        (freed(BINNED, false), "binned 1", " hold 12"),
+        (freed(Sink3::Unmapped, false), "unmapped", ""),
+        (freed(BINNED, true), "freed binned 1", " hold 12"),
+    ] {
+        expect_answer(&rt, rt.alloc(), said, serial, hold)?;
+    }
+    Ok(())
+}
+
+#[test]
+fn trays_are_written(rt: HostRuntime) -> Result<(), Fail> {
+    let taken = Outcome::Taken {
+        addr: ADDR,
+        size: SIZE,
+    };
+    for (said, text) in [
+        (Outcome::Posted, "posted"),
+        (taken, "taken 0x5555555592a0 32"),
+        (Outcome::Missed { seen: 0 }, "missed empty"),
+        (Outcome::Missed { seen: 1 }, "missed claimed"),
+    ] {
+        expect_answer(&rt, rt.alloc(), said, text, "")?;
+    }
+    Ok(())
+}
+
+/// Answers of calls that gave and took no block.
+#[test]
+fn other_answers_are_written(rt: HostRuntime) -> Result<(), Fail> {
+    for (said, text) in [
+        (Outcome::Null(0), "null big"),
+        (Outcome::Null(1), "null align"),
+        (Outcome::Null(2), "null refused"),
+        (Outcome::Skip, "skip"),
+        (Outcome::Ended, "ended"),
+    ] {
+        expect_answer(&rt, rt.alloc(), said, text, "")?;
     }
     Ok(())
 }

@@ -165,7 +165,7 @@ max mmap regions =          0
 max mmap bytes   =          0
 ";
 
-pub const TRIMMED: &str = "\
+pub const TRIMMED_MAIN: &str = "\
 arena 0 system 253952 max 352256 list 0 last -
 0x555555559010 656 structure 0
 0x5555555592a0 120016 live 0 1

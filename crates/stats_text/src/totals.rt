@@ -1,7 +1,7 @@
-//! The bytes in use, and the last lines of malloc_stats(3).
+//! The bytes in use, and the text of malloc_stats(3).
 
-ghost use Rattle.std.specs.Prelude.{◌≡◌, ◌≤◌, ◌<◌, ◌+◌, ◌^◌, ◌++◌, ◌==◌, filter, ℕ, OnOk, IfOk};
-ghost use Rattle.stats_text.specs.Totals.{HasTotals, AreWithinSystem, is_idle_place, in_use_of, idle_bytes_of, held_bytes_of, tile_bytes_of, system_bytes_of, used_bytes_of, total_line, bytes_lines, arena_totals, all_arena_totals, in_list_order, mapped_maxima, totals_lines, totals_of, statistics_of};
+ghost use Rattle.std.specs.Prelude.{◌≡◌, ◌≤◌, ◌<◌, ◌+◌, ◌^◌, ◌++◌, ◌==◌, All, filter, ℕ, IsPermutation, OnOk, IfOk};
+ghost use Rattle.stats_text.specs.Totals.{HasTotals, AreWithinSystem, is_idle_place, in_use_of, idle_bytes_of, in_use_bytes_of, tile_bytes_of, system_bytes_of, used_bytes_of, total_line, bytes_lines, arena_totals, all_arena_totals, in_list_order, mapped_maxima, totals_lines, totals_of, statistics_of};
 
 use crate::views::{ArenaView, DialState, Place, Snapshot, TileView};
 use crate::words::{push_numbered, push_right, push_text};
@@ -30,13 +30,13 @@ fn idle_bytes(tiles: &[TileView]) -> u64
 
 /// The bytes of an arena that are in use: those that it has from the system less top and the chunks in its
 /// fast and other bins. Cached chunks count as in use (glibc's `__malloc_stats`, in 64 bits).
-#[tactic(auto, using(crate::proofs::Sums::idle_and_held), unfolding(crate::specs::Totals::in_use_of))]
+#[tactic(auto, using(crate::proofs::Sums::idle_and_in_use), unfolding(crate::specs::Totals::in_use_of))]
 pub fn in_use(a: &ArenaView) -> u64
     requires { idle_bytes_of a.now.tiles ≤ a.now.system }
     ensures value { result ≡ in_use_of a.now }
-    // Where chunks and headers make up all system bytes, these are the held chunks and the headers.
+    // Where chunks and headers make up all system bytes, these are the bytes of the chunks in use and of the headers.
     ensures parts { (headers : ℕ) → tile_bytes_of a.now.tiles + headers ≡ a.now.system →
-        result ≡ held_bytes_of a.now.tiles + headers }
+        result ≡ in_use_bytes_of a.now.tiles + headers }
 {
     a.system - idle_bytes(&a.tiles)
 }
@@ -110,14 +110,26 @@ fn push_arena_at(out: &mut Vec<u8>, arenas: &[ArenaView], place: usize) -> Resul
     Ok(())
 }
 
+/// How many places the list of arenas has: one more than the highest that an arena stands at.
+fn place_count(arenas: &[ArenaView]) -> usize
+    ensures all { All (λ a. a.list < result) arenas.now }
+    ensures few { result ≤ 256 }
+{
+    let mut count = 0;
+    for arena in arenas {
+        count = count.max(usize::from(arena.list) + 1);
+    }
+    count
+}
+
 /// Appends the lines of all arenas, in the order of the list of arenas.
-#[tactic(auto, unfolding(crate::specs::Totals::in_list_order, crate::specs::Totals::at_first_places, crate::specs::Totals::all_arena_totals))]
+#[tactic(auto, using(crate::proofs::ListOrder::all_places))]
 fn push_in_list_order(out: &mut Vec<u8>, arenas: &[ArenaView]) -> Result<(), NoMemory>
     requires { AreWithinSystem arenas.now }
     ensures { OnOk result (out.new.items ≡
         out.old.items ++ all_arena_totals (in_list_order arenas.now)) }
 {
-    for place in 0..arenas.len() {
+    for place in 0..place_count(arenas) {
         push_arena_at(out, arenas, place)?;
     }
     Ok(())
@@ -154,10 +166,12 @@ pub fn append_totals(out: &mut Vec<u8>, s: &Snapshot) -> Result<(), NoMemory>
 }
 
 /// Appends the text of malloc_stats(3): each arena in list order, and the totals.
-#[tactic(auto, unfolding(crate::specs::Totals::statistics_of))]
+#[tactic(auto, using(crate::proofs::ListOrder::none_left_out), unfolding(crate::specs::Totals::statistics_of))]
 pub fn append_stats(out: &mut Vec<u8>, s: &Snapshot) -> Result<(), NoMemory>
     requires { HasTotals s.now }
-    ensures { OnOk result (out.new.items ≡ out.old.items ++ statistics_of s.now) }
+    ensures text { OnOk result (out.new.items ≡ out.old.items ++ statistics_of s.now) }
+    // None is left out, wherever the arenas stand.
+    ensures each { IsPermutation s.now.arenas (in_list_order s.now.arenas) }
 {
     push_in_list_order(out, &s.arenas)?;
     append_totals(out, s)

@@ -1,4 +1,4 @@
-//! What a report shows: the places of all chunks, as plain data.
+//! What a report shows behind its records, as plain data.
 
 use chunk_tags::{Addr, Size};
 use std::marker::Model;

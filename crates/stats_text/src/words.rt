@@ -1,8 +1,8 @@
 //! The words of a report's lines: texts, numbers and addresses.
 
-ghost use Rattle.std.specs.Prelude.{◌≡◌, ◌<◌, ◌++◌, OnOk, false, decimal};
+ghost use Rattle.std.specs.Prelude.{◌≡◌, ◌-◌, ◌<◌, ◌++◌, OnOk, false, decimal};
 ghost use Rattle.std.specs.Fmt.{digit_glyph};
-ghost use Rattle.stats_text.specs.Words.{hex_digits, address, addresses, block_text, in_ten_places};
+ghost use Rattle.stats_text.specs.Words.{hex_digits, address, addresses, block_text, blanks, in_ten_places};
 
 use chunk_tags::{Addr, NoMemory, Size};
 use itoa::Buffer;
@@ -37,6 +37,13 @@ pub(crate) fn push_numbered(out: &mut Vec<u8>, word: &[u8], n: u64) -> Result<()
     push_number(out, n)
 }
 
+/// The blanks before a number of `digits` digits.
+fn blanks_before(digits: usize) -> &'static [u8]
+    ensures { result.now ≡ blanks (10 - digits) }
+{
+    &BLANKS[digits.min(BLANKS.len())..]
+}
+
 /// Appends a number at the right of ten places.
 #[tactic(auto, unfolding(crate::specs::Words::in_ten_places))]
 pub(crate) fn push_right(out: &mut Vec<u8>, n: u64) -> Result<(), NoMemory>
@@ -44,9 +51,7 @@ pub(crate) fn push_right(out: &mut Vec<u8>, n: u64) -> Result<(), NoMemory>
 {
     let mut buffer = Buffer::new();
     let digits = buffer.format(n).as_bytes();
-    if let Some(blanks) = BLANKS.get(digits.len()..) {
-        push_text(out, blanks)?;
-    }
+    push_text(out, blanks_before(digits.len()))?;
     push_text(out, digits)
 }
 

@@ -1,5 +1,6 @@
 use Rattle.std.proofs.Common.{◌≡◌, ◌++◌}
-use Rattle.stats_text.specs.Totals.{all_arena_totals, at_first_places}
+use Rattle.stats_text.specs.Totals.{all_arena_totals}
+use Rattle.stats_text.proofs.ListOrder.{at_first_places}
 use Rattle.stats_text.proofs.totals.push_in_list_order.Given as goal
 
 abbrev pub invariant-loop-place : goal.invariant-loop-place
