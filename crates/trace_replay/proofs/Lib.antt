@@ -1,6 +1,14 @@
 pub mod ReadLoop
+pub mod Numbered
+pub mod RisingNumbers
+pub mod Fills
+pub mod ByAddress
+pub mod CutBlocks
+pub mod NamedBlocks
+pub mod CutRuns
+pub mod TiledReports
 pub mod WriteLoop
-pub mod Live
+pub mod LiveChunks
 pub mod ReplayLoop
 pub mod Refusals
 pub mod Reports

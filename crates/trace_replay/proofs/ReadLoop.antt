@@ -1,20 +1,22 @@
 -- Reading in pieces.
-use Rattle.std.proofs.Common.{◌≡◌, ℕ, ◌<◌, ◌≤◌, List, [], ◌++◌, length, take, drop, Option, Some, refl, sym, ap, subst, ◌∙◌, append_assoc, append-nil, arith, length-append}
+use Rattle.std.proofs.Common.{◌≡◌, ℕ, ◌+◌, ◌<◌, ◌≤◌, List, [], ◌++◌, length, take, drop, Option, Some, refl, sym, ap, subst, ◌∙◌, append_assoc, append-nil, arith, length-append}
 use Rattle.std.proofs.lemmas.List.{take-append-drop}
-use Rattle.trace_replay.specs.Streams.{Takes, IsAtEnd}
-use Rattle.trace_replay.specs.Input.{max_input, IsWhole, IsTooMuch}
+use Rattle.std.proofs.Math.Seq.{drop-append_seam}
+use Rattle.address_space.specs.Ports.{Rose}
+use Rattle.trace_replay.specs.Streams.{Takes, IsAtEnd, FailsToRead}
+use Rattle.trace_replay.specs.Input.{max_input, read_room, IsWhole, IsTooMuch, IsCutOff}
 
 -- what was read so far, and what is left, are all that was left at first
 pub record SoFar {S : Type 0} (left : S → Option (List ℕ)) (faults : S → ℕ) (first now : S) (read : List ℕ) : Type 0 where
-  pub later : faults first ≤ faults now
+  pub unfaulted : faults now ≡ faults first
   pub told : (all : List ℕ) → left first ≡ Some all → (rest : List ℕ) × (read ++ rest ≡ all) × (left now ≡ Some rest)
 
 pub nothing_yet : {S : Type 0} (left : S → Option (List ℕ)) (faults : S → ℕ) (first : S) → SoFar left faults first first []
-nothing_yet left faults first = record { later = omega arith; told = λ all h. (all, refl, h) }
+nothing_yet left faults first = record { unfaulted = refl; told = λ all h. (all, refl, h) }
 
-pub one_more : {S : Type 0} (left : S → Option (List ℕ)) (faults : S → ℕ) (first now next : S) (read room : List ℕ) (n : ℕ) → SoFar left faults first now read → faults now ≤ faults next → Takes left now room n next → SoFar left faults first next (read ++ take n room)
-one_more left faults first now next read room n so_far later takes = record {
-  later = omega (arith, so_far.later);
+pub one_more : {S : Type 0} (left : S → Option (List ℕ)) (faults : S → ℕ) (first now next : S) (read room : List ℕ) (n : ℕ) → SoFar left faults first now read → Takes left faults now room n next → SoFar left faults first next (read ++ take n room)
+one_more left faults first now next read room n so_far takes = record {
+  unfaulted = takes.unfaulted ∙ so_far.unfaulted;
   told = λ all h.
       let was = so_far.told all h in
       let took = takes.told was.0 was.2 in (
@@ -27,8 +29,9 @@ one_more left faults first now next read room n so_far later takes = record {
       );
 }
 
-pub at_the_end : {S : Type 0} (left : S → Option (List ℕ)) (faults : S → ℕ) (first now next : S) (read : List ℕ) → length read ≤ max_input → SoFar left faults first now read → IsAtEnd left now next → IsWhole left first next read
+pub at_the_end : {S : Type 0} (left : S → Option (List ℕ)) (faults : S → ℕ) (first now next : S) (read : List ℕ) → length read ≤ max_input → SoFar left faults first now read → IsAtEnd left faults now next → IsWhole left faults first next read
 at_the_end left faults first now next read short so_far ended = record {
+  unfaulted = ended.unfaulted ∙ so_far.unfaulted;
   told = λ all h.
       let was = so_far.told all h in
       let none = ended.told was.0 was.2 in
@@ -36,9 +39,24 @@ at_the_end left faults first now next read short so_far ended = record {
       (whole, subst (λ (bytes : List ℕ). length bytes ≤ max_input) whole short, none.1);
 }
 
-pub more_came : {S : Type 0} (left : S → Option (List ℕ)) (faults : S → ℕ) (first now : S) (read : List ℕ) → max_input < length read → SoFar left faults first now read → IsTooMuch left first
-more_came left faults first now read long so_far = record {
+-- what was taken of all bytes
+taken : (all read rest : List ℕ) → read ++ rest ≡ all → (length read ≤ length all) × (rest ≡ drop (length read) all)
+taken all read rest is = (omega (arith, length-append read rest, ap length is), sym (drop-append_seam read rest) ∙ ap (drop (length read)) is)
+
+pub more_came : {S : Type 0} (left : S → Option (List ℕ)) (faults : S → ℕ) (first now : S) (read : List ℕ) → max_input < length read → length read ≤ max_input + read_room → SoFar left faults first now read → IsTooMuch left faults first now
+more_came left faults first now read long bound so_far = record {
+  unfaulted = so_far.unfaulted;
   told = λ all h.
       let was = so_far.told all h in
-      omega (arith, length-append read was.0, ap length was.1);
+      let took = taken all read was.0 was.1 in
+      (length read, long, bound, took.0, was.2 ∙ ap (λ (rest : List ℕ). Some rest) took.1);
+}
+
+pub cut_off : {S : Type 0} (left : S → Option (List ℕ)) (faults : S → ℕ) (first now next : S) (read : List ℕ) → length read ≤ max_input → SoFar left faults first now read → FailsToRead left faults now next → IsCutOff left faults first next
+cut_off left faults first now next read short so_far fails = record {
+  rose = subst (λ (n : ℕ). Rose n (faults next)) so_far.unfaulted fails.rose;
+  told = λ all h.
+      let was = so_far.told all h in
+      let took = taken all read was.0 was.1 in
+      (length read, short, took.0, fails.told was.0 was.2 ∙ ap (λ (rest : List ℕ). Some rest) took.1);
 }

@@ -11,7 +11,7 @@ use Rattle.trace_replay.specs.declared.exit.Exit.{Exit}
 use Rattle.trace_replay.specs.declared.exit.Exit.TheVariants.{NoMemory}
 use Rattle.trace_replay.specs.World.{World, step}
 use Rattle.trace_replay.specs.SerialText.{in_front, answer_of, recorded, replayed}
-use Rattle.trace_replay.specs.Replays.{RefusesAs, Records, Appends}
+use Rattle.trace_replay.specs.Replays.{RefusesAs, AppendsRecord, AppendsRecords}
 
 -- the records so far, in front of what is written for the rest, are what is written for all
 pub record SoFar {K : Type 0} (port : Port K) (t : Tunables) (lines rest : List Line) (first now : World K) (before out : List ℕ) : Type 0 where
@@ -36,13 +36,13 @@ unfolding replayed
 replayed-cons port t line rest w = refl
 
 -- a line's text goes into a buffer that was cleared, and from there into its record
-pub line_recorded : {K : Type 0} (line : Line) (said : Outcome) (w : World K) (answer : Outcome × World K) (out after cleared scratch text : List ℕ) → answer ≡ (said, w) → cleared ≡ [] → scratch ≡ cleared ++ spelling_of line → text ≡ scratch → after ≡ out ++ record_text text said false → Records out after line w answer
+pub line_recorded : {K : Type 0} (line : Line) (said : Outcome) (w : World K) (answer : Outcome × World K) (out after cleared scratch text : List ℕ) → answer ≡ (said, w) → cleared ≡ [] → scratch ≡ cleared ++ spelling_of line → text ≡ scratch → after ≡ out ++ record_text text said false → AppendsRecord out after line w answer
 line_recorded line said w answer out after cleared scratch text answered empty spelled read written = record {
   text = rw (answered, ← (read ∙ spelled ∙ ap (λ (front : List ℕ). front ++ spelling_of line) empty)) written;
   world = ap (λ (a : Outcome × World _). a.1) answered;
 }
 
-one_more : {K : Type 0} (port : Port K) (t : Tunables) (lines : List Line) (line : Line) (rest : List Line) (first now next : World K) (before out after : List ℕ) (answer : Outcome × World K) → SoFar port t lines (line ∷ rest) first now before out → answer_of line (step port t line now) ≡ Ok answer → Records out after line next answer → SoFar port t lines rest first next before after
+one_more : {K : Type 0} (port : Port K) (t : Tunables) (lines : List Line) (line : Line) (rest : List Line) (first now next : World K) (before out after : List ℕ) (answer : Outcome × World K) → SoFar port t lines (line ∷ rest) first now before out → answer_of line (step port t line now) ≡ Ok answer → AppendsRecord out after line next answer → SoFar port t lines rest first next before after
 one_more port t lines line rest first now next before out after answer so_far answered recorded_so =
     let text = record_text (spelling_of line) answer.0 false in
     record {
@@ -65,7 +65,7 @@ drop_at : (lines : List Line) (i : ℕ) (d : Line) → i < length lines → drop
 drop_at lines i d lt = rw add-one (drop-cons lines i d lt)
 
 -- the loop goes on behind a line that was answered
-pub goes_on : {K : Type 0} (port : Port K) (t : Tunables) (lines : List Line) (i : ℕ) (d : Line) (first now next : World K) (before out after : List ℕ) (answer : Outcome × World K) → i < length lines → SoFar port t lines (drop i lines) first now before out → answer_of (get_or lines i d) (step port t (get_or lines i d) now) ≡ Ok answer → Records out after (get_or lines i d) next answer → SoFar port t lines (drop (i + 1) lines) first next before after
+pub goes_on : {K : Type 0} (port : Port K) (t : Tunables) (lines : List Line) (i : ℕ) (d : Line) (first now next : World K) (before out after : List ℕ) (answer : Outcome × World K) → i < length lines → SoFar port t lines (drop i lines) first now before out → answer_of (get_or lines i d) (step port t (get_or lines i d) now) ≡ Ok answer → AppendsRecord out after (get_or lines i d) next answer → SoFar port t lines (drop (i + 1) lines) first next before after
 goes_on port t lines i d first now next before out after answer lt so_far answered recorded_so =
     one_more port t lines (get_or lines i d) (drop (i + 1) lines) first now next before out after answer
     (subst (λ (rest : List Line). SoFar port t lines rest first now before out) (drop_at lines i d lt) so_far) answered recorded_so
@@ -77,7 +77,7 @@ ends port t lines i d first now before out exit lt so_far answered =
     refused port t lines (get_or lines i d) (drop (i + 1) lines) first now before out exit
     (subst (λ (rest : List Line). SoFar port t lines rest first now before out) (drop_at lines i d lt) so_far) answered
 
-pub finished : {K : Type 0} (port : Port K) (t : Tunables) (lines : List Line) (first now : World K) (before out : List ℕ) → SoFar port t lines [] first now before out → (records : List ℕ × World K) × (replayed port t lines first ≡ Ok records) × Appends before out now records
+pub finished : {K : Type 0} (port : Port K) (t : Tunables) (lines : List Line) (first now : World K) (before out : List ℕ) → SoFar port t lines [] first now before out → (records : List ℕ × World K) × (replayed port t lines first ≡ Ok records) × AppendsRecords before out now records
 unfolding replayed
 finished port t lines first now before out so_far =
     ((so_far.text ++ [], now), sym so_far.all, record { text = so_far.written ∙ ap (λ (text : List ℕ). before ++ text) (sym (append-nil so_far.text)); world = refl })

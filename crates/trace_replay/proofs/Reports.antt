@@ -9,12 +9,12 @@ use Rattle.trace_replay.specs.declared.exit.Exit.{Exit}
 use Rattle.trace_replay.specs.World.{World}
 use Rattle.trace_replay.specs.SerialText.{has_lines, sections, replayed, started, reported, report_of}
 use Rattle.trace_replay.specs.Places.{shown_of}
-use Rattle.trace_replay.specs.Replays.{RefusesAs, Appends}
+use Rattle.trace_replay.specs.Replays.{RefusesAs, AppendsRecords}
 use Rattle.trace_replay.proofs.Refusals.{handed_on}
 
 -- the run over all lines from the world that a run begins with, w; then the sections on the world at the end, now
-pub whole_report : {K : Type 0} (port : Port K) (t : Tunables) (lines : List Line) (kernel : K) (w now : World K) (before out all : List ℕ) (s : Shown) → w ≡ started t kernel → before ≡ codes "ptmreport 1 serial\n" → (records : List ℕ × World K) × (replayed port t lines w ≡ Ok records) × Appends before out now records → s ≡ shown_of t (has_lines lines) now → all ≡ out ++ sections s → (text : List ℕ) × (report_of port t lines kernel ≡ Ok text) × (all ≡ text)
-whole_report port t lines kernel w now before out all s first header run shows written =
+pub report_served : {K : Type 0} (port : Port K) (t : Tunables) (lines : List Line) (kernel : K) (w now : World K) (before out all : List ℕ) (s : Shown) → w ≡ started t kernel → before ≡ codes "ptmreport 1 serial\n" → (records : List ℕ × World K) × (replayed port t lines w ≡ Ok records) × AppendsRecords before out now records → s ≡ shown_of t (has_lines lines) now → all ≡ out ++ sections s → (text : List ℕ) × (report_of port t lines kernel ≡ Ok text) × (all ≡ text)
+report_served port t lines kernel w now before out all s first header run shows written =
     let records : List ℕ = codes "ptmreport 1 serial\n" ++ run.0.0 in (
       records ++ sections (shown_of t (has_lines lines) run.0.1),
       ap (reported t (has_lines lines)) (ap (replayed port t lines) (sym first) ∙ run.1),

@@ -1,5 +1,5 @@
 -- Writing in pieces.
-use Rattle.std.proofs.Common.{◌≡◌, ℕ, ◌≤◌, List, [], ◌++◌, length, take, drop, Option, Some, refl, sym, ap, ◌∙◌, append_assoc, append-nil, arith}
+use Rattle.std.proofs.Common.{◌≡◌, ℕ, List, [], ◌++◌, length, take, drop, Option, Some, refl, sym, ap, ◌∙◌, append_assoc, append-nil, arith}
 use Rattle.std.proofs.lemmas.List.{take-append-drop, nil_from_length}
 use Rattle.std.proofs.Math.Seq.{take-append_seam}
 use Rattle.trace_replay.specs.Streams.{Written, Adds, FailsAlone, IsFlushed}
@@ -7,18 +7,18 @@ use Rattle.trace_replay.specs.Output.{IsWritten, IsCutShort}
 
 -- a front of the text stands behind what was written before, and the rest is to come
 pub record IsUnderWay {S : Type 0} (written : S → Option Written) (faults : S → ℕ) (first now : S) (text rest : List ℕ) : Type 0 where
-  pub later : faults first ≤ faults now
+  pub unfaulted : faults now ≡ faults first
   pub told : (w : Written) → written first ≡ Some w → (front : List ℕ) × (front ++ rest ≡ text) × (written now ≡ Some (record w { bytes = w.bytes ++ front }))
 
 pub nothing_yet : {S : Type 0} (written : S → Option Written) (faults : S → ℕ) (first : S) (text : List ℕ) → IsUnderWay written faults first first text text
 nothing_yet written faults first text = record {
-  later = omega arith;
+  unfaulted = refl;
   told = λ w h. ([], refl, h ∙ ap (λ (bytes : List ℕ). Some (record w { bytes = bytes })) (sym (append-nil w.bytes)));
 }
 
-pub one_more : {S : Type 0} (written : S → Option Written) (faults : S → ℕ) (first now next : S) (text rest : List ℕ) (n : ℕ) → IsUnderWay written faults first now text rest → faults now ≤ faults next → Adds written now rest n next → IsUnderWay written faults first next text (drop n rest)
-one_more written faults first now next text rest n under_way later adds = record {
-  later = omega (arith, under_way.later);
+pub one_more : {S : Type 0} (written : S → Option Written) (faults : S → ℕ) (first now next : S) (text rest : List ℕ) (n : ℕ) → IsUnderWay written faults first now text rest → Adds written faults now rest n next → IsUnderWay written faults first next text (drop n rest)
+one_more written faults first now next text rest n under_way adds = record {
+  unfaulted = adds.unfaulted ∙ under_way.unfaulted;
   told = λ w h.
       let was = under_way.told w h in (
         was.0 ++ take n rest,
@@ -27,8 +27,9 @@ one_more written faults first now next text rest n under_way later adds = record
       );
 }
 
-pub all_flushed : {S : Type 0} (written : S → Option Written) (faults : S → ℕ) (first now next : S) (text rest : List ℕ) → IsUnderWay written faults first now text rest → length rest ≡ 0 → IsFlushed written now next → IsWritten written first text next
+pub all_flushed : {S : Type 0} (written : S → Option Written) (faults : S → ℕ) (first now next : S) (text rest : List ℕ) → IsUnderWay written faults first now text rest → length rest ≡ 0 → IsFlushed written faults now next → IsWritten written faults first text next
 all_flushed written faults first now next text rest under_way empty flushed = record {
+  unfaulted = flushed.unfaulted ∙ under_way.unfaulted;
   told = λ w h.
       let was = under_way.told w h in
       let whole : was.0 ≡ text = sym (append-nil was.0) ∙ ap (λ (more : List ℕ). was.0 ++ more) (sym (nil_from_length rest empty)) ∙ was.1 in
@@ -38,7 +39,7 @@ all_flushed written faults first now next text rest under_way empty flushed = re
 
 pub cut_short : {S : Type 0} (written : S → Option Written) (faults : S → ℕ) (first now next : S) (text rest : List ℕ) → IsUnderWay written faults first now text rest → FailsAlone written faults now next → IsCutShort written faults first text next
 cut_short written faults first now next text rest under_way fails = record {
-  rose = omega (arith, under_way.later, fails.rose);
+  rose = omega (arith, under_way.unfaulted, fails.rose);
   told = λ w h.
       let was = under_way.told w h in
       let front : take (length was.0) text ≡ was.0 = ap (take (length was.0)) (sym was.1) ∙ take-append_seam was.0 rest in (

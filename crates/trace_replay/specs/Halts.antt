@@ -1,7 +1,8 @@
--- What a call of a process answers, beside the rules (this project's own).
+-- What a call of a process answers, beside the rules (this project's own). No public
+-- clause cites this file.
 use Rattle.std.specs.Prelude.{◌≡◌, Option, Some, None, Result, Ok, Err}
-use Rattle.trace_replay.specs.declared.top.Halt.{Halt}
-use Rattle.trace_replay.specs.declared.top.Halt.TheVariants.{NoMemory, NotBuilt}
+use Rattle.trace_replay.specs.declared.halt.Halt.{Halt}
+use Rattle.trace_replay.specs.declared.halt.Halt.TheVariants.{NoMemory, NotBuilt}
 
 -- a call that changes the world alone: into now, where the rules give that; want of memory is free
 abbrev pub Leaves : {W : Type 0} → Result (Unit {0}) Halt → W → Option W → Type 0

@@ -1,7 +1,7 @@
 -- When the calls of an object in memory fail (this project's own).
 use Rattle.std.specs.Prelude.{ℕ, min, ◌==◌, Bool, ◌||◌, nat_eq, List, length, if◌then◌else◌}
 use Rattle.std.specs.List.{list_any}
-use Rattle.address_space.specs.Budgets.{counted}
+use Rattle.address_space.specs.Ports.{counted}
 use Rattle.trace_replay.specs.declared.streams.Put.{Put}
 use Rattle.trace_replay.specs.declared.streams.Put.TheVariants.{Took, Failed}
 

@@ -13,3 +13,4 @@ pub mod Headline
 pub mod Messages
 pub mod Places
 pub mod ByIndex
+pub mod Tiling

@@ -1,6 +1,6 @@
 -- What the program says of how a run ended, behind its name (this project's own).
-use Rattle.std.specs.Prelude.{ℕ, List, ◌++◌, codes, decimal}
-use Rattle.trace_text.specs.Names.{name_of}
+use Rattle.std.specs.Prelude.{ℕ, List, [], ◌++◌, codes, decimal}
+use Rattle.trace_text.specs.FaultWords.{word_of}
 use Rattle.trace_replay.specs.declared.exit.Large.{Large}
 use Rattle.trace_replay.specs.declared.exit.Large.TheVariants.{Thread, Words}
 use Rattle.trace_replay.specs.declared.exit.Exit.{Exit}
@@ -10,10 +10,11 @@ abbrev pub large_of : Large → List ℕ
 large_of (Thread thread) = codes "thread " ++ decimal thread ++ codes " with --threads"
 large_of (Words words) = codes "layout needs " ++ decimal words ++ codes " words"
 
+-- nothing is said of a run that is done
 abbrev pub message_of : Exit → List ℕ
-message_of Done = codes "done"
+message_of Done = []
 message_of Usage = codes "usage"
-message_of (BadTrace line why) = codes "line " ++ decimal line ++ codes ": " ++ name_of why
+message_of (BadTrace line why) = codes "line " ++ decimal line ++ codes ": " ++ word_of why
 message_of TooLong = codes "input too long"
 message_of (TooLarge what) = large_of what
 message_of ReadFault = codes "read failed"

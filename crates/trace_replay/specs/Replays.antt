@@ -19,11 +19,11 @@ Serves {A} {B} Shows (Ok a) rules = (b : B) × (rules ≡ Ok b) × Shows a b
 Serves Shows (Err exit) rules = RefusesAs exit rules
 
 -- one line: its record stands behind what was written
-pub record Records {K : Type 0} (before now : List ℕ) (line : Line) (w : World K) (answer : Outcome × World K) : Type 0 where
+pub record AppendsRecord {K : Type 0} (before now : List ℕ) (line : Line) (w : World K) (answer : Outcome × World K) : Type 0 where
   pub text : now ≡ before ++ record_text (spelling_of line) answer.0 false
   pub world : answer.1 ≡ w
 
 -- the records of many lines stand behind what was written
-pub record Appends {K : Type 0} (before now : List ℕ) (w : World K) (records : List ℕ × World K) : Type 0 where
+pub record AppendsRecords {K : Type 0} (before now : List ℕ) (w : World K) (records : List ℕ × World K) : Type 0 where
   pub text : now ≡ before ++ records.0
   pub world : records.1 ≡ w

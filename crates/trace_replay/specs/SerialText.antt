@@ -1,6 +1,7 @@
 -- The text that a serial run writes for the words, the bytes read and the ports; or how it refuses them
 -- (this project's own).
 use Rattle.std.specs.Prelude.{ℕ, ◌==◌, Bool, false, not, nat_lt, List, [], ◌∷◌, ◌++◌, length, codes, slice_get, Option, Some, None, Result, Ok, Err, if◌then◌else◌}
+use Rattle.std.specs.Option.{ok_or}
 use Rattle.chunk_tags.specs.Tunables.{defaults_of}
 use Rattle.chunk_tags.specs.declared.tunables.Mode.TheVariants.{Serial}
 use Rattle.chunk_tags.specs.declared.tunables.Tunables.{Tunables}
@@ -12,7 +13,6 @@ use Rattle.stats_text.specs.Views.{Shown}
 use Rattle.stats_text.specs.Report.{places_of}
 use Rattle.stats_text.specs.Totals.{statistics_of}
 use Rattle.stats_text.specs.Records.{record_text}
-use Rattle.trace_text.specs.declared.fault.Fault.{Fault}
 use Rattle.trace_text.specs.declared.trace.Line.{Line}
 use Rattle.trace_text.specs.Grammar.{Reading, reading_of}
 use Rattle.trace_text.specs.Spelling.{spelling_of}
@@ -31,8 +31,7 @@ in_front text (Err exit) = Err exit
 
 -- the answer of a line; a call that isn't built refuses the run
 abbrev pub answer_of : {K : Type 0} → Line → Option (Outcome × World K) → Result (Outcome × World K) Exit
-answer_of line (Some answer) = Ok answer
-answer_of line None = Err (NotBuilt line.number)
+answer_of line answer = ok_or answer (NotBuilt line.number)
 
 -- the record of a line in front of the rest
 abbrev pub recorded : {K : Type 0} → Line → Result (Outcome × World K) Exit → (World K → Result (List ℕ × World K) Exit) → Result (List ℕ × World K) Exit
@@ -66,9 +65,13 @@ has_lines lines = not (length lines == 0)
 abbrev pub sections : Shown → List ℕ
 sections s = places_of s ++ statistics_of s
 
--- the report: its first line, the record lines, and the sections on the world at the end
+-- a report: its first line, the record lines, and the sections behind them
+abbrev pub whole_report : List ℕ → Shown → List ℕ
+whole_report records s = codes "ptmreport 1 serial\n" ++ records ++ sections s
+
+-- the report on a run that ended so
 abbrev pub reported : {K : Type 0} → Tunables → Bool → Result (List ℕ × World K) Exit → Result (List ℕ) Exit
-reported t lines (Ok (records, w)) = Ok (codes "ptmreport 1 serial\n" ++ records ++ sections (shown_of t lines w))
+reported t lines (Ok (records, w)) = Ok (whole_report records (shown_of t lines w))
 reported t lines (Err exit) = Err exit
 
 -- the report on a run of lines, over the port of thread 0
@@ -90,12 +93,9 @@ abbrev pub has_word : ℕ → Bool
 has_word words = nat_lt 1 words
 
 -- the lines of a text, or its first fault
-abbrev pub without_fault : List Line → Option Fault → Result (List Line) Exit
-without_fault lines None = Ok lines
-without_fault lines (Some fault) = Err (BadTrace fault.line fault.why)
-
 abbrev pub lines_of : Reading → Result (List Line) Exit
-lines_of r = without_fault r.lines r.fault
+lines_of (Ok lines) = Ok lines
+lines_of (Err fault) = Err (BadTrace fault.line fault.why)
 
 abbrev pub text_of : {K : Type 0} → Port K → List K → Result (List Line) Exit → Result (List ℕ) Exit
 text_of port kernels (Ok lines) = serial_text port lines kernels

@@ -8,65 +8,59 @@ use Rattle.trace_replay.specs.declared.streams.Put.TheVariants as puts
 use Rattle.trace_replay.specs.declared.streams.Flush.{Flush}
 use Rattle.trace_replay.specs.declared.streams.Flush.TheVariants as flushes
 
--- n bytes came from the front of those that were left
-pub record Takes {S : Type 0} (left : S → Option (List ℕ)) (before : S) (room : List ℕ) (n : ℕ) (now : S) : Type 0 where
+-- n bytes came from the front of those that were left, and no fault was counted
+pub record Takes {S : Type 0} (left : S → Option (List ℕ)) (faults : S → ℕ) (before : S) (room : List ℕ) (n : ℕ) (now : S) : Type 0 where
   pub some : 0 < n
   pub fits : n ≤ length room
+  pub unfaulted : faults now ≡ faults before
   pub told : (bytes : List ℕ) → left before ≡ Some bytes → (n ≤ length bytes) × (take n room ≡ take n bytes) × (left now ≡ Some (drop n bytes))
 
--- no byte was left
-pub record IsAtEnd {S : Type 0} (left : S → Option (List ℕ)) (before now : S) : Type 0 where
+-- no byte was left, and no fault was counted
+pub record IsAtEnd {S : Type 0} (left : S → Option (List ℕ)) (faults : S → ℕ) (before now : S) : Type 0 where
+  pub unfaulted : faults now ≡ faults before
   pub told : (bytes : List ℕ) → left before ≡ Some bytes → (bytes ≡ []) × (left now ≡ Some [])
 
 -- a fault was counted, and nothing was read
 pub record FailsToRead {S : Type 0} (left : S → Option (List ℕ)) (faults : S → ℕ) (before now : S) : Type 0 where
+  pub later : faults before ≤ faults now
   pub rose : Rose (faults before) (faults now)
   pub told : (bytes : List ℕ) → left before ≡ Some bytes → left now ≡ Some bytes
 
-abbrev pub FetchGives : {S : Type 0} → (S → Option (List ℕ)) → (S → ℕ) → S → List ℕ → Fetch → S → Type 0
-FetchGives left faults before room (fetches.Got n) now = Takes left before room n now
-FetchGives left faults before room fetches.End now = IsAtEnd left before now
-FetchGives left faults before room fetches.Failed now = FailsToRead left faults before now
-
 -- one read
-pub record Fetches {S : Type 0} (left : S → Option (List ℕ)) (faults : S → ℕ) (before : S) (room : List ℕ) (fetch : Fetch) (now : S) : Type 0 where
-  pub later : faults before ≤ faults now
-  pub gives : FetchGives left faults before room fetch now
+abbrev pub Fetches : {S : Type 0} → (S → Option (List ℕ)) → (S → ℕ) → S → List ℕ → Fetch → S → Type 0
+Fetches left faults before room (fetches.Got n) now = Takes left faults before room n now
+Fetches left faults before room fetches.End now = IsAtEnd left faults before now
+Fetches left faults before room fetches.Failed now = FailsToRead left faults before now
 
 -- the bytes written, and how many of them stood before the last flush that was done
 pub record Written : Type 0 where
   pub bytes : List ℕ
   pub flushed : ℕ
 
--- n bytes went behind those that were written
-pub record Adds {S : Type 0} (written : S → Option Written) (before : S) (from : List ℕ) (n : ℕ) (now : S) : Type 0 where
+-- n bytes went behind those that were written, and no fault was counted
+pub record Adds {S : Type 0} (written : S → Option Written) (faults : S → ℕ) (before : S) (from : List ℕ) (n : ℕ) (now : S) : Type 0 where
   pub some : 0 < n
   pub fits : n ≤ length from
+  pub unfaulted : faults now ≡ faults before
   pub told : (w : Written) → written before ≡ Some w → written now ≡ Some (record w { bytes = w.bytes ++ take n from })
 
 -- a fault was counted, and nothing was written
 pub record FailsAlone {S : Type 0} (written : S → Option Written) (faults : S → ℕ) (before now : S) : Type 0 where
+  pub later : faults before ≤ faults now
   pub rose : Rose (faults before) (faults now)
   pub told : (w : Written) → written before ≡ Some w → written now ≡ Some w
 
-abbrev pub PutGives : {S : Type 0} → (S → Option Written) → (S → ℕ) → S → List ℕ → Put → S → Type 0
-PutGives written faults before from (puts.Took n) now = Adds written before from n now
-PutGives written faults before from puts.Failed now = FailsAlone written faults before now
-
 -- one write
-pub record Writes {S : Type 0} (written : S → Option Written) (faults : S → ℕ) (before : S) (from : List ℕ) (put : Put) (now : S) : Type 0 where
-  pub later : faults before ≤ faults now
-  pub gives : PutGives written faults before from put now
+abbrev pub Writes : {S : Type 0} → (S → Option Written) → (S → ℕ) → S → List ℕ → Put → S → Type 0
+Writes written faults before from (puts.Took n) now = Adds written faults before from n now
+Writes written faults before from puts.Failed now = FailsAlone written faults before now
 
--- all that was written is flushed
-pub record IsFlushed {S : Type 0} (written : S → Option Written) (before now : S) : Type 0 where
+-- all that was written is flushed, and no fault was counted
+pub record IsFlushed {S : Type 0} (written : S → Option Written) (faults : S → ℕ) (before now : S) : Type 0 where
+  pub unfaulted : faults now ≡ faults before
   pub told : (w : Written) → written before ≡ Some w → written now ≡ Some (record w { flushed = length w.bytes })
 
-abbrev pub FlushGives : {S : Type 0} → (S → Option Written) → (S → ℕ) → S → Flush → S → Type 0
-FlushGives written faults before flushes.Done now = IsFlushed written before now
-FlushGives written faults before flushes.Failed now = FailsAlone written faults before now
-
 -- one flush
-pub record Flushes {S : Type 0} (written : S → Option Written) (faults : S → ℕ) (before : S) (flush : Flush) (now : S) : Type 0 where
-  pub later : faults before ≤ faults now
-  pub gives : FlushGives written faults before flush now
+abbrev pub Flushes : {S : Type 0} → (S → Option Written) → (S → ℕ) → S → Flush → S → Type 0
+Flushes written faults before flushes.Done now = IsFlushed written faults before now
+Flushes written faults before flushes.Failed now = FailsAlone written faults before now

@@ -1,12 +1,12 @@
 -- One thread over main, as far as it is built: what a call finds and leaves. The rules are those of glibc 2.31
 -- malloc/malloc.c: __libc_malloc, tcache_init, _int_malloc at use_top, the first growth of sysmalloc, and the
 -- tcache part of _int_free.
-use Rattle.std.specs.Prelude.{ℕ, ◌+◌, ◌-◌, ◌*◌, ◌/◌, ◌==◌, false, ◌&&◌, nat_le, List, [], Option, Some, None, is_some, if◌then◌else◌}
+use Rattle.std.specs.Prelude.{ℕ, ◌+◌, ◌-◌, ◌*◌, ◌/◌, ◌==◌, false, ◌||◌, nat_le, List, [], Option, Some, None, is_some, if◌then◌else◌}
 use Rattle.std.specs.Option.{option_and_then, option_map, option_or}
 use Rattle.std.specs.Ordering.{nat_cmp}
 use Rattle.std.specs.BTreeMap.{is_at, insert_entry}
 use Rattle.std.specs.Map.{lookup, remove_entry}
-use Rattle.chunk_tags.specs.Sizes.{chunk_size_of, padded_request, cache_index_of}
+use Rattle.chunk_tags.specs.Sizes.{chunk_size_of, padded_request, max_cached, cache_index_of}
 use Rattle.chunk_tags.specs.declared.block.Block.{Block}
 use Rattle.chunk_tags.specs.declared.tunables.Tunables.{Tunables}
 use Rattle.address_space.specs.declared.asks.Ask.TheVariants.{Break}
@@ -15,7 +15,7 @@ use Rattle.address_space.specs.declared.asks.Answer.TheVariants as answers
 use Rattle.address_space.specs.declared.space.Space.{Space}
 use Rattle.address_space.specs.Ports.{Port}
 use Rattle.address_space.specs.Spaces.{main_start, break_passes, space_answer, space_asked}
-use Rattle.thread_cache.specs.Caches.{CacheValue, opened, is_open, newest, without_newest, with_newest, has_room}
+use Rattle.thread_cache.specs.Caches.{CacheValue, opened, is_open, newest, without_newest, with_newest, takes}
 use Rattle.stats_text.specs.declared.records.Outcome.{Outcome}
 use Rattle.stats_text.specs.declared.records.Outcome.TheVariants.{Got, Null, Freed, Skip}
 use Rattle.stats_text.specs.declared.records.Source3.TheVariants as sources
@@ -75,9 +75,10 @@ first_break port growth w =
     let ask = Break main_start (main_start + growth) in
     granted growth w (space_asked port w.space passes ask) (space_answer port w.space passes ask)
 
--- a growth of main that has a top already isn't built
+-- a growth of main that has a top already isn't built, nor is a mapping, which comes first where the size reaches its
+-- threshold
 unfoldable pub grow : {K : Type 0} → Port K → Tunables → ℕ → World K → Option (World K)
-grow port t nb w = if is_some w.top then None else first_break port (first_growth t nb) w
+grow port t nb w = if is_some w.top || nat_le t.mmap_threshold nb then None else first_break port (first_growth t nb) w
 
 -- a chunk of nb bytes from main: from top, else from top as it is grown
 unfoldable pub search : {K : Type 0} → Port K → Tunables → ℕ → World K → Option (Block × World K)
@@ -97,7 +98,7 @@ with_cache port t w =
 
 -- the newest cached chunk of a size, where the size is cached at all
 abbrev pub cached : ℕ → CacheValue → Option Block
-cached nb cache = if nat_le nb 1040 then newest cache (cache_index_of nb) else None
+cached nb cache = if nat_le nb max_cached then newest cache (cache_index_of nb) else None
 
 -- the world in which a name has a block
 abbrev pub holding : {K : Type 0} → ℕ → Block → World K → World K
@@ -128,7 +129,7 @@ malloc port t name size w = padded_malloc port t name (padded_request size) w
 abbrev pub freed : {K : Type 0} → ℕ → World K → Option Block → Option (Outcome × World K)
 freed name w None = Some (Skip, w)
 freed name w (Some block) =
-    if has_room w.cache block.size && is_some block.arena
+    if takes w.cache block
     then Some (Freed sinks.Cached false, record w { live = remove_entry (is_at (nat_cmp name)) w.live; cache = with_newest w.cache block })
     else None
 

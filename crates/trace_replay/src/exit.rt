@@ -72,13 +72,13 @@ impl fmt::Display for Large {
     }
 }
 
-/// The line on standard error, behind the program's name.
+/// The line on standard error, behind the program's name. `Done` has no text, since the program prints no line then.
 impl fmt::Display for Exit {
     ghost output = { λ exit. Some (message_of exit) };
 
     fn fmt<W: fmt::Write>(&self, f: &mut fmt::Formatter<W>) -> fmt::Result {
         match self {
-            Exit::Done => write!(f, "done"),
+            Exit::Done => Ok(()),
             Exit::Usage => write!(f, "usage"),
             Exit::BadTrace { line, why } => {
                 let why = why.name();

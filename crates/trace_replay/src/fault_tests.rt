@@ -1,62 +1,50 @@
 //! Runs over sources, sinks and ports that fail, that give and take little at a time, or that tell nothing.
 
-ghost use Rattle.std.specs.Prelude.{◌≡◌, Some, None, IfOk, vec_len, drop};
+ghost use Rattle.std.specs.Prelude.{◌≡◌, None, IfOk, vec_len};
 
 use super::*;
+use crate::tests::{ample, run_over};
+use crate::texts::{TWO_BLOCKS, TWO_LINES};
 use address_space::{Always, Budget};
 use chunk_tags::NoMemory;
-use std::alloc::{AllocError, Global};
+use std::alloc::Global;
 use std::test::Fail;
 
-const TWO_LINES: &[u8] = b"ptmtrace 1\n0 m 1 24\n0 m 2 25\n";
+/// The bytes that a write of `Sips` takes at the most.
+const SIP: usize = 7;
 
-/// Ports that grant each ask, one for each thread.
-fn ports(alloc: Global) -> Result<Vec<Always>, AllocError>
-    ensures { IfOk result (λ ports. vec_len ports ≡ 64) }
-{
-    vec![in alloc; Always; 64]
-}
-
-/// A port that refuses its first ask, and ports without a budget.
-fn refusing_ports(alloc: Global) -> Result<Vec<Budget>, NoMemory>
-    ensures { IfOk result (λ ports. vec_len ports ≡ 64) }
-{
-    let mut ports = Vec::new(alloc);
-    let mut first = Vec::new(alloc);
-    first.push(1)?;
-    ports.push(Budget::new(u64::MAX, first))?;
-    for _ in 1..64_usize {
-        ports.push(Budget::new(u64::MAX, Vec::new(alloc)))?;
-    }
-    Ok(ports)
-}
-
-fn source(alloc: Global, fail_at: u64) -> Result<MemSource, NoMemory> {
-    let mut fails = Vec::new(alloc);
-    fails.push(fail_at)?;
-    Ok(MemSource::new(Vec::from_slice(alloc, TWO_LINES)?, fails))
-}
-
-fn sink(alloc: Global, room: usize, fail_at: u64) -> Result<MemSink, NoMemory> {
-    let mut fails = Vec::new(alloc);
-    fails.push(fail_at)?;
-    MemSink::new(alloc, room, fails)
-}
-
-/// A source that gives one byte at a time.
+/// Two lines, one byte a read. The read with the given number fails, counted from 1; where it is 0, none does.
 #[derive(Drop)]
 struct Dribble {
-    bytes: Vec<u8>,
     at: usize,
+    reads: usize,
+    fail_at: usize,
+    faults: u64,
+}
+
+impl Dribble {
+    fn new(fail_at: usize) -> Dribble {
+        Dribble {
+            at: 0,
+            reads: 0,
+            fail_at,
+            faults: 0,
+        }
+    }
 }
 
 impl Source for Dribble {
     ghost left = { λ _. None };
 
-    ghost faults = { λ _. 0 };
+    ghost faults = { λ s. s.faults };
 
     fn read(&mut self, into: &mut [u8]) -> Fetch {
-        match self.bytes.get(self.at) {
+        self.reads = self.reads.saturating_add(1);
+        if self.reads == self.fail_at {
+            self.faults = self.faults.saturating_add(1);
+            return Fetch::Failed;
+        }
+        match TWO_LINES.get(self.at) {
             None => Fetch::End,
             Some(byte) => {
                 into[0] = *byte;
@@ -67,162 +55,198 @@ impl Source for Dribble {
     }
 }
 
-/// A sink that takes seven bytes at a time.
+/// A sink that takes a few bytes at a time. The call with the given number fails, counted from 1, the flush
+/// included; where it is 0, none does.
 #[derive(Drop)]
 struct Sips {
     bytes: Vec<u8>,
+    calls: usize,
+    fail_at: usize,
+    faults: u64,
+}
+
+impl Sips {
+    fn new(alloc: Global, fail_at: usize) -> Sips {
+        Sips {
+            bytes: Vec::new(alloc),
+            calls: 0,
+            fail_at,
+            faults: 0,
+        }
+    }
+
+    /// Counts a call, and says whether it is to fail.
+    fn is_due(&mut self) -> bool
+        ensures { self.new.faults ≡ self.old.faults }
+    {
+        self.calls = self.calls.saturating_add(1);
+        self.calls == self.fail_at
+    }
 }
 
 impl Sink for Sips {
     ghost written = { λ _. None };
 
-    ghost faults = { λ _. 0 };
+    ghost faults = { λ s. s.faults };
 
     fn write(&mut self, from: &[u8]) -> Put {
-        let count = from.len().min(7);
-        let _ = self.bytes.extend_from_slice(&from[..count]);
+        let count = from.len().min(SIP);
+        if self.is_due() || self.bytes.extend_from_slice(&from[..count]).is_err() {
+            self.faults = self.faults.saturating_add(1);
+            return Put::Failed;
+        }
         Put::Took(count)
     }
 
     fn flush(&mut self) -> Flush {
+        if self.is_due() {
+            self.faults = self.faults.saturating_add(1);
+            return Flush::Failed;
+        }
         Flush::Done
     }
 }
 
 #[test]
-fn faults_are_answered(rt: HostRuntime) -> Result<(), Fail> {
+fn each_failed_read_ends_the_run(rt: HostRuntime) -> Result<(), Fail> {
     let alloc = rt.alloc();
-    let mut whole = sink(alloc, 65_536, 0)?;
-    assert_eq!(rt;
-        run(
-            alloc,
-            &[],
-            &mut source(alloc, 0)?,
-            &mut whole,
-            ports(alloc)?,
-            &Open
-        ),
-        Exit::Done
-    );
-    for (read, room, write, exit, count) in [
-        (1, 65_536, 0, Exit::ReadFault, 0),
-        (2, 65_536, 0, Exit::ReadFault, 0),
-        (0, 100, 0, Exit::WriteFault, 100),
-        (0, 65_536, 1, Exit::WriteFault, 0),
-        (0, 65_536, 2, Exit::WriteFault, whole.bytes().len()),
-    ] {
-        let mut some = sink(alloc, room, write)?;
-        assert_eq!(rt;
-            run(
-                alloc,
-                &[],
-                &mut source(alloc, read)?,
-                &mut some,
-                ports(alloc)?,
-                &Open
-            ),
-            exit
-        );
-        assert_eq!(rt; some.bytes().len(), count);
-        assert!(rt; whole.bytes().starts_with(some.bytes()));
+    let end = TWO_LINES.len() + 1;
+    for read in 1..=end {
+        let mut source = Dribble::new(read);
+        let mut sink = ample(alloc)?;
+        let exit = run_over(alloc, &mut source, &mut sink)?;
+        assert_eq!(rt; exit, Exit::ReadFault, "read {read}");
+        assert_eq!(rt; (source.reads, source.faults), (read, 1), "read {read}");
+        assert_eq!(rt; sink.bytes().len(), 0, "read {read}");
     }
     Ok(())
 }
 
 #[test]
-fn words_and_ports_are_refused(rt: HostRuntime) -> Result<(), Fail> {
+fn each_failed_write_leaves_a_prefix(rt: HostRuntime) -> Result<(), Fail> {
     let alloc = rt.alloc();
-    let mut words = Vec::new(alloc);
-    words.push(String::from_str(alloc, "ptmreplay")?)?;
-    let mut all = sink(alloc, 65_536, 0)?;
-    assert_eq!(rt;
-        run(
-            alloc,
-            &words,
-            &mut source(alloc, 0)?,
-            &mut all,
-            refusing_ports(alloc)?,
-            &Open
-        ),
-        Exit::NotBuilt { line: 2 }
-    );
-    assert_eq!(rt;
-        run(
-            alloc,
-            &words,
-            &mut source(alloc, 0)?,
-            &mut all,
-            ports(alloc)?,
-            &Open
-        ),
-        Exit::Done
-    );
-    words.push(String::from_str(alloc, "--summary")?)?;
-    let mut none = sink(alloc, 65_536, 0)?;
-    assert_eq!(rt;
-        run(
-            alloc,
-            &words,
-            &mut source(alloc, 0)?,
-            &mut none,
-            ports(alloc)?,
-            &Open
-        ),
-        Exit::NotBuilt { line: 0 }
-    );
-    assert_eq!(rt; none.bytes().len(), 0);
+    let flush = TWO_BLOCKS.len().div_ceil(SIP) + 1;
+    for call in 1..=flush {
+        let mut sink = Sips::new(alloc, call);
+        let exit = run_over(alloc, &mut Dribble::new(0), &mut sink)?;
+        let taken = (call - 1).saturating_mul(SIP).min(TWO_BLOCKS.len());
+        assert_eq!(rt; exit, Exit::WriteFault, "call {call}");
+        assert_eq!(rt; (sink.calls, sink.faults), (call, 1), "call {call}");
+        assert_eq!(rt; sink.bytes.as_slice(), &TWO_BLOCKS[..taken], "call {call}");
+    }
     Ok(())
 }
 
 #[test]
 fn pieces_make_no_difference(rt: HostRuntime) -> Result<(), Fail> {
     let alloc = rt.alloc();
-    let mut whole = sink(alloc, 65_536, 0)?;
-    assert_eq!(rt;
-        run(
-            alloc,
-            &[],
-            &mut source(alloc, 0)?,
-            &mut whole,
-            ports(alloc)?,
-            &Open
-        ),
-        Exit::Done
-    );
-    let mut dribble = Dribble {
-        bytes: Vec::from_slice(alloc, TWO_LINES)?,
-        at: 0,
-    };
-    let mut sips = Sips {
-        bytes: Vec::new(alloc),
-    };
-    assert_eq!(rt;
-        run(alloc, &[], &mut dribble, &mut sips, ports(alloc)?, &Open),
-        Exit::Done
-    );
-    assert_eq!(rt; sips.bytes.as_slice(), whole.bytes());
-    let mut count = CountSink::new();
-    let mut input = StdSource::new(TWO_LINES);
-    assert_eq!(rt;
-        run(alloc, &[], &mut input, &mut count, ports(alloc)?, &Open),
-        Exit::Done
-    );
-    assert_eq!(rt; count.count(), whole.bytes().len() as u64);
+    let mut source = Dribble::new(0);
+    let mut sink = Sips::new(alloc, 0);
+    assert_eq!(rt; run_over(alloc, &mut source, &mut sink)?, Exit::Done);
+    assert_eq!(rt; sink.bytes.as_slice(), TWO_BLOCKS);
+    assert_eq!(rt; (source.faults, sink.faults), (0, 0));
+    Ok(())
+}
+
+/// A list of one number.
+fn only(alloc: Global, number: u64) -> Result<Vec<u64>, NoMemory> {
+    let mut list = Vec::new(alloc);
+    list.push(number)?;
+    Ok(list)
+}
+
+#[test]
+fn streams_in_memory_fail_where_they_are_told_to(rt: HostRuntime) -> Result<(), Fail> {
+    let alloc = rt.alloc();
+    for (read, room, call, exit, count) in [
+        (1, 65_536, 0, Exit::ReadFault, 0),
+        (2, 65_536, 0, Exit::ReadFault, 0),
+        (0, 100, 0, Exit::WriteFault, 100),
+        (0, 65_536, 1, Exit::WriteFault, 0),
+        (0, 65_536, 2, Exit::WriteFault, TWO_BLOCKS.len()),
+        (3, 65_536, 3, Exit::Done, TWO_BLOCKS.len()),
+    ] {
+        let mut source = MemSource::new(Vec::from_slice(alloc, TWO_LINES)?, only(alloc, read)?);
+        let mut sink = MemSink::new(alloc, room, only(alloc, call)?)?;
+        let answer = run_over(alloc, &mut source, &mut sink)?;
+        assert_eq!(rt; answer, exit, "read {read}, call {call}");
+        assert_eq!(rt; sink.bytes().len(), count, "read {read}, call {call}");
+        assert!(rt;
+            TWO_BLOCKS.starts_with(sink.bytes()),
+            "read {read}, call {call}"
+        );
+    }
+    Ok(())
+}
+
+#[test]
+fn readers_and_writers_of_std_serve(rt: HostRuntime) -> Result<(), Fail> {
+    let alloc = rt.alloc();
     let mut bytes = Vec::new(alloc);
-    let mut output = StdSink::new(&mut bytes);
+    let mut sink = StdSink::new(&mut bytes);
     assert_eq!(rt;
-        run(
-            alloc,
-            &[],
-            &mut source(alloc, 0)?,
-            &mut output,
-            ports(alloc)?,
-            &Open
-        ),
+        run_over(alloc, &mut StdSource::new(TWO_LINES), &mut sink)?,
         Exit::Done
     );
-    drop(output);
-    assert_eq!(rt; bytes.as_slice(), whole.bytes());
+    drop(sink);
+    assert_eq!(rt; bytes.as_slice(), TWO_BLOCKS);
+    Ok(())
+}
+
+#[test]
+fn a_count_sink_counts_the_report(rt: HostRuntime) -> Result<(), Fail> {
+    let alloc = rt.alloc();
+    let mut sink = CountSink::new();
+    assert_eq!(rt;
+        run_over(alloc, &mut Dribble::new(0), &mut sink)?,
+        Exit::Done
+    );
+    assert_eq!(rt; sink.count(), TWO_BLOCKS.len() as u64);
+    Ok(())
+}
+
+#[test]
+fn a_word_behind_the_name_is_refused(rt: HostRuntime) -> Result<(), Fail> {
+    let alloc = rt.alloc();
+    let mut words = Vec::new(alloc);
+    for (word, exit) in [
+        ("ptmreplay", Exit::Done),
+        ("--summary", Exit::NotBuilt { line: 0 }),
+    ] {
+        words.push(String::from_str(alloc, word)?)?;
+        let ports = vec![in alloc; Always; 64]?;
+        let mut sink = ample(alloc)?;
+        assert_eq!(rt;
+            run(alloc, &words, &mut Dribble::new(0), &mut sink, ports, &Open),
+            exit
+        );
+        assert_eq!(rt; sink.bytes().is_empty(), exit != Exit::Done);
+    }
+    Ok(())
+}
+
+/// A port that refuses its first ask, and ports without a budget.
+fn refusing_ports(alloc: Global) -> Result<Vec<Budget>, NoMemory>
+    ensures { IfOk result (λ ports. vec_len ports ≡ 64) }
+{
+    let mut ports = Vec::new(alloc);
+    ports.push(Budget::new(u64::MAX, only(alloc, 1)?))?;
+    for _ in 1..64_usize {
+        ports.push(Budget::new(u64::MAX, Vec::new(alloc)))?;
+    }
+    Ok(ports)
+}
+
+#[test]
+fn a_refused_break_is_not_built(rt: HostRuntime) -> Result<(), Fail> {
+    let alloc = rt.alloc();
+    let ports = refusing_ports(alloc)?;
+    let mut sink = ample(alloc)?;
+    assert_eq!(rt;
+        run(alloc, &[], &mut Dribble::new(0), &mut sink, ports, &Open),
+        Exit::NotBuilt { line: 2 }
+    );
+    assert_eq!(rt; sink.bytes().len(), 0);
     Ok(())
 }
 
@@ -240,11 +264,7 @@ fn one_byte_too_many_is_too_long(rt: HostRuntime) -> Result<(), Fail> {
         (67_108_865, Exit::TooLong),
     ] {
         let mut source = SureSource::new(vec![in alloc; b'0'; length]?);
-        let mut sink = sink(alloc, 0, 0)?;
-        assert_eq!(rt;
-            run(alloc, &[], &mut source, &mut sink, ports(alloc)?, &Open),
-            exit
-        );
+        assert_eq!(rt; run_over(alloc, &mut source, &mut ample(alloc)?)?, exit);
     }
     Ok(())
 }

@@ -3,6 +3,7 @@
 
 mod exit;
 mod gate;
+mod halt;
 mod memory;
 mod process;
 mod reading;
@@ -26,4 +27,8 @@ mod examples;
 #[cfg(test)]
 mod fault_tests;
 #[cfg(test)]
+mod gate_tests;
+#[cfg(test)]
 mod tests;
+#[cfg(test)]
+mod texts;

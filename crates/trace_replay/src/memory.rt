@@ -1,8 +1,7 @@
 //! A source and a sink in memory, for tests and for whoever has the bytes already.
 
 ghost use Rattle.std.specs.Prelude.{◌≡◌, ◌<◌, ◌≤◌, ◌+◌, ◌-◌, ◌^◌, ◌↔◌, min, length, [], Some, None, IsTrue, IfOk, vec_len, vec_capacity, drop};
-ghost use Rattle.address_space.specs.Ports.{Rose};
-ghost use Rattle.address_space.specs.Budgets.{counted};
+ghost use Rattle.address_space.specs.Ports.{Rose, counted};
 ghost use Rattle.trace_replay.specs.Streams.{Fetches, Writes, Flushes};
 ghost use Rattle.trace_replay.specs.InMemory.{is_due_at, taken_of};
 
@@ -94,7 +93,7 @@ impl MemSource {
     /// A source of these bytes, whose reads with these numbers fail.
     pub fn new(bytes: Vec<u8>, fail_at: Vec<u64>) -> MemSource
         ensures bytes { ⟦<MemSource as Source>⟧.left result ≡ Some bytes.items }
-        ensures fails { (result.faults.calls ≡ 0) × (result.faults.fail_at ≡ fail_at) }
+        ensures fails { (result.faults.calls ≡ 0) × (result.faults.count ≡ 0) × (result.faults.fail_at ≡ fail_at) }
     {
         MemSource {
             sure: SureSource::new(bytes),
@@ -112,6 +111,7 @@ impl Source for MemSource {
         requires { 0 < length into.old }
         ensures fetches { Fetches ⟦<MemSource as Source>⟧.left ⟦<MemSource as Source>⟧.faults self.old into.new result self.new }
         ensures due { (result ≡ Fetch.Failed) ↔ IsTrue (is_due_at self.old.faults.calls self.old.faults.fail_at.items) }
+        ensures counts { (self.new.faults.calls ≡ counted self.old.faults.calls) × (self.new.faults.fail_at ≡ self.old.faults.fail_at) }
     {
         if self.faults.is_due() {
             self.faults.note();
@@ -138,7 +138,7 @@ impl MemSink {
     pub fn new(alloc: Global, room: usize, fail_at: Vec<u64>) -> Result<MemSink, NoMemory>
         ensures empty { IfOk result (λ sink. ⟦<MemSink as Sink>⟧.written sink ≡ Some (record { bytes = []; flushed = 0 })) }
         ensures room { IfOk result (λ sink. sink.room ≡ room) }
-        ensures fails { IfOk result (λ sink. (sink.faults.calls ≡ 0) × (sink.faults.fail_at ≡ fail_at)) }
+        ensures fails { IfOk result (λ sink. (sink.faults.calls ≡ 0) × (sink.faults.count ≡ 0) × (sink.faults.fail_at ≡ fail_at)) }
     {
         Ok(MemSink {
             bytes: Vec::with_capacity(alloc, room)?,
@@ -172,6 +172,8 @@ impl Sink for MemSink {
         requires { 0 < length from.now }
         ensures writes { Writes ⟦<MemSink as Sink>⟧.written ⟦<MemSink as Sink>⟧.faults self.old from.now result self.new }
         ensures taken { result ≡ taken_of (is_due_at self.old.faults.calls self.old.faults.fail_at.items) from.now (self.old.room - vec_len self.old.bytes) }
+        ensures counts { (self.new.faults.calls ≡ counted self.old.faults.calls) × (self.new.faults.fail_at ≡ self.old.faults.fail_at) }
+        ensures room { self.new.room ≡ self.old.room }
     {
         let count = from.len().min(self.room - self.bytes.len());
         if self.faults.is_due() || count == 0 {
@@ -187,6 +189,8 @@ impl Sink for MemSink {
     fn flush(&mut self) -> Flush
         ensures flushes { Flushes ⟦<MemSink as Sink>⟧.written ⟦<MemSink as Sink>⟧.faults self.old result self.new }
         ensures due { (result ≡ Flush.Failed) ↔ IsTrue (is_due_at self.old.faults.calls self.old.faults.fail_at.items) }
+        ensures counts { (self.new.faults.calls ≡ counted self.old.faults.calls) × (self.new.faults.fail_at ≡ self.old.faults.fail_at) }
+        ensures room { self.new.room ≡ self.old.room }
     {
         if self.faults.is_due() {
             self.faults.note();

@@ -8,9 +8,10 @@ ghost use Rattle.std.specs.BTreeMap.{values};
 ghost use Rattle.chunk_tags.specs.Sizes.{IsChunkSize};
 ghost use Rattle.trace_replay.specs.World.{page_up as page_up_of};
 
-use crate::top::{Halt, Top};
+use crate::halt::Halt;
+use crate::top::Top;
 use address_space::{Answer, Kernel, MAIN_START, Space};
-use chunk_tags::{Addr, Block, Size, Tunables, cache_index, request_size};
+use chunk_tags::{Addr, Block, MAX_CACHED, Size, Tunables, cache_index, request_size};
 use stats_text::{Outcome, Sink3, Source3};
 use std::alloc::Global;
 use std::collections::BTreeMap;
@@ -19,9 +20,6 @@ use trace_text::{Call, Line};
 
 /// The chunk of a cache's structure: a request of 640 bytes, glibc's `sizeof (tcache_perthread_struct)`.
 const STRUCTURE_SIZE: Size = Size(656);
-
-/// The largest size of a chunk that is cached.
-const MAX_CACHED: u64 = 1040;
 
 const PAGE: u64 = 4096;
 
@@ -49,9 +47,10 @@ fn page_up(n: u64) -> u64
 impl<K: Kernel> Process<K> {
     ghost use Rattle.std.specs.Prelude.{IfOk, OnSome};
     ghost use Rattle.trace_replay.specs.Halts.{Yields, Leaves};
-    ghost use Rattle.chunk_tags.specs.Sizes.{cache_index_of};
+    ghost use Rattle.chunk_tags.specs.Sizes.{IsRequestSize, cache_index_of};
+    ghost use Rattle.chunk_tags.specs.Tunables.{IsTuned};
     ghost use Rattle.thread_cache.specs.Caches.{without_newest};
-    ghost use Rattle.trace_replay.specs.Processes.{IsAsked, IsTuned, world_of, tells};
+    ghost use Rattle.trace_replay.specs.Processes.{world_of, tells};
     ghost use Rattle.trace_replay.specs.World.{opening_world, split, cached, holding, grow, search, with_cache, chunk_for, malloc, free, step};
 
     /// A process that has called nothing yet.
@@ -70,7 +69,7 @@ impl<K: Kernel> Process<K> {
     /// A chunk from top's front, where top is large enough for it.
     #[tactic(auto, unfolding(crate::specs::World::split))]
     fn split_top(&mut self, nb: Size) -> Option<Block>
-        requires { IsAsked nb }
+        requires { IsRequestSize nb }
         ensures some { IfSome result (λ b. split nb (world_of self.old) ≡ Some (b, world_of self.new)) }
         ensures none { IfNone result ((split nb (world_of self.old) ≡ None) × (self.new ≡ self.old)) }
         ensures size { IfSome result (λ b. b.size ≡ nb) }
@@ -99,13 +98,13 @@ impl<K: Kernel> Process<K> {
     /// The first growth of main, for a chunk of this size.
     #[tactic(auto, unfolding(crate::specs::World::grow))]
     fn grow(&mut self, nb: Size, t: &Tunables) -> Result<(), Halt>
-        requires asked { IsAsked nb }
+        requires asked { IsRequestSize nb }
         requires tuned { IsTuned t.now }
         ensures told { IsTrue (tells K.port self.old) → Leaves result (world_of self.new) (grow K.port t.now nb (world_of self.old)) }
         ensures telling { IsTrue (tells K.port self.old) → IsTrue (tells K.port self.new) }
         ensures cache { self.new.cache ≡ self.old.cache }
     {
-        if self.top.is_some() {
+        if self.top.is_some() || nb.0 >= t.mmap_threshold {
             return Err(Halt::NotBuilt);
         }
         let growth = page_up(nb.0 + t.top_pad + 32);
@@ -125,7 +124,7 @@ impl<K: Kernel> Process<K> {
     /// A chunk of main of this size.
     #[tactic(auto, unfolding(crate::specs::World::search))]
     fn search(&mut self, nb: Size, t: &Tunables) -> Result<Block, Halt>
-        requires asked { IsAsked nb }
+        requires asked { IsRequestSize nb }
         requires tuned { IsTuned t.now }
         ensures told { IsTrue (tells K.port self.old) → Yields result (world_of self.new) (search K.port t.now nb (world_of self.old)) }
         ensures telling { IsTrue (tells K.port self.old) → IsTrue (tells K.port self.new) }
@@ -170,7 +169,7 @@ impl<K: Kernel> Process<K> {
         ensures none { IfNone result (world_of self.new ≡ world_of self.old) }
         ensures chunk { IfSome result (λ b. IsChunkSize b.size) }
     {
-        if nb.0 > MAX_CACHED {
+        if nb > MAX_CACHED {
             return None;
         }
         self.cache.get(cache_index(nb))
@@ -191,7 +190,7 @@ impl<K: Kernel> Process<K> {
     /// A chunk for a name, from the cache or from main.
     #[tactic(auto, unfolding(crate::specs::World::chunk_for))]
     fn take_chunk(&mut self, name: u32, nb: Size, t: &Tunables) -> Result<Outcome, Halt>
-        requires asked { IsAsked nb }
+        requires asked { IsRequestSize nb }
         requires tuned { IsTuned t.now }
         ensures told { IsTrue (tells K.port self.old) → Yields result (world_of self.new) (chunk_for K.port t.now name nb (world_of self.old)) }
         ensures telling { IsTrue (tells K.port self.old) → IsTrue (tells K.port self.new) }

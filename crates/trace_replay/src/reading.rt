@@ -1,7 +1,7 @@
 //! The whole input.
 
-ghost use Rattle.std.specs.Prelude.{◌<◌, length, IfOk, IfErr};
-ghost use Rattle.trace_replay.specs.Input.{IsWhole, ReadFails};
+ghost use Rattle.std.specs.Prelude.{◌<◌, ◌≤◌, length, IfOk, IfErr};
+ghost use Rattle.trace_replay.specs.Input.{IsWhole, ReadFails, read_room};
 
 use crate::exit::Exit;
 use crate::streams::{Fetch, Source};
@@ -15,7 +15,7 @@ const ROOM: usize = 65_536;
 
 /// All bytes of the source, to its end.
 pub fn read_input<S: Source>(alloc: Global, source: &mut S) -> Result<Vec<u8>, Exit>
-    ensures ok { IfOk result (λ read. IsWhole S.left source.old source.new read.items) }
+    ensures ok { IfOk result (λ read. IsWhole S.left S.faults source.old source.new read.items) }
     ensures err { IfErr result (ReadFails S.left S.faults source.old source.new) }
 {
     let mut room = vec![in alloc; 0u8; ROOM]?;
@@ -23,8 +23,9 @@ pub fn read_input<S: Source>(alloc: Global, source: &mut S) -> Result<Vec<u8>, E
 }
 
 fn read_through<S: Source>(alloc: Global, source: &mut S, room: &mut [u8]) -> Result<Vec<u8>, Exit>
-    requires { 0 < length room.old }
-    ensures ok { IfOk result (λ read. IsWhole S.left source.old source.new read.items) }
+    requires some { 0 < length room.old }
+    requires fits { length room.old ≤ read_room }
+    ensures ok { IfOk result (λ read. IsWhole S.left S.faults source.old source.new read.items) }
     ensures err { IfErr result (ReadFails S.left S.faults source.old source.new) }
 {
     let mut bytes = Vec::new(alloc);

@@ -1,16 +1,18 @@
 //! A serial run: the record of each line, in file order.
 
 ghost use Rattle.std.specs.Prelude.{◌≡◌, IsTrue, IfErr};
+ghost use Rattle.std.specs.List.{All};
+ghost use Rattle.chunk_tags.specs.Tunables.{IsTuned};
 ghost use Rattle.address_space.specs.Ports.{Port};
-ghost use Rattle.trace_replay.specs.Headline.{IsHalt};
-ghost use Rattle.trace_replay.specs.Replays.{Serves, Records, Appends};
+ghost use Rattle.trace_replay.specs.Headline.{IsHalt, IsNumbered};
+ghost use Rattle.trace_replay.specs.Replays.{Serves, AppendsRecord, AppendsRecords};
 ghost use Rattle.trace_replay.specs.SerialText.{answer_of, replayed};
 ghost use Rattle.trace_replay.specs.World.{step};
-ghost use Rattle.trace_replay.specs.Processes.{IsTuned, world_of, tells};
+ghost use Rattle.trace_replay.specs.Processes.{world_of, tells};
 
 use crate::exit::Exit;
+use crate::halt::Halt;
 use crate::process::Process;
-use crate::top::Halt;
 use address_space::Kernel;
 use chunk_tags::Tunables;
 use stats_text::{Outcome, append_record};
@@ -24,7 +26,8 @@ fn answer<K: Kernel>(
     line: &Line,
     t: &Tunables,
 ) -> Result<Outcome, Exit>
-    requires { IsTuned t.now }
+    requires tuned { IsTuned t.now }
+    requires numbered { IsNumbered line.now }
     ensures told { IsTrue (tells K.port process.old) → Serves (λ said a. a ≡ (said, world_of process.new)) result (answer_of line.now (step K.port t.now line.now (world_of process.old))) }
     ensures telling { IsTrue (tells K.port process.old) → IsTrue (tells K.port process.new) }
     ensures kind { IfErr result IsHalt }
@@ -45,8 +48,9 @@ fn replay_line<K: Kernel>(
     scratch: &mut Vec<u8>,
     out: &mut Vec<u8>,
 ) -> Result<(), Exit>
-    requires { IsTuned t.now }
-    ensures told { IsTrue (tells K.port process.old) → Serves (λ _ a. Records out.old.items out.new.items line.now (world_of process.new) a) result (answer_of line.now (step K.port t.now line.now (world_of process.old))) }
+    requires tuned { IsTuned t.now }
+    requires numbered { IsNumbered line.now }
+    ensures told { IsTrue (tells K.port process.old) → Serves (λ _ a. AppendsRecord out.old.items out.new.items line.now (world_of process.new) a) result (answer_of line.now (step K.port t.now line.now (world_of process.old))) }
     ensures telling { IsTrue (tells K.port process.old) → IsTrue (tells K.port process.new) }
     ensures kind { IfErr result IsHalt }
 {
@@ -65,8 +69,9 @@ pub fn replay<K: Kernel>(
     t: &Tunables,
     out: &mut Vec<u8>,
 ) -> Result<(), Exit>
-    requires { IsTuned t.now }
-    ensures told { IsTrue (tells K.port process.old) → Serves (λ _ records. Appends out.old.items out.new.items (world_of process.new) records) result (replayed K.port t.now lines.now (world_of process.old)) }
+    requires tuned { IsTuned t.now }
+    requires numbered { All IsNumbered lines.now }
+    ensures told { IsTrue (tells K.port process.old) → Serves (λ _ records. AppendsRecords out.old.items out.new.items (world_of process.new) records) result (replayed K.port t.now lines.now (world_of process.old)) }
     ensures kind { IfErr result IsHalt }
 {
     let mut scratch = Vec::new(alloc);

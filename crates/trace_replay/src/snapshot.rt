@@ -10,7 +10,7 @@ ghost use Rattle.trace_replay.specs.Places.{live_tile, cached_tile, structure_ti
 
 use crate::process::Process;
 use address_space::Kernel;
-use chunk_tags::{Addr, NoMemory, Size, Tunables};
+use chunk_tags::{Addr, NoMemory, Size, Tunables, cached_size};
 use stats_text::{ArenaView, CacheView, DialState, Place, Snapshot, TileView};
 use std::alloc::Global;
 use std::collections::BTreeMap;
@@ -53,7 +53,7 @@ fn append_cached(tiles: &mut Vec<TileView>, index: usize, addrs: &[Addr]) -> Res
     requires { index < 64 }
     ensures { OnOk result (tiles.new.items ≡ tiles.old.items ++ map (tile_by_index index) addrs.now) }
 {
-    let size = Size(32 + 16 * index as u64);
+    let size = cached_size(index as u8);
     for addr in addrs {
         tiles.push(tile(*addr, size, Place::Cache { thread: 0 }))?;
     }

@@ -1,15 +1,16 @@
 //! The top call.
 
-ghost use Rattle.std.specs.Prelude.{◌≡◌, ◌≢◌, ◌++◌, ℕ, List, Some, length, vec_len, IsTrue, IsOk, IsErr, IfErr, OnOk, IsOkAnd, MatchResult, Ok, Err, [], slice_get};
+ghost use Rattle.std.specs.Prelude.{◌≡◌, ◌≢◌, ◌++◌, ℕ, List, Some, length, vec_len, IsTrue, IsOk, IsErr, IfOk, IfErr, OnOk, IsOkAnd, MatchResult, Ok, Err, [], slice_get};
 ghost use Rattle.std.specs.List.{All};
 ghost use Rattle.address_space.specs.Ports.{Rose};
 ghost use Rattle.stats_text.specs.Totals.{HasTotals};
 ghost use Rattle.trace_text.specs.Grammar.{reading_of};
-ghost use Rattle.trace_replay.specs.Headline.{Told, AnswersAs, AnswersLines, IsTextRefusal, IsHalt};
-ghost use Rattle.trace_replay.specs.Input.{IsWhole, ReadFails};
+ghost use Rattle.trace_replay.specs.Headline.{Told, AnswersAs, AnswersLines, IsTextRefusal, IsHalt, IsNumbered};
+ghost use Rattle.trace_replay.specs.Input.{IsWhole, IsTooMuch, IsCutOff, ReadFails};
 ghost use Rattle.trace_replay.specs.Output.{IsWritten, IsCutShort};
-ghost use Rattle.trace_replay.specs.Processes.{IsTuned};
+ghost use Rattle.chunk_tags.specs.Tunables.{IsTuned};
 ghost use Rattle.trace_replay.specs.Replays.{Serves, RefusesAs};
+ghost use Rattle.trace_replay.specs.Tiling.{ShowsTiles};
 ghost use Rattle.trace_replay.specs.SerialText.{sections, lines_of, report_of, text_of, has_word, without_word, asked_lines, verdict};
 
 use crate::exit::Exit;
@@ -27,8 +28,10 @@ use std::alloc::Global;
 use trace_text::{Line, TraceFault, read_trace};
 
 /// The lines of the input, or its first fault.
+#[tactic(auto, using(crate::proofs::Numbered::numbered))]
 fn lines(alloc: Global, bytes: &[u8]) -> Result<Vec<Line>, Exit>
     ensures exact { Serves (λ read rules. read.items ≡ rules) result (lines_of (reading_of bytes.now)) }
+    ensures numbered { IfOk result (λ read. All IsNumbered read.items) }
     ensures kind { IfErr result IsTextRefusal }
 {
     match read_trace(alloc, bytes) {
@@ -41,6 +44,7 @@ fn lines(alloc: Global, bytes: &[u8]) -> Result<Vec<Line>, Exit>
 /// The lines of the input, where no word asks for what isn't built.
 fn built_lines(alloc: Global, words: &[String], bytes: &[u8]) -> Result<Vec<Line>, Exit>
     ensures exact { Serves (λ read rules. read.items ≡ rules) result (without_word (length words.now) (lines_of (reading_of bytes.now))) }
+    ensures numbered { IfOk result (λ read. All IsNumbered read.items) }
     ensures word { IsTrue (has_word (length words.now)) → IsErr result }
     ensures kind { IfErr result IsTextRefusal }
 {
@@ -75,7 +79,8 @@ fn report<K: Kernel>(
     kernel: K,
     t: &Tunables,
 ) -> Result<Vec<u8>, Exit>
-    requires { IsTuned t.now }
+    requires tuned { IsTuned t.now }
+    requires numbered { All IsNumbered lines.now }
     ensures told { IsTrue (K.port.tells kernel) → Serves (λ text rules. text.items ≡ rules) result (report_of K.port t.now lines.now kernel) }
     ensures kind { IfErr result IsHalt }
 {
@@ -125,7 +130,9 @@ fn text<S: Source, K: Kernel>(
     ensures lines { (bytes : List ℕ) → S.left source.old ≡ Some bytes → MatchResult result (λ _. IsOk (asked_lines (length words.now) bytes)) (AnswersLines (asked_lines (length words.now) bytes)) }
     ensures ended { (bytes : List ℕ) → S.left source.old ≡ Some bytes → OnOk result (S.left source.new ≡ Some []) }
     ensures word { IsTrue (has_word (length words.now)) → IsErr result }
-    ensures read_fault { result ≡ Err Exit.ReadFault → Rose (S.faults source.old) (S.faults source.new) }
+    ensures too_long { result ≡ Err Exit.TooLong → IsTooMuch S.left S.faults source.old source.new }
+    ensures read_fault { result ≡ Err Exit.ReadFault → IsCutOff S.left S.faults source.old source.new }
+    ensures no_read_fault { result ≢ Err Exit.ReadFault → S.faults source.new ≡ S.faults source.old }
     ensures kind { IfErr result (λ exit. (exit ≢ Exit.Done) × (exit ≢ Exit.WriteFault)) }
 {
     let bytes = read_input(alloc, source)?;
@@ -135,6 +142,7 @@ fn text<S: Source, K: Kernel>(
 /// Reads a trace, replays it, and writes the report. Nothing is written before the text is whole.
 ///
 /// `kernels` has the port of each thread.
+#[tactic(auto, using(crate::proofs::TiledReports::shows_tiles))]
 pub fn run<S: Source, W: Sink, K: Kernel, G: Gate>(
     alloc: Global,
     words: &[String],
@@ -148,7 +156,11 @@ pub fn run<S: Source, W: Sink, K: Kernel, G: Gate>(
     // Done, over a source and ports that tell: the input was read to its end, and exactly the serial text was
     // written, and flushed.
     ensures done { result ≡ Exit.Done → (bytes : List ℕ) → Told S.left K.port source.old kernels.items bytes
-        → (S.left source.new ≡ Some []) × IsOkAnd (verdict K.port kernels.items (length words.now) bytes) (λ text. IsWritten W.written sink.old text sink.new) }
+        → (S.left source.new ≡ Some []) × IsOkAnd (verdict K.port kernels.items (length words.now) bytes) (λ text. IsWritten W.written W.faults sink.old text sink.new) }
+
+    // That text shows the world that the lines leave: every chunk once, and together they fill main.
+    ensures tiled { result ≡ Exit.Done → (bytes : List ℕ) → Told S.left K.port source.old kernels.items bytes
+        → IsOkAnd (verdict K.port kernels.items (length words.now) bytes) (ShowsTiles K.port kernels.items (length words.now) bytes) }
 
     // Each refusal comes exactly where the rules give it, unless a fault of the source or want of memory came before.
     ensures exact { (bytes : List ℕ) → Told S.left K.port source.old kernels.items bytes
@@ -162,9 +174,15 @@ pub fn run<S: Source, W: Sink, K: Kernel, G: Gate>(
     // Nothing is written where a word stands behind the program's name, whatever the source tells.
     ensures word { IsTrue (has_word (length words.now)) → (result ≢ Exit.Done) × (result ≢ Exit.WriteFault) }
 
-    // A fault is answered only where it was counted in this call.
-    ensures read_fault { result ≡ Exit.ReadFault → Rose (S.faults source.old) (S.faults source.new) }
+    // A fault is answered only where it was counted in this call. It comes before a byte too many, and no read follows
+    // the one that gave such a byte.
+    ensures too_long { result ≡ Exit.TooLong → IsTooMuch S.left S.faults source.old source.new }
+    ensures read_fault { result ≡ Exit.ReadFault → IsCutOff S.left S.faults source.old source.new }
     ensures write_fault { result ≡ Exit.WriteFault → Rose (W.faults sink.old) (W.faults sink.new) }
+
+    // And what was counted is answered: elsewhere the counts are what they were.
+    ensures no_read_fault { result ≢ Exit.ReadFault → S.faults source.new ≡ S.faults source.old }
+    ensures no_write_fault { result ≢ Exit.WriteFault → W.faults sink.new ≡ W.faults sink.old }
 
     // After a fault of the sink a prefix of the text is written; after any other refusal, nothing.
     ensures prefix { result ≡ Exit.WriteFault → (bytes : List ℕ) → Told S.left K.port source.old kernels.items bytes

@@ -2,7 +2,7 @@ use Rattle.std.proofs.Common.{Option, nat_cmp, sym, subst, ◌∙◌}
 use Rattle.std.specs.Prelude.{IfSome}
 use Rattle.std.specs.BTreeMap.{is_at}
 use Rattle.chunk_tags.specs.declared.block.Block.{Block}
-use Rattle.trace_replay.proofs.Live.{IsChunk, chunk_found, chunks_without}
+use Rattle.trace_replay.proofs.LiveChunks.{IsChunk, chunk_found, chunks_without}
 use Rattle.trace_replay.proofs.process.Process.free.Goals as goal
 
 pub invariant_of-self-clause-chunks : goal.invariant_of-self-clause-chunks

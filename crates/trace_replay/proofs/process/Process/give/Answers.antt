@@ -1,4 +1,4 @@
-use Rattle.trace_replay.proofs.Live.{chunks_with}
+use Rattle.trace_replay.proofs.LiveChunks.{chunks_with}
 use Rattle.trace_replay.proofs.process.Process.give.Goals as goal
 
 pub invariant_of-self-clause-chunks : goal.invariant_of-self-clause-chunks
