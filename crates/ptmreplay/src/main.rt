@@ -1,10 +1,14 @@
 //! `ptmreplay`: reads a trace of malloc calls from standard input and writes the report to standard output.
 #![tactic(auto)]
 
+ghost use Rattle.std.specs.Prelude.{◌≢◌, length, vec_len, IfOk, IsTrue};
+ghost use Rattle.trace_replay.specs.SerialText.{has_word};
+
 mod ending;
 
 use address_space::Always;
 use ending::{Complaint, exit_code};
+use std::alloc::{AllocError, Global};
 use std::env;
 use std::io::{self, ErrorKind};
 use std::process::ExitCode;
@@ -14,43 +18,42 @@ use trace_replay::{Exit, Open, StdSink, StdSource};
 /// The threads that a trace can name.
 const THREADS: usize = 64;
 
-/// The words of the command line. Where one is no text, an empty word behind the program's name stands for them.
-fn words<R: Env + AllocGlobal>(rt: &R) -> Result<Vec<String>, Exit> {
-    let mut words = Vec::new(rt.alloc());
-    match env::args(rt) {
-        Ok(args) => {
-            for word in args {
-                words.push(word)?;
-            }
-        }
-        Err(error) if error.kind() == ErrorKind::InvalidData => {
-            words.push(String::new(rt.alloc()))?;
-            words.push(String::new(rt.alloc()))?;
-        }
-        Err(_) => return Err(Exit::NoMemory),
-    }
+/// What stands for words that are no text: an empty word behind the program's name.
+fn unreadable_words(alloc: Global) -> Result<Vec<String>, AllocError>
+    ensures { IfOk result (λ words. IsTrue (has_word (vec_len words))) }
+{
+    let mut words = Vec::new(alloc);
+    words.push(String::from_str(alloc, "ptmreplay")?)?;
+    words.push(String::new(alloc))?;
     Ok(words)
 }
 
+/// The words of the command line.
+fn words<R: Env + AllocGlobal>(rt: &R) -> Result<Vec<String>, Exit> {
+    match env::args(rt) {
+        Ok(args) => Ok(args.collect(rt.alloc())?),
+        Err(error) if error.kind() == ErrorKind::InvalidData => Ok(unreadable_words(rt.alloc())?),
+        Err(_) => Err(Exit::NoMemory),
+    }
+}
+
 /// Runs over standard input and output, and over ports that grant each ask.
-fn replay<R: Env + Input + Print + AllocGlobal>(rt: &R) -> Result<Exit, Exit> {
-    let words = words(rt)?;
-    let kernels = vec![in rt.alloc(); Always; THREADS]?;
+fn replay<R: Input + Print + AllocGlobal>(rt: &R, words: &[String]) -> Exit
+    // Nothing is written where a word stands behind the program's name.
+    ensures { IsTrue (has_word (length words.now)) → (result ≢ Exit.Done) × (result ≢ Exit.WriteFault) }
+{
+    let Ok(kernels) = vec![in rt.alloc(); Always; THREADS] else {
+        return Exit::NoMemory;
+    };
     let mut source = StdSource::new(rt.reader());
     let mut sink = StdSink::new(io::writer(rt));
-    Ok(trace_replay::run(
-        rt.alloc(),
-        words.as_slice(),
-        &mut source,
-        &mut sink,
-        kernels,
-        &Open,
-    ))
+    trace_replay::run(rt.alloc(), words, &mut source, &mut sink, kernels, &Open)
 }
 
 fn main(rt: HostRuntime) -> ExitCode {
-    let exit = match replay(&rt) {
-        Ok(exit) | Err(exit) => exit,
+    let exit = match words(&rt) {
+        Ok(words) => replay(&rt, words.as_slice()),
+        Err(exit) => exit,
     };
     if exit != Exit::Done {
         let _ = rt.eprintln(Complaint(exit));
