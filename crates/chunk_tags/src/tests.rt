@@ -20,6 +20,7 @@ fn sizes_round_up_to_sixteen(rt: HostRuntime) {
     ] {
         assert_eq!(rt; request_size(request), Some(Size(size)), "{request}");
     }
+    assert_eq!(rt; request_size(1032), Some(MAX_CACHED));
     assert_eq!(rt; request_size(MAX_REQUEST + 1), None);
     assert_eq!(rt; request_size(u64::MAX), None);
 }

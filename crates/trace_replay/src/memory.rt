@@ -1,7 +1,7 @@
 //! A source and a sink in memory, for tests and for whoever has the bytes already.
 
 ghost use Rattle.std.specs.Prelude.{◌≡◌, ◌<◌, ◌≤◌, ◌+◌, ◌-◌, ◌^◌, ◌↔◌, min, length, [], Some, None, IsTrue, IfOk, vec_len, vec_capacity, drop};
-ghost use Rattle.address_space.specs.Ports.{Rose, counted};
+ghost use Rattle.address_space.specs.Ports.{counted};
 ghost use Rattle.trace_replay.specs.Streams.{Fetches, Writes, Flushes};
 ghost use Rattle.trace_replay.specs.InMemory.{is_due_at, taken_of};
 
@@ -41,8 +41,8 @@ impl Faults {
 
     fn note(&mut self)
         ensures calls { (self.new.calls ≡ self.old.calls) × (self.new.fail_at ≡ self.old.fail_at) }
+        ensures count { self.new.count ≡ counted self.old.count }
         ensures later { self.old.count ≤ self.new.count }
-        ensures rose { Rose self.old.count self.new.count }
     {
         self.count = self.count.saturating_add(1);
     }
@@ -111,6 +111,7 @@ impl Source for MemSource {
         requires { 0 < length into.old }
         ensures fetches { Fetches ⟦<MemSource as Source>⟧.left ⟦<MemSource as Source>⟧.faults self.old into.new result self.new }
         ensures due { (result ≡ Fetch.Failed) ↔ IsTrue (is_due_at self.old.faults.calls self.old.faults.fail_at.items) }
+        ensures once { result ≡ Fetch.Failed → self.new.faults.count ≡ counted self.old.faults.count }
         ensures counts { (self.new.faults.calls ≡ counted self.old.faults.calls) × (self.new.faults.fail_at ≡ self.old.faults.fail_at) }
     {
         if self.faults.is_due() {
@@ -172,6 +173,7 @@ impl Sink for MemSink {
         requires { 0 < length from.now }
         ensures writes { Writes ⟦<MemSink as Sink>⟧.written ⟦<MemSink as Sink>⟧.faults self.old from.now result self.new }
         ensures taken { result ≡ taken_of (is_due_at self.old.faults.calls self.old.faults.fail_at.items) from.now (self.old.room - vec_len self.old.bytes) }
+        ensures once { result ≡ Put.Failed → self.new.faults.count ≡ counted self.old.faults.count }
         ensures counts { (self.new.faults.calls ≡ counted self.old.faults.calls) × (self.new.faults.fail_at ≡ self.old.faults.fail_at) }
         ensures room { self.new.room ≡ self.old.room }
     {
@@ -189,6 +191,7 @@ impl Sink for MemSink {
     fn flush(&mut self) -> Flush
         ensures flushes { Flushes ⟦<MemSink as Sink>⟧.written ⟦<MemSink as Sink>⟧.faults self.old result self.new }
         ensures due { (result ≡ Flush.Failed) ↔ IsTrue (is_due_at self.old.faults.calls self.old.faults.fail_at.items) }
+        ensures once { result ≡ Flush.Failed → self.new.faults.count ≡ counted self.old.faults.count }
         ensures counts { (self.new.faults.calls ≡ counted self.old.faults.calls) × (self.new.faults.fail_at ≡ self.old.faults.fail_at) }
         ensures room { self.new.room ≡ self.old.room }
     {
@@ -231,13 +234,17 @@ impl Sink for CountSink {
     fn write(&mut self, from: &[u8]) -> Put
         requires { 0 < length from.now }
         ensures writes { Writes ⟦<CountSink as Sink>⟧.written ⟦<CountSink as Sink>⟧.faults self.old from.now result self.new }
+        ensures all { result ≡ Put.Took (length from.now) }
         ensures counts { self.new.count ≡ min (self.old.count + length from.now) (2 ^ 64 - 1) }
     {
         self.count = self.count.saturating_add(from.len() as u64);
         Put::Took(from.len())
     }
 
-    fn flush(&mut self) -> Flush {
+    fn flush(&mut self) -> Flush
+        ensures flushes { Flushes ⟦<CountSink as Sink>⟧.written ⟦<CountSink as Sink>⟧.faults self.old result self.new }
+        ensures done { (result ≡ Flush.Done) × (self.new ≡ self.old) }
+    {
         Flush::Done
     }
 }
