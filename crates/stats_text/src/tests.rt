@@ -86,22 +86,70 @@ fn expect(rt: &impl Abort, alloc: Global, s: &Snapshot, want: &str) -> Result<()
 }
 
 #[test]
-fn snapshots_are_written(rt: HostRuntime) -> Result<(), Fail> {
+fn main_is_written(rt: HostRuntime) -> Result<(), Fail> {
     let alloc = rt.alloc();
-    for (s, want) in [
-        (snapshots::nothing(alloc)?, texts::NOTHING),
-        (snapshots::two_blocks(alloc)?, texts::TWO_BLOCKS),
-        (snapshots::lists(alloc)?, texts::LISTS),
-        (snapshots::mapped_chunks(alloc)?, texts::MAPPED_CHUNKS),
-        (snapshots::mapped_structure(alloc)?, texts::MAPPED_STRUCTURE),
-        (snapshots::three_arenas(alloc)?, texts::THREE_ARENAS),
-        (snapshots::fenced_piece(alloc)?, texts::FENCED_PIECE),
-        (snapshots::trimmed_main(alloc)?, texts::TRIMMED_MAIN),
-        (snapshots::reused_arena(alloc)?, texts::REUSED_ARENA),
-        (snapshots::ended_threads(alloc)?, texts::ENDED_THREADS),
-    ] {
-        expect(&rt, alloc, &s, want)?;
-    }
+    expect(&rt, alloc, &snapshots::nothing(alloc)?, texts::NOTHING)?;
+    expect(
+        &rt,
+        alloc,
+        &snapshots::two_blocks(alloc)?,
+        texts::TWO_BLOCKS,
+    )?;
+    expect(&rt, alloc, &snapshots::lists(alloc)?, texts::LISTS)?;
+    expect(
+        &rt,
+        alloc,
+        &snapshots::fenced_piece(alloc)?,
+        texts::FENCED_PIECE,
+    )?;
+    expect(
+        &rt,
+        alloc,
+        &snapshots::trimmed_main(alloc)?,
+        texts::TRIMMED_MAIN,
+    )?;
+    Ok(())
+}
+
+#[test]
+fn mappings_are_written(rt: HostRuntime) -> Result<(), Fail> {
+    let alloc = rt.alloc();
+    expect(
+        &rt,
+        alloc,
+        &snapshots::mapped_chunks(alloc)?,
+        texts::MAPPED_CHUNKS,
+    )?;
+    expect(
+        &rt,
+        alloc,
+        &snapshots::mapped_structure(alloc)?,
+        texts::MAPPED_STRUCTURE,
+    )?;
+    Ok(())
+}
+
+#[test]
+fn other_arenas_are_written(rt: HostRuntime) -> Result<(), Fail> {
+    let alloc = rt.alloc();
+    expect(
+        &rt,
+        alloc,
+        &snapshots::three_arenas(alloc)?,
+        texts::THREE_ARENAS,
+    )?;
+    expect(
+        &rt,
+        alloc,
+        &snapshots::reused_arena(alloc)?,
+        texts::REUSED_ARENA,
+    )?;
+    expect(
+        &rt,
+        alloc,
+        &snapshots::ended_threads(alloc)?,
+        texts::ENDED_THREADS,
+    )?;
     Ok(())
 }
 
