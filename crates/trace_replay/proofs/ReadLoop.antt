@@ -55,6 +55,7 @@ more_came left faults first now read long bound so_far = record {
 pub cut_off : {S : Type 0} (left : S → Option (List ℕ)) (faults : S → ℕ) (first now next : S) (read : List ℕ) → length read ≤ max_input → SoFar left faults first now read → FailsToRead left faults now next → IsCutOff left faults first next
 cut_off left faults first now next read short so_far fails = record {
   rose = subst (λ (n : ℕ). Rose n (faults next)) so_far.unfaulted fails.rose;
+  last = record { failing = now; unfaulted = so_far.unfaulted; fails = fails };
   told = λ all h.
       let was = so_far.told all h in
       let took = taken all read was.0 was.1 in

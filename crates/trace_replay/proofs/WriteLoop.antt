@@ -40,6 +40,7 @@ all_flushed written faults first now next text rest under_way empty flushed = re
 pub cut_short : {S : Type 0} (written : S → Option Written) (faults : S → ℕ) (first now next : S) (text rest : List ℕ) → IsUnderWay written faults first now text rest → FailsAlone written faults now next → IsCutShort written faults first text next
 cut_short written faults first now next text rest under_way fails = record {
   rose = omega (arith, under_way.unfaulted, fails.rose);
+  last = record { failing = now; unfaulted = under_way.unfaulted; fails = fails };
   told = λ w h.
       let was = under_way.told w h in
       let front : take (length was.0) text ≡ was.0 = ap (take (length was.0)) (sym was.1) ∙ take-append_seam was.0 rest in (

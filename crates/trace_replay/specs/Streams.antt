@@ -26,6 +26,12 @@ pub record FailsToRead {S : Type 0} (left : S → Option (List ℕ)) (faults : S
   pub rose : Rose (faults before) (faults now)
   pub told : (bytes : List ℕ) → left before ≡ Some bytes → left now ≡ Some bytes
 
+-- the last read failed, and none before it
+pub record EndsInFailedRead {S : Type 0} (left : S → Option (List ℕ)) (faults : S → ℕ) (before now : S) : Type 0 where
+  pub failing : S
+  pub unfaulted : faults failing ≡ faults before
+  pub fails : FailsToRead left faults failing now
+
 -- one read
 abbrev pub Fetches : {S : Type 0} → (S → Option (List ℕ)) → (S → ℕ) → S → List ℕ → Fetch → S → Type 0
 Fetches left faults before room (fetches.Got n) now = Takes left faults before room n now
@@ -49,6 +55,12 @@ pub record FailsAlone {S : Type 0} (written : S → Option Written) (faults : S 
   pub later : faults before ≤ faults now
   pub rose : Rose (faults before) (faults now)
   pub told : (w : Written) → written before ≡ Some w → written now ≡ Some w
+
+-- the last call failed, and none before it
+pub record EndsInFailedCall {S : Type 0} (written : S → Option Written) (faults : S → ℕ) (before now : S) : Type 0 where
+  pub failing : S
+  pub unfaulted : faults failing ≡ faults before
+  pub fails : FailsAlone written faults failing now
 
 -- one write
 abbrev pub Writes : {S : Type 0} → (S → Option Written) → (S → ℕ) → S → List ℕ → Put → S → Type 0

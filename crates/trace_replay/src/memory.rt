@@ -1,9 +1,9 @@
 //! A source and a sink in memory, for tests and for whoever has the bytes already.
 
-ghost use Rattle.std.specs.Prelude.{◌≡◌, ◌<◌, ◌≤◌, ◌+◌, ◌-◌, ◌^◌, ◌↔◌, min, length, [], Some, None, IsTrue, IfOk, vec_len, vec_capacity, drop};
+ghost use Rattle.std.specs.Prelude.{◌≡◌, ◌≢◌, ◌<◌, ◌≤◌, ◌+◌, ◌-◌, ◌^◌, ◌↔◌, min, length, [], Some, None, IsTrue, IfOk, vec_len, vec_capacity, drop};
 ghost use Rattle.address_space.specs.Ports.{counted};
 ghost use Rattle.trace_replay.specs.Streams.{Fetches, Writes, Flushes};
-ghost use Rattle.trace_replay.specs.InMemory.{is_due_at, taken_of};
+ghost use Rattle.trace_replay.specs.InMemory.{is_due_at, fetched_of, taken_of};
 
 use crate::streams::{Fetch, Flush, Put, Sink, Source};
 use chunk_tags::NoMemory;
@@ -70,7 +70,12 @@ impl Source for SureSource {
 
     ghost faults = { λ _. 0 };
 
-    fn read(&mut self, into: &mut [u8]) -> Fetch {
+    fn read(&mut self, into: &mut [u8]) -> Fetch
+        requires { 0 < length into.old }
+        ensures fetches { Fetches ⟦<SureSource as Source>⟧.left ⟦<SureSource as Source>⟧.faults self.old into.new result self.new }
+        ensures got { result ≡ fetched_of (length into.old) (vec_len self.old.bytes - self.old.at) }
+        ensures behind { let n = min (length into.old) (vec_len self.old.bytes - self.old.at) in drop n into.new ≡ drop n into.old }
+    {
         let count = into.len().min(self.bytes.len() - self.at);
         if count == 0 {
             return Fetch::End;
@@ -112,6 +117,7 @@ impl Source for MemSource {
         ensures fetches { Fetches ⟦<MemSource as Source>⟧.left ⟦<MemSource as Source>⟧.faults self.old into.new result self.new }
         ensures due { (result ≡ Fetch.Failed) ↔ IsTrue (is_due_at self.old.faults.calls self.old.faults.fail_at.items) }
         ensures once { result ≡ Fetch.Failed → self.new.faults.count ≡ counted self.old.faults.count }
+        ensures got { result ≢ Fetch.Failed → result ≡ fetched_of (length into.old) (vec_len self.old.sure.bytes - self.old.sure.at) }
         ensures counts { (self.new.faults.calls ≡ counted self.old.faults.calls) × (self.new.faults.fail_at ≡ self.old.faults.fail_at) }
     {
         if self.faults.is_due() {

@@ -8,6 +8,7 @@ ghost use Rattle.trace_text.specs.Grammar.{reading_of};
 ghost use Rattle.trace_replay.specs.Headline.{Told, AnswersAs, AnswersLines, IsTextRefusal, IsHalt, IsNumbered};
 ghost use Rattle.trace_replay.specs.Input.{IsWhole, IsTooMuch, IsCutOff, ReadFails};
 ghost use Rattle.trace_replay.specs.Output.{IsWritten, IsCutShort};
+ghost use Rattle.trace_replay.specs.Streams.{EndsInFailedCall};
 ghost use Rattle.chunk_tags.specs.Tunables.{IsTuned};
 ghost use Rattle.trace_replay.specs.Replays.{Serves, RefusesAs};
 ghost use Rattle.trace_replay.specs.Tiling.{ShowsTiles};
@@ -175,10 +176,11 @@ pub fn run<S: Source, W: Sink, K: Kernel, G: Gate>(
     ensures word { IsTrue (has_word (length words.now)) → (result ≢ Exit.Done) × (result ≢ Exit.WriteFault) }
 
     // A fault is answered only where it was counted in this call. It comes before a byte too many, and no read follows
-    // the one that gave such a byte.
+    // the one that gave such a byte. Nothing is asked of a source or a sink behind its fault.
     ensures too_long { result ≡ Exit.TooLong → IsTooMuch S.left S.faults source.old source.new }
     ensures read_fault { result ≡ Exit.ReadFault → IsCutOff S.left S.faults source.old source.new }
     ensures write_fault { result ≡ Exit.WriteFault → Rose (W.faults sink.old) (W.faults sink.new) }
+    ensures last_call { result ≡ Exit.WriteFault → EndsInFailedCall W.written W.faults sink.old sink.new }
 
     // And what was counted is answered: elsewhere the counts are what they were.
     ensures no_read_fault { result ≢ Exit.ReadFault → S.faults source.new ≡ S.faults source.old }
