@@ -1,2 +1,6 @@
+pub mod BinOrder
+pub mod Dials
+pub mod Pages
 pub mod Sizes
+pub mod Tiles
 pub mod Tunables

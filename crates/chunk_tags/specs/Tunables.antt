@@ -2,13 +2,19 @@
 use Rattle.chunk_tags.specs.declared.tunables.Tunables.{Tunables}
 use Rattle.chunk_tags.specs.declared.tunables.Mode.{Mode}
 use Rattle.chunk_tags.specs.declared.tunables.Mode.TheVariants.{Serial, Threads}
-use Rattle.std.specs.Prelude.{◌^◌, ◌<◌, ◌≤◌, true}
+use Rattle.std.specs.Prelude.{ℕ, ◌^◌, ◌<◌, ◌≤◌, true}
+
+-- the longest windows of main (this project's own)
+abbrev pub main_limit : ℕ
+main_limit = 1073741824
 
 -- tunables in their ranges, as far as they are read
 pub record IsTuned (t : Tunables) : Type 0 where
   pub pad : t.top_pad < 2 ^ 31
   pub count : t.tcache_count ≤ 127
   pub bins : t.tcache_bins ≤ 64
+  pub fast : t.max_fast ≤ 160
+  pub main : t.main_max ≤ main_limit
 
 -- a serial run's
 abbrev pub serial_values : Tunables

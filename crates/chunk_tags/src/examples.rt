@@ -1,8 +1,12 @@
 //! Worked examples: numbers that follow from sizes and tunables, stated on the definitions alone. Nothing runs; the
 //! check computes them.
 
-ghost use Rattle.std.specs.Prelude.{◌≡◌, ◌+◌, ◌-◌, ◌*◌, ◌/◌, ◌^◌, Some, None};
-ghost use Rattle.chunk_tags.specs.Sizes.{padded_request, max_cached, cache_index_of, cached_size_at};
+ghost use Rattle.std.specs.Prelude.{◌≡◌, ◌+◌, ◌-◌, ◌*◌, ◌/◌, ◌^◌, ℕ, [], ◌∷◌, Some, None};
+ghost use Rattle.chunk_tags.specs.BinOrder.{inserted, best_of, oldest_of};
+ghost use Rattle.chunk_tags.specs.Pages.{page_up_of, page_down_of};
+ghost use Rattle.chunk_tags.specs.Sizes.{padded_request, max_cached, structure_size, cache_index_of, cached_size_at, bin_of, fast_index_of, fast_size_at};
+ghost use Rattle.chunk_tags.specs.Tiles.{Row, swapped, fused, entered, tile_before, tile_behind, top_of};
+ghost use Rattle.chunk_tags.specs.declared.tiles.Chunk.{Chunk};
 ghost use Rattle.chunk_tags.specs.Tunables.{defaults_of};
 
 use crate::tunables::Mode;
@@ -42,4 +46,43 @@ fn defaults_follow()
     ensures fast { (defaults_of Mode.Serial).max_fast ≡ (128 + 8) / 16 * 16 }
     ensures same_bins { (defaults_of Mode.Threads).tcache_bins ≡ (defaults_of Mode.Serial).tcache_bins }
     ensures same_fast { (defaults_of Mode.Threads).max_fast ≡ (defaults_of Mode.Serial).max_fast }
+{}
+
+/// The bins of sizes, at the borders where large bins become wider.
+fn sizes_have_bins()
+    ensures smallest { bin_of 32 ≡ 2 }
+    ensures last_small { bin_of 1008 ≡ 63 }
+    ensures first_large { bin_of 1024 ≡ 64 }
+    ensures last_of_64 { bin_of 3072 ≡ 96 }
+    ensures still_96 { bin_of 3120 ≡ 96 }
+    ensures first_of_512 { bin_of 3136 ≡ 97 }
+    ensures last_of_512 { bin_of 10736 ≡ 111 }
+    ensures first_of_4096 { bin_of 10752 ≡ 112 }
+    ensures last_of_4096 { bin_of 45040 ≡ 120 }
+    ensures first_of_32768 { bin_of 45056 ≡ 120 }
+    ensures middle { bin_of 65536 ≡ 121 }
+    ensures last_of_32768 { bin_of 163824 ≡ 123 }
+    ensures first_of_262144 { bin_of 163840 ≡ 124 }
+    ensures last_of_262144 { bin_of 786416 ≡ 126 }
+    ensures largest { bin_of (2 ^ 20) ≡ 126 }
+    ensures fast { fast_index_of 32 ≡ 0 }
+    ensures last_fast { fast_index_of 176 ≡ 9 }
+    ensures fast_again { fast_size_at (fast_index_of 128) ≡ 128 }
+    ensures structure { structure_size ≡ 656 }
+    ensures pages { page_up_of 131760 ≡ 135168 }
+    ensures pages_again { page_down_of 135167 ≡ 131072 }
+{}
+
+/// Three chunks of one size in a large bin lie as first, third, second; the second of them is taken; greater ones lie
+/// before them, and a smaller one behind.
+fn equals_follow_the_first()
+    ensures order { (p q r : Chunk) → p.size ≡ 2016 → q.size ≡ 2016 → r.size ≡ 2016
+        → inserted r (inserted q (inserted p [])) ≡ p ∷ r ∷ q ∷ [] }
+    ensures second { (p q r : Chunk) → p.size ≡ 2016 → q.size ≡ 2016 → r.size ≡ 2016
+        → best_of 2000 (p ∷ r ∷ q ∷ []) ≡ Some r }
+    ensures greater { (p q : Chunk) → p.size ≡ 2016 → q.size ≡ 2032 → inserted q (p ∷ []) ≡ q ∷ p ∷ [] }
+    ensures smaller { (p q : Chunk) → p.size ≡ 2016 → q.size ≡ 2000 → inserted q (p ∷ []) ≡ p ∷ q ∷ [] }
+    ensures least { (p q : Chunk) → p.size ≡ 2032 → q.size ≡ 2016 → best_of 2000 (p ∷ q ∷ []) ≡ Some q }
+    ensures none { (p : Chunk) → p.size ≡ 2016 → best_of 2032 (p ∷ []) ≡ None }
+    ensures oldest { (p q : Chunk) → oldest_of (p ∷ q ∷ []) ≡ Some q }
 {}

@@ -1,15 +1,21 @@
-//! The numbers of the allocator: chunk addresses and sizes, what a request becomes, the index of a
-//! cached size, blocks in somebody's hand, and the tunables.
+//! The numbers of the allocator: chunk addresses and sizes, what a request becomes, the indexes of a size, blocks in
+//! somebody's hand, tiles in a row, and the tunables. A contract sees an address or a size as a number, and the rules
+//! of numbers and of rows are its definitions `Sizes`, `Pages`, `Tiles` and `Tunables`.
 #![tactic(auto)]
 
 mod block;
 mod refusals;
 mod sizes;
+mod tiles;
 mod tunables;
 
 pub use block::Block;
 pub use refusals::{NoMemory, Refused};
-pub use sizes::{Addr, MAX_CACHED, MAX_REQUEST, Size, cache_index, cached_size, request_size};
+pub use sizes::{
+    Addr, MAX_CACHED, MAX_REQUEST, PAGE, Size, cache_index, cached_size, fast_index, is_small,
+    large_index, page_down, page_up, request_size, small_index,
+};
+pub use tiles::{Chunk, Tile, TileKind};
 pub use tunables::{Mode, Tunables};
 
 #[cfg(test)]

@@ -1,7 +1,8 @@
 //! Addresses, sizes, and what follows from a size.
 
-ghost use Rattle.std.specs.Prelude.{◌≡◌, ◌+◌, ◌-◌, ◌/◌, ◌<◌, ◌≤◌};
-ghost use Rattle.chunk_tags.specs.Sizes.{padded_request, max_cached, cache_index_of, cached_size_at};
+ghost use Rattle.std.specs.Prelude.{◌≡◌, ◌+◌, ◌-◌, ◌/◌, ◌%◌, ◌^◌, ◌<◌, ◌≤◌};
+ghost use Rattle.chunk_tags.specs.Sizes.{padded_request, max_cached, cache_index_of, cached_size_at, is_small_size, small_index_of, large_index_of, fast_index_of, IsChunkSize};
+ghost use Rattle.chunk_tags.specs.Pages.{page_up_of, page_down_of};
 
 use std::marker::Model;
 
@@ -69,4 +70,67 @@ pub fn cached_size(index: u8) -> Size
     ensures { result ≡ cached_size_at index }
 {
     Size(32 + (u64::from(index) << 4))
+}
+
+/// Whether chunks of this size belong to a small bin: glibc's `in_smallbin_range`.
+pub fn is_small(s: Size) -> bool
+    ensures { result ≡ is_small_size s }
+{
+    s.0 < 1024
+}
+
+/// The index of the small bin of this size: glibc's `smallbin_index`.
+pub fn small_index(s: Size) -> u8
+    requires { s < 1024 }
+    ensures { result ≡ small_index_of s }
+{
+    (s.0 >> 4) as u8
+}
+
+/// The index of the large bin of this size: glibc's `largebin_index_64`.
+pub fn large_index(s: Size) -> u8
+    requires { 1024 ≤ s }
+    ensures { result ≡ large_index_of s }
+{
+    let size = s.0;
+    if size >> 6 <= 48 {
+        (48 + (size >> 6)) as u8
+    } else if size >> 9 <= 20 {
+        (91 + (size >> 9)) as u8
+    } else if size >> 12 <= 10 {
+        (110 + (size >> 12)) as u8
+    } else if size >> 15 <= 4 {
+        (119 + (size >> 15)) as u8
+    } else if size >> 18 <= 2 {
+        (124 + (size >> 18)) as u8
+    } else {
+        126
+    }
+}
+
+/// The index of the fast bin of this size: glibc's `fastbin_index`.
+pub fn fast_index(s: Size) -> u8
+    requires chunk { IsChunkSize s }
+    requires fast { s ≤ 176 }
+    ensures { result ≡ fast_index_of s }
+{
+    ((s.0 >> 4) - 2) as u8
+}
+
+/// The bytes of a page.
+pub const PAGE: u64 = 4096;
+
+/// The length of whole pages for so many bytes.
+pub fn page_up(bytes: u64) -> u64
+    requires { bytes + 4095 < 2 ^ 64 }
+    ensures { result ≡ page_up_of bytes }
+{
+    ((bytes + (PAGE - 1)) >> 12) << 12
+}
+
+/// The length of the whole pages in so many bytes.
+pub fn page_down(bytes: u64) -> u64
+    ensures { result ≡ page_down_of bytes }
+{
+    (bytes >> 12) << 12
 }

@@ -47,3 +47,30 @@ fn defaults_are_those_of_the_manual(rt: HostRuntime) -> Result<(), Fail> {
     );
     Ok(())
 }
+
+#[test]
+fn sizes_have_bins_and_pages(rt: HostRuntime) {
+    assert!(rt; is_small(Size(1008)) && !is_small(Size(1024)));
+    assert_eq!(rt; small_index(Size(1008)), 63);
+    assert_eq!(rt; fast_index(Size(128)), 6);
+    for (size, index) in [
+        (1024, 64),
+        (3120, 96),
+        (3136, 97),
+        (10_736, 111),
+        (10_752, 112),
+        (45_040, 120),
+        (45_056, 120),
+        (163_824, 123),
+        (163_840, 124),
+        (786_416, 126),
+        (1 << 40, 126),
+    ] {
+        assert!(rt; size >= 1024);
+        assert_eq!(rt; large_index(Size(size)), index, "{size}");
+    }
+    assert_eq!(rt;
+        (page_up(1), page_up(PAGE), page_down(8191)),
+        (PAGE, PAGE, PAGE)
+    );
+}
