@@ -1,0 +1,87 @@
+-- Parts that are opened.
+use Rattle.std.proofs.Common.{◌≡◌, ℕ, ◌+◌, ◌-◌, ◌/◌, ◌%◌, ◌≤◌, max, List, [], ◌∷◌, ◌++◌, length, map, take, replicate, get_or, set, sym, ap, ◌∙◌, refl, inl, inr, arith, zero, suc}
+use Rattle.std.specs.Prelude.{Result, Ok, Err, OnOk, OnErr}
+use Rattle.std.proofs.Math.Path.{fun_ext}
+use Rattle.std.proofs.lemmas.Bool.{cases_eq}
+use Rattle.std.proofs.lemmas.List.{append-nil, append_assoc, map-append, map-set, length-append, length-set, length-map, length-replicate, replicate-append-replicate, set-get_or, take_at, take-map, get_or-map}
+use Rattle.part_words.specs.Extents.{index_of, changed_at}
+use Rattle.part_words.specs.Parts.{Parts, word_at, filled}
+use Rattle.part_words.proofs.Opening.{get_or-changed_same, get_or-changed_other}
+
+-- one more empty part
+pub one_more : {V T : Type 0} (items : V → List T) (ws vs : List V) (x : V) → map items ws ≡ map items vs ++ replicate (length ws - length vs) [] → length vs ≤ length ws → items x ≡ [] → map items (ws ++ x ∷ []) ≡ map items vs ++ replicate (length (ws ++ x ∷ []) - length vs) []
+one_more items ws vs x e h none =
+    let n = length ws - length vs in
+    let m : length (ws ++ x ∷ []) - length vs ≡ n + 1 = omega (arith, length-append ws (x ∷ []), h) in
+    rw m (map-append items ws (x ∷ []) ∙ (ap (λ w. map items ws ++ w ∷ []) none ∙ (ap (λ ps. ps ++ [] ∷ []) e ∙ (append_assoc (map items vs) (replicate n []) ([] ∷ []) ∙ ap (λ ps. map items vs ++ ps) (replicate-append-replicate n 1 [])))))
+
+-- a part that is there, or was added, changes
+pub changed_part : {X : Type 0} (none : X) (f : X → X) (k : ℕ) (xs : List X) (m : ℕ) → m ≡ suc k - length xs → set (xs ++ replicate m none) k (f (get_or (xs ++ replicate m none) k none)) ≡ changed_at none k f xs
+changed_part none f zero [] m e = rw e refl
+changed_part none f zero (x ∷ xs) m e =
+    let z : m ≡ 0 = omega (arith, e) in
+    rw z (ap (λ ys. f x ∷ ys) (append-nil xs))
+changed_part none f (suc k) [] m e = let z : m ≡ suc (suc k) = omega (arith, e) in rw z (ap (λ ys. none ∷ ys) (changed_part none f k [] (suc k) (omega arith)))
+changed_part none f (suc k) (x ∷ xs) m e = ap (λ ys. x ∷ ys) (changed_part none f k xs m (omega (arith, e)))
+
+-- parts that are kept, after empty ones were added up to k, and one of them that became another
+pub record Fills {V T : Type 0} (items : V → List T) (vs ws : List V) (k : ℕ) (w : V) : Type 0 where
+  pub added : map items ws ≡ map items vs ++ replicate (length ws - length vs) []
+  pub count : length ws ≡ max (k + 1) (length vs)
+  pub read : w ≡ get_or ws k w
+
+part_is : {V T : Type 0} (items : V → List T) (vs ws : List V) (k : ℕ) (w : V) → Fills items vs ws k w → get_or (map items ws) k [] ≡ items w
+part_is items vs ws k w h =
+    get_or-map items ws k w [] (omega (arith, h.count)) ∙ sym (ap items h.read)
+
+-- after it was filled
+pub filled_part : {V T E : Type 0} (items : V → List T) (vs ws : List V) (k : ℕ) (w x : V) (f : List T → List T) (r : Result (Unit {0}) E) → Fills items vs ws k w → OnOk r (items x ≡ f (items w)) → OnOk r (map items (set ws k x) ≡ changed_at [] k f (map items vs))
+filled_part items vs ws k w x f (Err e) h new = new
+filled_part items vs ws k w x f (Ok u) h new =
+    map-set items ws k x ∙ (ap (set (map items ws) k) (new ∙ ap f (sym (part_is items vs ws k w h))) ∙ (ap (λ ps. set ps k (f (get_or ps k []))) h.added ∙ changed_part [] f k (map items vs) (length ws - length vs) (omega (arith, h.count, length-map vs items))))
+
+-- where nothing was filled
+pub same_part : {V T E : Type 0} (items : V → List T) (vs ws : List V) (k : ℕ) (w x : V) (r : Result (Unit {0}) E) → Fills items vs ws k w → OnErr r (items x ≡ items w) → OnErr r (map items (set ws k x) ≡ map items vs ++ replicate (length (set ws k x) - length vs) [])
+same_part items vs ws k w x (Ok u) h same = same
+same_part items vs ws k w x (Err e) h same =
+    rw (length-set ws k x) (map-set items ws k x ∙ (ap (set (map items ws) k) (same ∙ sym (part_is items vs ws k w h)) ∙ (set-get_or (map items ws) k [] ∙ h.added)))
+
+-- the parts that came are cut off
+pub cut_back : {V T : Type 0} (items : V → List T) (ws vs : List V) (n m : ℕ) → map items ws ≡ map items vs ++ replicate m [] → n ≡ length vs → map items (take n ws) ≡ map items vs
+cut_back items ws vs n m e h =
+    sym (take-map items n ws) ∙ (ap (take n) e ∙ take_at (map items vs) (replicate m []) n (omega (arith, length-map vs items, h)))
+
+get_or-filled : {T : Type 0} (n : ℕ) (fill : T) (ws : List T) (i : ℕ) → get_or (filled n fill ws) i fill ≡ get_or ws i fill
+get_or-filled n fill ws i = past (n - length ws) fill ws i
+  where
+    past : {T : Type 0} (m : ℕ) (fill : T) (ws : List T) (i : ℕ) → get_or (ws ++ replicate m fill) i fill ≡ get_or ws i fill
+    past zero fill [] i = refl
+    past (suc m) fill [] zero = refl
+    past (suc m) fill [] (suc i) = past m fill [] i
+    past m fill (w ∷ ws) zero = refl
+    past m fill (w ∷ ws) (suc i) = past m fill ws i
+
+-- words that are opened with the default change no word
+pub word_at-filled : {T : Type 0} (ws : Parts T) (k n : ℕ) (fill : T) → word_at (record ws { parts = changed_at [] k (filled n fill) ws.parts }) fill ≡ word_at ws fill
+unfolding word_at
+word_at-filled ws k n fill =
+    fun_ext (λ a.
+    let i = index_of ws.base a / ws.width in
+    let j = index_of ws.base a % ws.width in
+    let same : get_or (get_or (changed_at [] k (filled n fill) ws.parts) i []) j fill ≡ get_or (get_or ws.parts i []) j fill =
+    elim (cases_eq i k) [
+      | inl e ↦ rw (e, get_or-changed_same [] k (filled n fill) ws.parts) (get_or-filled n fill (get_or ws.parts k []) j)
+      | inr other ↦ rw (get_or-changed_other [] k (filled n fill) ws.parts i other) refl
+    ] in
+    rw same refl)
+
+length_filled : {T : Type 0} (n : ℕ) (fill : T) (ws : List T) → length (filled n fill ws) ≡ max n (length ws)
+length_filled n fill ws =
+    omega (arith, length-append ws (replicate (n - length ws) fill), length-replicate (n - length ws) fill)
+
+-- and the part is as long as it has to be
+pub length-filled : {T : Type 0} (k n : ℕ) (fill : T) (ps : List (List T)) → map length (changed_at [] k (filled n fill) ps) ≡ changed_at 0 k (max n) (map length ps)
+length-filled zero n fill [] = ap (λ m. m ∷ []) (length_filled n fill [])
+length-filled zero n fill (p ∷ ps) = ap (λ m. m ∷ map length ps) (length_filled n fill p)
+length-filled (suc k) n fill [] = ap (λ ns. 0 ∷ ns) (length-filled k n fill [])
+length-filled (suc k) n fill (p ∷ ps) = ap (λ ns. length p ∷ ns) (length-filled k n fill ps)

@@ -1,0 +1,5 @@
+mod Filling
+pub mod Opening
+mod Passing
+pub mod Updates
+mod WordLaws

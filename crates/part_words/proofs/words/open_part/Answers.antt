@@ -1,0 +1,16 @@
+use Rattle.part_words.specs.Parts.{filled}
+use Rattle.part_words.proofs.Filling.{Fills, filled_part, same_part}
+use Rattle.part_words.proofs.words.open_part.Goals as goal
+use Rattle.part_words.proofs.words.open_part.Goals.{After-parts-1}
+
+fills : (g : _) → (c : After-parts-1 g) → Fills (λ v. v.items) c.args.parts.now.items c.add_parts.new.parts.items c.args.part c.index_mut-words.result.now
+fills g c =
+    record { added = c.add_parts.ensures.items; count = c.in_ok-add_parts.ensures.ok; read = c.index_mut-words.ensures.value }
+
+pub returns-clause-ok : goal.returns-clause-ok
+returns-clause-ok g c =
+    filled_part (λ v. v.items) _ _ _ _ _ (filled c.args.end c.args.fill) c.fill_part.result (fills g c) c.fill_part.ensures.ok
+
+pub returns-clause-err : goal.returns-clause-err
+returns-clause-err g c =
+    same_part (λ v. v.items) _ _ _ _ _ c.fill_part.result (fills g c) c.fill_part.ensures.err

@@ -1,0 +1,10 @@
+//! One word for each 16 bytes of address space, in parts that grow. A contract sees the words as their parts, reads
+//! them by `word_at`, a function of the address, and says which are open by `IsOpen` of their extent.
+#![tactic(auto)]
+
+mod words;
+
+pub use words::Words;
+
+#[cfg(test)]
+mod tests;

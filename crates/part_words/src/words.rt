@@ -1,0 +1,160 @@
+//! Words by address.
+
+ghost use Rattle.std.specs.Prelude.{◌≡◌, ℕ, ◌*◌, MatchOption, IfSome, IfNone, ◌+◌, ◌-◌, ◌<◌, ◌≤◌, ◌^◌, ◌++◌, [], max, length, map, replicate, OnOk, OnErr};
+ghost use Rattle.part_words.specs.Extents.{extended, changed_at, IsOpen, IsWithinPart};
+ghost use Rattle.part_words.specs.Parts.{no_words, word_at, update, extent_of, filled};
+
+use std::alloc::{AllocError, Global};
+use std::marker::Model;
+
+/// One word for each 16 bytes of address space (this project's own). The words lie in parts, which begin `stride`
+/// bytes after one another, the first of them at `base`; a part is open from its beginning up to some word.
+#[derive(Debug, Drop)]
+pub struct Words<T: Copy> {
+    base: u64,
+    /// The words from the beginning of one part to that of the next.
+    width: u64,
+    parts: Vec<Vec<T>>,
+}
+
+impl<T: Copy> Model for Words<T> {
+    ghost use Rattle.std.specs.Prelude.{◌<◌, map};
+    ghost use Rattle.part_words.specs.Parts.{Parts};
+
+    ghost Value = { Parts T };
+
+    ghost view = { λ s. record { base = s.base; width = s.width; parts = map (λ v. v.items) s.parts.items } };
+
+    ghost invariant = { λ s. 0 < s.width };
+}
+
+impl<T: Copy> Words<T> {
+    /// No words. Parts begin at `base`, and every `stride` bytes after it.
+    pub fn new(alloc: Global, base: u64, stride: u64) -> Words<T>
+        requires { 16 ≤ stride }
+        ensures { result ≡ no_words base stride }
+    {
+        Words {
+            base,
+            width: stride / 16,
+            parts: Vec::new(alloc),
+        }
+    }
+
+    /// The word of an address, in constant time.
+    pub fn get(&self, at: u64) -> T
+        requires { IsOpen (extent_of self.now) at }
+        ensures { (d : T) → result ≡ word_at self.now d at }
+    {
+        let word = (at - self.base) / 16;
+        let part = &self.parts[(word / self.width) as usize];
+        part[(word % self.width) as usize]
+    }
+
+    /// Writes the word of an address, in constant time.
+    pub fn set(&mut self, at: u64, value: T)
+        requires { IsOpen (extent_of self.old) at }
+        ensures word { (d : T) → word_at self.new d ≡ update (word_at self.old d) at value }
+        ensures extent { extent_of self.new ≡ extent_of self.old }
+    {
+        let word = (at - self.base) / 16;
+        let part = &mut self.parts[(word / self.width) as usize];
+        part[(word % self.width) as usize] = value;
+    }
+
+    /// Opens the words of a range, with `fill` in those that weren't open. Nothing changes where memory is short.
+    pub fn open(&mut self, alloc: Global, at: u64, len: u64, fill: T) -> Result<(), AllocError>
+        requires { IsWithinPart (extent_of self.old) at len }
+        ensures words { word_at self.new fill ≡ word_at self.old fill }
+        ensures extent { OnOk result (extent_of self.new ≡ extended (extent_of self.old) at len) }
+        ensures err { OnErr result (self.new ≡ self.old) }
+    {
+        let word = (at - self.base) / 16;
+        let part = (word / self.width) as usize;
+        let end = (word % self.width + len / 16) as usize;
+        let before = self.parts.len();
+        match open_part(&mut self.parts, alloc, part, end, fill) {
+            Ok(()) => Ok(()),
+            Err(short) => {
+                self.parts.truncate(before);
+                Err(short)
+            }
+        }
+    }
+
+    /// The first address from `at` on that has a word; `None` where there is none below 2^64. It passes from part to
+    /// part, and not from word to word.
+    pub fn next_open(&self, at: u64) -> Option<u64>
+        ensures word { IfSome result (λ a. IsOpen (extent_of self.now) a × (at ≤ a)) }
+        ensures first { IfSome result (λ a. (b : ℕ) → at ≤ b → b < a → ¬ IsOpen (extent_of self.now) b) }
+        ensures none { IfNone result ((b : ℕ) → at ≤ b → b < 2 ^ 64 → ¬ IsOpen (extent_of self.now) b) }
+    {
+        let word = at.saturating_sub(self.base).div_ceil(16);
+        let mut place = word % self.width;
+        for part in word / self.width..self.parts.len() as u64 {
+            let words = &self.parts[part as usize];
+            if place < words.len() as u64 {
+                return address(self.base, self.width, part, place);
+            }
+            place = 0;
+        }
+        None
+    }
+}
+
+/// The address of a word of a part, if it is below 2^64.
+fn address(base: u64, width: u64, part: u64, place: u64) -> Option<u64>
+    ensures { MatchOption result (2 ^ 64 ≤ base + 16 * (part * width + place)) (λ a. a ≡ base + 16 * (part * width + place)) }
+{
+    part.checked_mul(width)?
+        .checked_add(place)?
+        .checked_mul(16)?
+        .checked_add(base)
+}
+
+/// Opens a part up to `end` words. Where memory is short, empty parts may have come.
+fn open_part<T: Copy>(
+    parts: &mut Vec<Vec<T>>,
+    alloc: Global,
+    part: usize,
+    end: usize,
+    fill: T,
+) -> Result<(), AllocError>
+    requires { part < 2 ^ 60 }
+    ensures ok { OnOk result
+        (map (λ v. v.items) parts.new.items ≡ changed_at [] part (filled end fill) (map (λ v. v.items) parts.old.items)) }
+    ensures err { OnErr result (map (λ v. v.items) parts.new.items
+        ≡ map (λ v. v.items) parts.old.items ++ replicate (length parts.new.items - length parts.old.items) []) }
+{
+    add_parts(parts, alloc, part + 1)?;
+    let words = &mut parts[part];
+    fill_part(words, end, fill)
+}
+
+/// Adds empty parts up to a count.
+fn add_parts<T: Copy>(
+    parts: &mut Vec<Vec<T>>,
+    alloc: Global,
+    count: usize,
+) -> Result<(), AllocError>
+    ensures ok { OnOk result (length parts.new.items ≡ max count (length parts.old.items)) }
+    ensures items { map (λ v. v.items) parts.new.items
+        ≡ map (λ v. v.items) parts.old.items ++ replicate (length parts.new.items - length parts.old.items) [] }
+{
+    for _added in parts.len()..count {
+        parts.push(Vec::new(alloc))?;
+    }
+    Ok(())
+}
+
+/// Fills a part up to `end` words.
+fn fill_part<T: Copy>(words: &mut Vec<T>, end: usize, fill: T) -> Result<(), AllocError>
+    ensures ok { OnOk result (words.new.items ≡ filled end fill words.old.items) }
+    ensures err { OnErr result (words.new.items ≡ words.old.items) }
+{
+    if words.len() < end {
+        words.resize(end, fill)
+    } else {
+        Ok(())
+    }
+}
