@@ -1,0 +1,6 @@
+pub mod ListLaws
+mod NodeLinks
+mod Paths
+mod Reading
+mod Spelling
+mod Steps

@@ -1,0 +1,18 @@
+use Rattle.bin_links.proofs.Steps.{neighbours, unlink_step}
+use Rattle.bin_links.proofs.links.LinkWords.unlink.Goals as goal
+
+pub skip-requires-clause-behind : goal.skip-requires-clause-behind
+skip-requires-clause-behind c =
+    (neighbours {nodes = c.self.inside.nodes} {v = c.args.self.now} (record { linked = c.self.invariant; view = c.self.view_is }) c.at.inside.0 (rw c.at.view_is c.requires)).ahead_is
+
+pub skip-requires-clause-before : goal.skip-requires-clause-before
+skip-requires-clause-before c =
+    (neighbours {nodes = c.self.inside.nodes} {v = c.args.self.now} (record { linked = c.self.invariant; view = c.self.view_is }) c.at.inside.0 (rw c.at.view_is c.requires)).back_is
+
+pub invariant_of-self : goal.invariant_of-self
+invariant_of-self c =
+    (unlink_step {nodes = c.self.inside.nodes} {v = c.args.self.now} {at = c.at.inside.0} (record { linked = c.self.invariant; view = c.self.view_is }) (rw c.at.view_is c.requires) c.skip.ensures.links c.skip.ensures.extent).linked
+
+pub returns-clause-lists : goal.returns-clause-lists
+returns-clause-lists c =
+    rw (← c.at.view_is) (unlink_step {nodes = c.self.inside.nodes} {v = c.args.self.now} {at = c.at.inside.0} (record { linked = c.self.invariant; view = c.self.view_is }) (rw c.at.view_is c.requires) c.skip.ensures.links c.skip.ensures.extent).lists_are

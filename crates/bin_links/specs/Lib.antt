@@ -1,0 +1,4 @@
+pub use Rattle.part_words.specs.Extents
+pub mod Lists
+pub mod NodeWords
+pub mod Rings
