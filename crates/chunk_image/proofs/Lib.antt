@@ -1,0 +1,9 @@
+pub mod Changes
+mod FootLaws
+mod HeadLaws
+mod ReadLaws
+pub mod Rooms
+pub mod Rows
+mod ScanLaws
+mod TileLaws
+mod WalkLaws

@@ -1,0 +1,16 @@
+use Rattle.std.proofs.Common.{arith}
+use Rattle.chunk_image.specs.Heads.{no_head}
+use Rattle.chunk_image.proofs.ReadLaws.{behind_read}
+use Rattle.chunk_image.proofs.tile_words.TileWords.behind.Goals as goal
+
+pub overflow_add-end : goal.overflow_add-end
+overflow_add-end c =
+    let b = (behind_read _ _ _ c.self.invariant (rw (← c.self.view_is) at c.requires.row) (rw (← c.self.view_is, ← c.t.view_is) at c.requires.tile) (rw (← c.t.view_is) at c.requires.chunk)) in
+    omega (arith, b.end)
+
+pub get-head-requires : goal.get-head-requires
+get-head-requires c = (behind_read _ _ _ c.self.invariant (rw (← c.self.view_is) at c.requires.row) (rw (← c.self.view_is, ← c.t.view_is) at c.requires.tile) (rw (← c.t.view_is) at c.requires.chunk)).place
+
+pub returns : goal.returns
+returns c =
+    rw (← c.self.view_is, ← c.t.view_is, c.get-head.ensures no_head) (behind_read _ _ _ c.self.invariant (rw (← c.self.view_is) at c.requires.row) (rw (← c.self.view_is, ← c.t.view_is) at c.requires.tile) (rw (← c.t.view_is) at c.requires.chunk)).read

@@ -1,0 +1,248 @@
+//! The tiles of an arena in its words.
+
+ghost use Rattle.std.specs.Prelude.{◌≡◌, ◌+◌, ◌-◌, ◌^◌, ◌%◌, ◌<◌, ◌≤◌, ◌≢◌, [], ◌∷◌, ◌++◌, false, IsSome, IfOk, OnOk, OnErr};
+ghost use Rattle.chunk_tags.specs.Tiles.{is_edge, is_free, end_of, Row, swapped, fused, entered, tile_at, tile_behind};
+ghost use Rattle.part_words.specs.Extents.{extended, IsWithinPart};
+ghost use Rattle.chunk_image.specs.Rows.{no_tiles, free_before_of, IsRoom};
+ghost use Rattle.chunk_image.specs.Heads.{tiles_with};
+
+use crate::heads::{Head, put};
+use chunk_tags::{Addr, NoMemory, Size, Tile, TileKind};
+use part_words::Words;
+use std::alloc::Global;
+use std::marker::Model;
+
+/// The words of an arena that say where its tiles are: a head at the beginning of each tile, and at the end of a free
+/// one a foot (this project's own; glibc keeps them in the chunks themselves). Each call takes constant time, but
+/// `tiles` and `open`.
+#[derive(Drop)]
+pub struct TileWords {
+    heads: Words<Head>,
+    feet: Words<u64>,
+}
+
+impl Model for TileWords {
+    ghost use Rattle.chunk_image.specs.Rows.{TileRow};
+
+    ghost Value = { TileRow };
+
+    ghost use Rattle.chunk_image.specs.Heads.{row_of, IsKept};
+
+    ghost view = { λ s. row_of s.heads };
+
+    ghost invariant = { λ s. IsKept s.heads s.feet };
+}
+
+impl TileWords {
+    /// No tiles and no words. Parts of address space begin at `base`, and every `stride` bytes after it.
+    pub fn new(alloc: Global, base: Addr, stride: u64) -> TileWords
+        requires { 16 ≤ stride }
+        ensures { result ≡ no_tiles base stride }
+    {
+        TileWords {
+            heads: Words::new(alloc, base.0, stride),
+            feet: Words::new(alloc, base.0, stride),
+        }
+    }
+
+    /// Opens the words of a range of one part. The tiles stay as they are; where memory is short, all does.
+    pub fn open(&mut self, alloc: Global, at: Addr, len: u64) -> Result<(), NoMemory>
+        requires { IsWithinPart self.old.extent at len }
+        ensures ok { OnOk result (self.new ≡ record self.old { extent = extended self.old.extent at len }) }
+        ensures err { OnErr result (self.new ≡ self.old) }
+    {
+        let from = at.0;
+        self.feet.open(alloc, from, len, 0)?;
+        self.heads.open(alloc, from, len, Head::NONE)?;
+        Ok(())
+    }
+
+    /// The tile that begins at an address.
+    pub fn tile(&self, at: Addr) -> Tile
+        requires { IsSome (tile_at at self.now.tiles) }
+        ensures tile { tile_at at self.now.tiles ≡ Some result }
+        ensures room { IsRoom self.now.extent at result.size }
+    {
+        let head = self.heads.get(at.0);
+        Tile {
+            addr: at,
+            size: Size(head.size),
+            kind: head.kind,
+        }
+    }
+
+    /// The tile before the one at an address, where it is free: glibc's `prev_inuse` and `prev_chunk`.
+    pub fn free_before(&self, at: Addr) -> Option<Tile>
+        requires row { Row self.now.tiles }
+        requires tile { IsSome (tile_at at self.now.tiles) }
+        ensures { result ≡ free_before_of at self.now.tiles }
+    {
+        let size = self.feet.get(at.0);
+        if size == 0 {
+            return None;
+        }
+        Some(Tile {
+            addr: Addr(at.0 - size),
+            size: Size(size),
+            kind: TileKind::Free,
+        })
+    }
+
+    /// The tile behind a chunk: glibc's `chunk_at_offset`.
+    pub fn behind(&self, t: &Tile) -> Tile
+        requires row { Row self.now.tiles }
+        requires tile { tile_at t.now.addr self.now.tiles ≡ Some t.now }
+        requires chunk { is_edge t.now ≡ false }
+        ensures { tile_behind t.now.addr self.now.tiles ≡ Some result }
+    {
+        let heads = &self.heads;
+        let end = t.addr.0 + t.size.0;
+        let head = heads.get(end);
+        Tile {
+            addr: Addr(end),
+            size: Size(head.size),
+            kind: head.kind,
+        }
+    }
+
+    /// Gives a tile another kind. Only a chunk becomes free.
+    pub fn set_kind(&mut self, t: &Tile, kind: TileKind)
+        requires row { Row self.old.tiles }
+        requires tile { tile_at t.now.addr self.old.tiles ≡ Some t.now }
+        requires chunk { kind ≡ TileKind.Free → is_edge t.now ≡ false }
+        ensures { self.new ≡ record self.old {
+          tiles = swapped t.now.addr (record t.now { kind = kind } ∷ []) self.old.tiles;
+        } }
+    {
+        let at = t.addr.0;
+        let size = t.size.0;
+        put(&mut self.heads, &mut self.feet, at, Head { size, kind });
+    }
+
+    /// Gives a tile that isn't free another size; where it grows, the words behind it are open.
+    pub fn set_size(&mut self, t: &Tile, size: Size)
+        requires row { Row self.old.tiles }
+        requires tile { tile_at t.now.addr self.old.tiles ≡ Some t.now }
+        requires kind { is_free t.now ≡ false }
+        requires size { 0 < size }
+        requires room { IsRoom self.old.extent (end_of t.now) (size - t.now.size) }
+        ensures { self.new ≡ record self.old {
+          tiles = swapped t.now.addr (record t.now { size = size } ∷ []) self.old.tiles;
+        } }
+    {
+        let at = t.addr.0;
+        let size = size.0;
+        let kind = t.kind;
+        put(&mut self.heads, &mut self.feet, at, Head { size, kind });
+    }
+
+    /// Cuts a tile into two, the first of `nb` bytes. The first isn't free, and the second only where it was a chunk.
+    pub fn split(&mut self, t: &Tile, nb: Size, first: TileKind, rest: TileKind)
+        requires row { Row self.old.tiles }
+        requires tile { tile_at t.now.addr self.old.tiles ≡ Some t.now }
+        requires whole { nb % 16 ≡ 0 }
+        requires some { 0 < nb }
+        requires less { nb < t.now.size }
+        requires first { first ≢ TileKind.Free }
+        requires rest { rest ≡ TileKind.Free → is_edge t.now ≡ false }
+        ensures { self.new ≡ record self.old {
+          tiles = swapped t.now.addr
+              (record t.now { size = nb; kind = first }
+              ∷ record { addr = t.now.addr + nb; size = t.now.size - nb; kind = rest } ∷ []) self.old.tiles;
+        } }
+    {
+        let at = t.addr.0;
+        let size = nb.0;
+        let left = t.size.0 - size;
+        put(
+            &mut self.heads,
+            &mut self.feet,
+            at,
+            Head { size, kind: first },
+        );
+        put(
+            &mut self.heads,
+            &mut self.feet,
+            at + size,
+            Head {
+                size: left,
+                kind: rest,
+            },
+        );
+    }
+
+    /// Makes a chunk and the tile behind it into one. It becomes free only where the second was a chunk.
+    pub fn fuse(&mut self, t: &Tile, u: &Tile, kind: TileKind)
+        requires row { Row self.old.tiles }
+        requires tile { tile_at t.now.addr self.old.tiles ≡ Some t.now }
+        requires chunk { is_edge t.now ≡ false }
+        requires behind { tile_behind t.now.addr self.old.tiles ≡ Some u.now }
+        requires free { kind ≡ TileKind.Free → is_edge u.now ≡ false }
+        ensures { self.new ≡ record self.old {
+          tiles = fused t.now.addr
+              (record t.now { size = t.now.size + u.now.size; kind = kind }) self.old.tiles;
+        } }
+    {
+        let next = u.addr.0;
+        put(&mut self.heads, &mut self.feet, next, Head::NONE);
+        let at = t.addr.0;
+        let size = t.size.0 + u.size.0;
+        put(&mut self.heads, &mut self.feet, at, Head { size, kind });
+    }
+
+    /// A tile of a new range, at whose address no tile begins yet.
+    pub fn enter(&mut self, t: &Tile)
+        requires none { tile_at t.now.addr self.old.tiles ≡ None }
+        requires kind { is_free t.now ≡ false }
+        requires some { 0 < t.now.size }
+        requires room { IsRoom self.old.extent t.now.addr t.now.size }
+        ensures { self.new ≡ record self.old { tiles = entered t.now self.old.tiles } }
+    {
+        let at = t.addr.0;
+        let size = t.size.0;
+        let kind = t.kind;
+        put(&mut self.heads, &mut self.feet, at, Head { size, kind });
+    }
+
+    /// Takes a tile out of the row.
+    pub fn remove(&mut self, t: &Tile)
+        requires { tile_at t.now.addr self.old.tiles ≡ Some t.now }
+        ensures { self.new ≡ record self.old { tiles = swapped t.now.addr [] self.old.tiles } }
+    {
+        let at = t.addr.0;
+        put(&mut self.heads, &mut self.feet, at, Head::NONE);
+    }
+
+    /// All tiles, by address: one pass from tile to tile, and over the words between regions.
+    pub fn tiles(&self, alloc: Global) -> Result<Vec<Tile>, NoMemory>
+        requires { Row self.now.tiles }
+        ensures { IfOk result (λ v. v.items ≡ self.now.tiles) }
+    {
+        let heads = &self.heads;
+        let mut tiles = Vec::new(alloc);
+        let mut from = 0;
+        while let Some(at) = heads.next_open(from) {
+            let head = heads.get(at);
+            push_tile(&mut tiles, at, head)?;
+            let Some(next) = at.checked_add(head.size.max(1)) else {
+                return Ok(tiles);
+            };
+            from = next;
+        }
+        Ok(tiles)
+    }
+}
+
+/// Appends the tile that a head says, if it says one.
+fn push_tile(tiles: &mut Vec<Tile>, at: u64, head: Head) -> Result<(), NoMemory>
+    ensures { OnOk result (tiles.new.items ≡ tiles.old.items ++ tiles_with at head) }
+{
+    if head.size > 0 {
+        tiles.push(Tile {
+            addr: Addr(at),
+            size: Size(head.size),
+            kind: head.kind,
+        })?;
+    }
+    Ok(())
+}
