@@ -1,0 +1,2 @@
+pub mod BinLaws
+mod Search

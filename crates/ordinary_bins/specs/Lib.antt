@@ -1,0 +1,3 @@
+pub use Rattle.chunk_tags.specs.Sizes
+pub use Rattle.bin_links.specs.Lists
+pub mod BinLists
