@@ -1,0 +1,4 @@
+mod Fitting
+mod Insertion
+pub mod LargeLaws
+mod Turns

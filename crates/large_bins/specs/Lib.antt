@@ -1,0 +1,6 @@
+pub use Rattle.chunk_tags.specs.BinOrder
+pub use Rattle.chunk_tags.specs.Sizes
+pub use Rattle.chunk_tags.specs.Tiles
+pub use Rattle.bin_links.specs.Lists
+pub mod Places
+pub mod SeenChunks

@@ -1,0 +1,9 @@
+//! The large bins of an arena: each in the order of falling sizes. No call takes memory.
+#![tactic(auto)]
+
+mod bins;
+
+pub use bins::{best, insert};
+
+#[cfg(test)]
+mod examples;
