@@ -5,12 +5,14 @@
 mod asks;
 mod budget;
 mod kernel;
+mod mappings;
 mod space;
 
 pub use asks::{Answer, Ask, Back};
 pub use budget::Budget;
 pub use kernel::{Always, Kernel};
-pub use space::{MAIN_START, Space, Windows};
+pub use mappings::MAP_LENGTH;
+pub use space::{MAIN_START, MAP_START, PIECE_START, Space, Windows};
 
 #[cfg(test)]
 mod tests;

@@ -1,15 +1,22 @@
 //! The address space of one thread: its kernel, behind the windows.
 
-ghost use Rattle.std.specs.Prelude.{◌≡◌, ◌<◌};
+ghost use Rattle.std.specs.Prelude.{◌≡◌, ◌+◌, ◌<◌, nat_lt};
 ghost use Rattle.address_space.specs.declared.asks.Ask.{Ask};
-ghost use Rattle.address_space.specs.declared.asks.Ask.TheVariants.{Break};
-ghost use Rattle.address_space.specs.Ports.{GivesBack};
+ghost use Rattle.address_space.specs.declared.asks.Ask.TheVariants.{Break, Piece};
 
 use crate::asks::{Answer, Ask, Back};
 use crate::kernel::Kernel;
+use crate::mappings::{MAP_LENGTH, Mapped};
 
 /// The first address of main's break.
 pub const MAIN_START: u64 = 0x5555_5555_9000;
+
+/// The first address of main's pieces.
+pub const PIECE_START: u64 = 0x5a00_0000_0000;
+
+/// The first address of the mappings of thread 0. Those of each thread have a window of their own, of
+/// `MAP_LENGTH` bytes, behind that of the thread before.
+pub const MAP_START: u64 = 0x6000_0000_0000;
 
 /// The lengths of the windows, in bytes, and how many heaps an arena has.
 #[derive(Clone, Copy, Debug, PartialEq, Eq)]
@@ -30,10 +37,24 @@ pub struct Space<K: Kernel> {
     thread: u8,
     windows: Windows,
     passed: u64,
+    mapped: Mapped,
+}
+
+/// Whether `len` bytes at an address end behind a window.
+fn ends_behind(start: u64, window: u64, at: u64, len: u64) -> bool
+    ensures { result ≡ nat_lt (start + window) (at + len) }
+{
+    if at < start {
+        window
+            .checked_add(start - at)
+            .is_some_and(|room| len > room)
+    } else {
+        (at - start).checked_add(len).is_none_or(|end| end > window)
+    }
 }
 
 impl<K: Kernel> Space<K> {
-    ghost use Rattle.address_space.specs.Spaces.{AsksWithin, new_space, break_passes};
+    ghost use Rattle.address_space.specs.Spaces.{AsksWithin, MapsWithin, GivesWithin, new_space, break_passes, piece_passes, map_place};
 
     /// The space of a thread, over its kernel.
     pub fn new(kernel: K, thread: u8, windows: Windows) -> Space<K>
@@ -45,6 +66,7 @@ impl<K: Kernel> Space<K> {
             thread,
             windows,
             passed: 0,
+            mapped: Mapped::start(),
         }
     }
 
@@ -60,6 +82,46 @@ impl<K: Kernel> Space<K> {
         self.put(passes, Ask::Break { old, new })
     }
 
+    /// Asks for a piece for main, `len` bytes at `at`. Refused exactly where it would end behind the window for
+    /// pieces or the kernel refused, and then the count of refusals rose.
+    pub fn piece(&mut self, at: u64, len: u64) -> Answer
+        ensures { AsksWithin K.port self.old (piece_passes self.old.windows at len) (Piece at len) result self.new }
+    {
+        let passes = ends_behind(PIECE_START, self.windows.main_max, at, len);
+        self.put(passes, Ask::Piece { addr: at, len })
+    }
+
+    /// The place of the next mapping.
+    pub fn map_place(&self) -> u64
+        ensures { result ≡ map_place self.now }
+    {
+        self.next_place()
+    }
+
+    fn next_place(&self) -> u64
+        ensures place { result ≡ map_place self.now }
+        ensures thread { self.now.thread < 256 }
+    {
+        MAP_START + u64::from(self.thread) * MAP_LENGTH + self.mapped.bytes()
+    }
+
+    /// Asks for a mapping of `len` bytes at the next place of the thread's window. `None` exactly where it would end
+    /// behind the window or the kernel refused; then the count of refusals rose and the place stays the next one.
+    /// A place that was given is never given again.
+    pub fn map(&mut self, len: u64) -> Option<u64>
+        ensures { MapsWithin K.port self.old len result self.new }
+    {
+        let addr = self.next_place();
+        let passes = self.mapped.passes(len);
+        match self.put(passes, Ask::Map { addr, len }) {
+            Answer::Granted => {
+                self.mapped.add(len);
+                Some(addr)
+            }
+            Answer::Refused => None,
+        }
+    }
+
     fn put(&mut self, passes: bool, ask: Ask) -> Answer
         ensures { AsksWithin K.port self.old passes ask result self.new }
     {
@@ -73,8 +135,7 @@ impl<K: Kernel> Space<K> {
 
     /// Gives address space back.
     pub fn back(&mut self, back: Back)
-        ensures kernel { GivesBack K.port self.old.kernel back self.new.kernel }
-        ensures others { self.new ≡ record self.old { kernel = self.new.kernel } }
+        ensures { GivesWithin K.port self.old back self.new }
     {
         self.kernel.back(back);
     }
@@ -88,6 +149,7 @@ impl<K: Kernel> Space<K> {
             thread: _,
             windows: _,
             passed: _,
+            mapped: _,
         } = self;
         kernel
     }

@@ -33,6 +33,33 @@ fn a_window_is_passed_without_an_ask(rt: HostRuntime) -> Result<(), Fail> {
 }
 
 #[test]
+fn a_piece_stays_in_its_window(rt: HostRuntime) {
+    let mut space = Space::new(Always, 0, windows());
+    assert_eq!(rt; space.piece(PIECE_START, 67_108_864), Answer::Granted);
+    assert_eq!(rt; space.piece(PIECE_START + 1, 67_108_864), Answer::Refused);
+    assert_eq!(rt; space.piece(PIECE_START - 1, 67_108_866), Answer::Refused);
+    assert_eq!(rt; space.piece(u64::MAX, u64::MAX), Answer::Refused);
+}
+
+#[test]
+fn a_refused_mapping_keeps_its_place(rt: HostRuntime) {
+    let mut space = Space::new(Budget::new(12_288, Vec::new(rt.alloc())), 2, windows());
+    assert_eq!(rt; space.map(8192), Some(0x6020_0000_0000));
+    assert_eq!(rt; space.map(8192), None);
+    assert_eq!(rt; space.map_place(), 0x6020_0000_2000);
+    assert_eq!(rt; space.map(4096), Some(0x6020_0000_2000));
+}
+
+#[test]
+fn a_mapping_stays_in_its_window(rt: HostRuntime) {
+    let mut space = Space::new(Always, 0, windows());
+    assert_eq!(rt; space.map(MAP_LENGTH + 1), None);
+    assert_eq!(rt; space.map(u64::MAX), None);
+    assert_eq!(rt; space.map(MAP_LENGTH), Some(MAP_START));
+    assert_eq!(rt; space.map(1), None);
+}
+
+#[test]
 fn a_budget_counts_what_is_held(rt: HostRuntime) -> Result<(), Fail> {
     let mut refuse_at = Vec::new(rt.alloc());
     refuse_at.push(2)?;
