@@ -32,3 +32,17 @@ none_in ([] ∷ lists) all =
     let others : AreEmpty lists = none_in lists (λ k h. all (suc k) (omega arith)) in
     record { next = others.next; rest = ap (λ ls. [] ∷ ls) others.rest; order = others.order }
 none_in ((x ∷ xs) ∷ lists) all = let e = all 0 (omega arith) in absurd cc
+
+-- the block that is found first is the newest of a list, and leaves that list alone
+pub record IsFound (lists : List (List Block)) (b : Block) : Type 0 where
+  pub place : ℕ
+  pub lt : place < length lists
+  pub here : slice_get (get_or lists place []) 0 ≡ Some b
+  pub rest : without_first lists ≡ set lists place (drop 1 (get_or lists place []))
+
+pub first_found : (lists : List (List Block)) (b : Block) → first_of lists ≡ Some b → IsFound lists b
+first_found [] b found = absurd cc
+first_found ([] ∷ lists) b found =
+    let later : IsFound lists b = first_found lists b found in
+    record { place = suc later.place; lt = omega (arith, later.lt); here = later.here; rest = ap (λ ls. [] ∷ ls) later.rest }
+first_found ((x ∷ xs) ∷ lists) b found = record { place = 0; lt = omega arith; here = found; rest = refl }

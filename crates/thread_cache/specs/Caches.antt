@@ -3,6 +3,8 @@ use Rattle.std.specs.Prelude.{ℕ, Bool, false, true, ◌&&◌, nat_lt, nat_le, 
 use Rattle.std.specs.List.{flat_map}
 use Rattle.chunk_tags.specs.Sizes.{max_cached, cache_index_of}
 use Rattle.chunk_tags.specs.declared.block.Block.{Block}
+use Rattle.chunk_tags.specs.declared.tiles.Tile.{Tile}
+use Rattle.chunk_tags.specs.declared.tiles.TileKind.TheVariants.{Used}
 
 -- An open cache: the chunk of its structure, how many blocks a list takes, how many lists are used, and the
 -- 64 lists, each newest first.
@@ -93,3 +95,11 @@ structure_of (Some c) = Some c.structure
 abbrev pub addresses_of : CacheValue → List (List ℕ)
 addresses_of None = []
 addresses_of (Some c) = map (λ blocks. map (λ b. b.addr) blocks) c.lists
+
+-- a cached block as a tile: its chunk is used, also while it is cached
+abbrev pub tile_of : Block → Tile
+tile_of b = record { addr = b.addr; size = b.size; kind = Used }
+
+-- all blocks as tiles, in the order of blocks_of
+abbrev pub tiles_of : CacheValue → List Tile
+tiles_of c = map tile_of (blocks_of c)

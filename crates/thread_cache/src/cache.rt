@@ -2,13 +2,16 @@
 
 ghost use Rattle.std.specs.Prelude.{◌≡◌, ◌<◌, ◌≤◌, ◌&&◌, false, [], ◌++◌, map, None, is_some, is_ok, option_to_list, option_copied, OnOk, OnErr, IfOk, IfErr, IfSome, IfNone};
 ghost use Rattle.chunk_tags.specs.Sizes.{IsChunkSize, cache_index_of};
-ghost use Rattle.thread_cache.specs.Caches.{opened, is_open, has_room, takes, newest, without_newest, with_newest, blocks_of, next_drained, without_next, structure_of, addresses_of};
+ghost use Rattle.thread_cache.specs.Caches.{opened, is_open, has_room, takes, newest, without_newest, with_newest, blocks_of, next_drained, without_next, structure_of, addresses_of, tiles_of};
 ghost use Rattle.thread_cache.specs.Held.{IsCachedAt, IsSound};
 
 use crate::open::OpenCache;
-use chunk_tags::{Addr, Block, NoMemory, Size};
+use chunk_tags::{Addr, Block, NoMemory, Size, Tile};
 use std::alloc::Global;
 use std::marker::Model;
+
+/// The chunk of a cache's structure: a request of 640 bytes, glibc's `sizeof (tcache_perthread_struct)`.
+pub const STRUCTURE_SIZE: Size = Size(656);
 
 /// Want of memory for the lists of a cache; the chunk for its structure comes back (this project's own).
 #[derive(Debug, Drop)]
@@ -76,7 +79,8 @@ impl Cache {
     /// Whether one more chunk of this size is taken: the cache is open, the size has a list that is used, and that
     /// list is shorter than the count.
     pub fn has_room(&self, s: Size) -> bool
-        ensures { result ≡ has_room self.now s }
+        ensures room { result ≡ has_room self.now s }
+        ensures sound { IfSome self.now IsSound }
     {
         match &self.open {
             None => false,
@@ -167,6 +171,16 @@ impl Cache {
         match &self.open {
             None => Ok(Vec::new(alloc)),
             Some(open) => open.addresses(alloc),
+        }
+    }
+
+    /// The blocks as tiles: lists ascending, newest first. A closed cache has none.
+    pub fn tiles(&self, alloc: Global) -> Result<Vec<Tile>, NoMemory>
+        ensures { IfOk result (λ v. v.items ≡ tiles_of self.now) }
+    {
+        match &self.open {
+            None => Ok(Vec::new(alloc)),
+            Some(open) => open.tiles(alloc),
         }
     }
 }

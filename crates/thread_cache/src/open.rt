@@ -3,12 +3,12 @@
 ghost use Rattle.std.specs.Prelude.{◌≡◌, ◌<◌, ◌≤◌, [], ◌++◌, map, Some, option_to_list, IsSome, IsTrue, IfOk, IfErr, IfSome, IfNone};
 ghost use Rattle.std.specs.List.{All};
 ghost use Rattle.chunk_tags.specs.Sizes.{IsChunkSize, cache_index_of};
-ghost use Rattle.thread_cache.specs.Caches.{opened, has_room, newest, without_newest, with_newest, empty_lists, blocks_of, next_drained, without_next, addresses_of};
+ghost use Rattle.thread_cache.specs.Caches.{opened, has_room, newest, without_newest, with_newest, empty_lists, blocks_of, next_drained, without_next, addresses_of, tiles_of};
 ghost use Rattle.thread_cache.specs.Held.{IsCachedAt, IsSound};
 ghost use Rattle.thread_cache.specs.Stacks.{Stacked};
 
 use crate::stack::Stack;
-use chunk_tags::{Addr, Block, MAX_CACHED, NoMemory, Size, cache_index};
+use chunk_tags::{Addr, Block, MAX_CACHED, NoMemory, Size, Tile, cache_index};
 use std::alloc::{AllocError, Global};
 use std::marker::Model;
 
@@ -77,13 +77,15 @@ impl OpenCache {
 
     /// Whether one more chunk of this size is taken.
     pub fn has_room(&self, s: Size) -> bool
-        ensures { result ≡ has_room (Some self.now) s }
+        ensures room { result ≡ has_room (Some self.now) s }
+        ensures sound { IsSound self.now }
     {
+        let used = self.bins;
         if s > MAX_CACHED {
             return false;
         }
         let bin = cache_index(s);
-        bin < self.bins && self.lists[usize::from(bin)].len() < usize::from(self.count)
+        bin < used && self.lists[usize::from(bin)].len() < usize::from(self.count)
     }
 
     /// The newest block of a list, which leaves it.
@@ -145,5 +147,16 @@ impl OpenCache {
             lists.push(list.addresses(alloc)?)?;
         }
         Ok(lists)
+    }
+
+    /// The blocks as tiles: lists ascending, newest first.
+    pub fn tiles(&self, alloc: Global) -> Result<Vec<Tile>, NoMemory>
+        ensures { IfOk result (λ v. v.items ≡ tiles_of (Some self.now)) }
+    {
+        let mut tiles = Vec::new(alloc);
+        for list in &self.lists {
+            tiles.extend_from_slice(&list.tiles(alloc)?)?;
+        }
+        Ok(tiles)
     }
 }

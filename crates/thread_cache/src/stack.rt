@@ -1,8 +1,9 @@
 //! A list of blocks whose room is reserved when it is made.
 
 ghost use Rattle.std.specs.Prelude.{◌≡◌, ℕ, ◌<◌, ◌≤◌, [], ◌∷◌, drop, length, map, IfOk, slice_get};
+ghost use Rattle.thread_cache.specs.Caches.{tile_of};
 
-use chunk_tags::{Addr, Block};
+use chunk_tags::{Addr, Block, Tile, TileKind};
 use std::alloc::{AllocError, Global};
 use std::marker::Model;
 
@@ -19,6 +20,17 @@ impl Model for Stack {
     ghost Value = { Stacked };
 
     ghost view = { λ s. record { room = vec_capacity s.oldest_first; blocks = reverse s.oldest_first.items } };
+}
+
+/// A block as a tile: cached chunks are used ones.
+fn tile(block: &Block) -> Tile
+    ensures { result ≡ tile_of block.now }
+{
+    Tile {
+        addr: block.addr,
+        size: block.size,
+        kind: TileKind::Used,
+    }
 }
 
 impl Stack {
@@ -66,5 +78,17 @@ impl Stack {
             .rev()
             .map(|b| b.addr)
             .collect(alloc)
+    }
+
+    /// The blocks as tiles, newest first.
+    pub fn tiles(&self, alloc: Global) -> Result<Vec<Tile>, AllocError>
+        ensures { IfOk result (λ v. v.items ≡ map tile_of self.now.blocks) }
+    {
+        let mut tiles = Vec::with_capacity(alloc, self.oldest_first.len())?;
+        for block in &self.oldest_first {
+            tiles.push(tile(block))?;
+        }
+        tiles.reverse();
+        Ok(tiles)
     }
 }

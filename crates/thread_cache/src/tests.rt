@@ -125,6 +125,10 @@ fn a_cache_is_drained_and_closed(rt: HostRuntime) -> Result<(), Fail> {
     assert_eq!(rt; lists[2].len(), 0);
     assert_eq!(rt; lists[63].as_slice(), [Addr(0x1040)].as_slice());
 
+    let tiles = cache.tiles(rt.alloc())?;
+    assert_eq!(rt; tiles.len(), 4);
+    assert_eq!(rt; (tiles[3].addr, tiles[3].size), (Addr(0x1040), Size(1040)));
+
     let mut drained = Vec::new(rt.alloc());
     while let Some(block) = cache.drain() {
         drained.push(block.addr)?;

@@ -1,5 +1,6 @@
 use Rattle.std.proofs.Common.{drop}
-use Rattle.thread_cache.proofs.Kept.{Reads, list_at, list_at-newest, seen_with, kept_without}
+use Rattle.thread_cache.proofs.Kept.{Reads, list_at, seen_with, kept_without}
+use Rattle.thread_cache.proofs.CacheLaws.{list_at-newest}
 use Rattle.thread_cache.proofs.open.OpenCache.get.Goals as goal
 use Rattle.thread_cache.proofs.open.OpenCache.get.Goals.{After-index_mut-list}
 

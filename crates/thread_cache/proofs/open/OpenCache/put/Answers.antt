@@ -3,7 +3,8 @@ use Rattle.std.specs.Prelude.{IsTrue}
 use Rattle.chunk_tags.specs.Sizes.{cache_index_of}
 use Rattle.thread_cache.specs.Caches.{Opened, has_room}
 use Rattle.thread_cache.specs.Stacks.{seen}
-use Rattle.thread_cache.proofs.Kept.{Reads, room_at, seen_with, kept_more}
+use Rattle.thread_cache.proofs.CacheLaws.{room_at}
+use Rattle.thread_cache.proofs.Kept.{Reads, seen_with, kept_more}
 use Rattle.thread_cache.proofs.open.OpenCache.put.Goals as goal
 use Rattle.thread_cache.proofs.open.OpenCache.put.Goals.{After-index_mut-list}
 
