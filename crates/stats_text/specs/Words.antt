@@ -1,6 +1,7 @@
 -- How numbers and addresses stand in a report (this project's own).
 use Rattle.std.specs.Prelude.{ℕ, zero, suc, ◌+◌, ◌-◌, ◌/◌, ◌%◌, false, List, [], ◌∷◌, ◌++◌, length, replicate, codes, decimal}
 use Rattle.std.specs.List.{flat_map}
+use Rattle.chunk_tags.specs.Pages.{user_address}
 use Rattle.std.specs.Fmt.{digit_glyph}
 
 -- the last hexadecimal digits of a number, so many of them, in lower case
@@ -10,7 +11,7 @@ hex_digits (suc k) n = hex_digits k (n / 16) ++ digit_glyph false (n % 16) ∷ [
 
 -- the user's address of the chunk at an address: 16 bytes on, with 12 digits
 unfoldable pub address : ℕ → List ℕ
-address at = codes "0x" ++ hex_digits 12 (at + 16)
+address at = codes "0x" ++ hex_digits 12 (user_address at)
 
 -- a block: its user address and its size
 unfoldable pub block_text : ℕ → ℕ → List ℕ

@@ -1,4 +1,6 @@
-//! The text of reports: the record lines, the places of every chunk, and the totals of malloc_stats(3).
+//! The text of reports: the record lines, the places of every chunk, and the totals of malloc_stats(3). A contract sees
+//! plain data (`Views`) and bytes; the one promise: what is appended is the text of the definitions `Records`, `Report`
+//! and `Totals`, whatever stands in the data.
 #![tactic(auto)]
 
 mod places;

@@ -1,9 +1,10 @@
 //! The record lines: a line of the trace with its answer.
 
-ghost use Rattle.std.specs.Prelude.{◌≡◌, ◌++◌, OnOk, IfOk};
+ghost use Rattle.std.specs.Prelude.{◌≡◌, ◌+◌, ◌≤◌, ◌++◌, codes, drop, length, OnOk, IfOk};
+ghost use Rattle.stats_text.specs.Words.{block_text};
 ghost use Rattle.stats_text.specs.Records.{hold_text, source_text, sink_text, kept_hold, null_word_of, missed_word_of, freed_text, answer_text, record_text};
 
-use crate::words::{push_block, push_number, push_text};
+use crate::words::{push_text, put_block, put_number, put_text};
 use chunk_tags::{Addr, NoMemory, Size};
 use std::alloc::Global;
 
@@ -87,71 +88,85 @@ pub struct Record {
     pub said: Outcome,
 }
 
-/// Appends the place of a hold in its arena's journal, which only a report of threads shows.
+/// Puts the place of a hold in its arena's journal before `end`, which only a report of threads shows. Each function
+/// of this kind gives the place where its text begins.
 #[tactic(auto, unfolding(crate::specs::Records::hold_text))]
-fn push_hold(out: &mut Vec<u8>, threads: bool, hold: u64) -> Result<(), NoMemory>
-    ensures { OnOk result (out.new.items ≡ out.old.items ++ hold_text threads hold) }
+fn put_hold(text: &mut [u8], end: usize, threads: bool, hold: u64) -> usize
+    requires { (26 ≤ end) × (end ≤ length text.old) }
+    ensures start { (result ≤ end) × (end ≤ result + 26) }
+    ensures length { length text.new ≡ length text.old }
+    ensures written { drop result text.new ≡ hold_text threads hold ++ drop end text.old }
 {
-    if threads {
-        push_text(out, b" hold ")?;
-        push_number(out, hold)?;
+    if !threads {
+        return end;
     }
-    Ok(())
+    let end = put_number(text, end, hold);
+    put_text(text, end, b" hold ")
 }
 
-/// Appends where a block came from.
+/// Puts where a block came from.
 #[tactic(auto, unfolding(crate::specs::Records::source_text))]
-fn push_source(out: &mut Vec<u8>, from: Source3, threads: bool) -> Result<(), NoMemory>
-    ensures { OnOk result (out.new.items ≡ out.old.items ++ source_text from threads) }
+fn put_source(text: &mut [u8], end: usize, from: Source3, threads: bool) -> usize
+    requires { (52 ≤ end) × (end ≤ length text.old) }
+    ensures start { (result ≤ end) × (end ≤ result + 52) }
+    ensures length { length text.new ≡ length text.old }
+    ensures written { drop result text.new ≡ source_text from threads ++ drop end text.old }
 {
     match from {
-        Source3::Cached => push_text(out, b"cached"),
-        Source3::Mapped => push_text(out, b"mapped"),
+        Source3::Cached => put_text(text, end, b"cached"),
+        Source3::Mapped => put_text(text, end, b"mapped"),
         Source3::Arena { a, hold } => {
-            push_text(out, b"arena ")?;
-            push_number(out, u64::from(a))?;
-            push_hold(out, threads, hold)
+            let end = put_hold(text, end, threads, hold);
+            let end = put_number(text, end, u64::from(a));
+            put_text(text, end, b"arena ")
         }
     }
 }
 
-/// Appends where a freed block went.
+/// Puts where a freed block went.
 #[tactic(auto, unfolding(crate::specs::Records::sink_text))]
-fn push_sink(out: &mut Vec<u8>, to: Sink3, threads: bool) -> Result<(), NoMemory>
-    ensures { OnOk result (out.new.items ≡ out.old.items ++ sink_text to threads) }
+fn put_sink(text: &mut [u8], end: usize, to: Sink3, threads: bool) -> usize
+    requires { (53 ≤ end) × (end ≤ length text.old) }
+    ensures start { (result ≤ end) × (end ≤ result + 53) }
+    ensures length { length text.new ≡ length text.old }
+    ensures written { drop result text.new ≡ sink_text to threads ++ drop end text.old }
 {
     match to {
-        Sink3::Cached => push_text(out, b"cached"),
-        Sink3::Unmapped => push_text(out, b"unmapped"),
+        Sink3::Cached => put_text(text, end, b"cached"),
+        Sink3::Unmapped => put_text(text, end, b"unmapped"),
         Sink3::Fast { a, bin } => {
-            push_text(out, b"fast ")?;
-            push_number(out, u64::from(a))?;
-            push_text(out, b" ")?;
-            push_number(out, u64::from(bin))
+            let end = put_number(text, end, u64::from(bin));
+            let end = put_text(text, end, b" ");
+            let end = put_number(text, end, u64::from(a));
+            put_text(text, end, b"fast ")
         }
         Sink3::Binned { a, hold } => {
-            push_text(out, b"binned ")?;
-            push_number(out, u64::from(a))?;
-            push_hold(out, threads, hold)
+            let end = put_hold(text, end, threads, hold);
+            let end = put_number(text, end, u64::from(a));
+            put_text(text, end, b"binned ")
         }
     }
 }
 
-/// Appends the hold of a block that was kept, where it lies in an arena.
+/// Puts the hold of a block that was kept, where it lies in an arena.
 #[tactic(auto, unfolding(crate::specs::Records::kept_hold))]
-fn push_kept_hold(out: &mut Vec<u8>, hold: Option<u64>, threads: bool) -> Result<(), NoMemory>
-    ensures { OnOk result (out.new.items ≡ out.old.items ++ kept_hold hold threads) }
+fn put_kept_hold(text: &mut [u8], end: usize, hold: Option<u64>, threads: bool) -> usize
+    requires { (26 ≤ end) × (end ≤ length text.old) }
+    ensures start { (result ≤ end) × (end ≤ result + 26) }
+    ensures length { length text.new ≡ length text.old }
+    ensures written { drop result text.new ≡ kept_hold hold threads ++ drop end text.old }
 {
     match hold {
-        None => Ok(()),
-        Some(hold) => push_hold(out, threads, hold),
+        None => end,
+        Some(hold) => put_hold(text, end, threads, hold),
     }
 }
 
 /// The word for why there is no block.
 #[tactic(auto, unfolding(crate::specs::Records::null_word_of))]
 fn null_word(why: u8) -> &'static [u8]
-    ensures { result.now ≡ null_word_of why }
+    ensures word { result.now ≡ null_word_of why }
+    ensures short { length result.now ≤ 7 }
 {
     match why {
         0 => b"big",
@@ -163,7 +178,8 @@ fn null_word(why: u8) -> &'static [u8]
 /// The word for what a tray showed.
 #[tactic(auto, unfolding(crate::specs::Records::missed_word_of))]
 fn missed_word(seen: u64) -> &'static [u8]
-    ensures { result.now ≡ missed_word_of seen }
+    ensures word { result.now ≡ missed_word_of seen }
+    ensures short { length result.now ≤ 7 }
 {
     match seen {
         0 => b"empty",
@@ -171,59 +187,94 @@ fn missed_word(seen: u64) -> &'static [u8]
     }
 }
 
-/// Appends a block that was freed.
+/// Puts a block that was freed.
 #[tactic(auto, unfolding(crate::specs::Records::freed_text))]
-fn push_freed(out: &mut Vec<u8>, to: Sink3, by_realloc: bool, threads: bool) -> Result<(), NoMemory>
-    ensures { OnOk result (out.new.items ≡ out.old.items ++ freed_text to by_realloc threads) }
+fn put_freed(text: &mut [u8], end: usize, to: Sink3, by_realloc: bool, threads: bool) -> usize
+    requires { (59 ≤ end) × (end ≤ length text.old) }
+    ensures start { (result ≤ end) × (end ≤ result + 59) }
+    ensures length { length text.new ≡ length text.old }
+    ensures written { drop result text.new ≡ freed_text to by_realloc threads ++ drop end text.old }
 {
-    if by_realloc {
-        push_text(out, b"freed ")?;
+    let end = put_sink(text, end, to, threads);
+    if !by_realloc {
+        return end;
     }
-    push_sink(out, to, threads)
+    put_text(text, end, b"freed ")
 }
 
-/// Appends an answer.
+/// Puts a block behind a word, in front of where it came from.
+fn put_from(
+    text: &mut [u8],
+    end: usize,
+    block: (Addr, Size),
+    word: &[u8],
+    from: Source3,
+    threads: bool,
+) -> usize
+    requires { (94 ≤ end) × (end ≤ length text.old) × (length word.now ≤ 7) }
+    ensures start { (result ≤ end) × (end ≤ result + 94) }
+    ensures length { length text.new ≡ length text.old }
+    ensures written { drop result text.new ≡ (block_text block.0 block.1 ++ word.now ++ source_text from threads) ++ drop end text.old }
+{
+    let end = put_source(text, end, from, threads);
+    let end = put_text(text, end, word);
+    put_block(text, end, block.0, block.1)
+}
+
+/// Puts an answer.
 #[tactic(auto, unfolding(crate::specs::Records::answer_text))]
-fn push_answer(out: &mut Vec<u8>, said: Outcome, threads: bool) -> Result<(), NoMemory>
-    ensures { OnOk result (out.new.items ≡ out.old.items ++ answer_text said threads) }
+fn put_answer(text: &mut [u8], end: usize, said: Outcome, threads: bool) -> usize
+    requires { (94 ≤ end) × (end ≤ length text.old) }
+    ensures start { (result ≤ end) × (end ≤ result + 94) }
+    ensures length { length text.new ≡ length text.old }
+    ensures written { drop result text.new ≡ answer_text said threads ++ drop end text.old }
 {
     match said {
         Outcome::Got { addr, size, from } => {
-            push_block(out, addr, size)?;
-            push_text(out, b" ")?;
-            push_source(out, from, threads)
+            put_from(text, end, (addr, size), b" ", from, threads)
         }
         Outcome::Kept { addr, size, hold } => {
-            push_block(out, addr, size)?;
-            push_text(out, b" kept")?;
-            push_kept_hold(out, hold, threads)
+            let end = put_kept_hold(text, end, hold, threads);
+            let end = put_text(text, end, b" kept");
+            put_block(text, end, addr, size)
         }
         Outcome::Moved { addr, size, from } => {
-            push_block(out, addr, size)?;
-            push_text(out, b" moved ")?;
-            push_source(out, from, threads)
+            put_from(text, end, (addr, size), b" moved ", from, threads)
         }
         Outcome::Null(why) => {
-            push_text(out, b"null ")?;
-            push_text(out, null_word(why))
+            let end = put_text(text, end, null_word(why));
+            put_text(text, end, b"null ")
         }
-        Outcome::Freed { to, by_realloc } => push_freed(out, to, by_realloc, threads),
-        Outcome::Posted => push_text(out, b"posted"),
+        Outcome::Freed { to, by_realloc } => put_freed(text, end, to, by_realloc, threads),
+        Outcome::Posted => put_text(text, end, b"posted"),
         Outcome::Taken { addr, size } => {
-            push_text(out, b"taken ")?;
-            push_block(out, addr, size)
+            let end = put_block(text, end, addr, size);
+            put_text(text, end, b"taken ")
         }
         Outcome::Missed { seen } => {
-            push_text(out, b"missed ")?;
-            push_text(out, missed_word(seen))
+            let end = put_text(text, end, missed_word(seen));
+            put_text(text, end, b"missed ")
         }
-        Outcome::Skip => push_text(out, b"skip"),
-        Outcome::Ended => push_text(out, b"ended"),
+        Outcome::Skip => put_text(text, end, b"skip"),
+        Outcome::Ended => put_text(text, end, b"ended"),
     }
 }
 
+/// Puts what stands behind the line in a record, at the end.
+fn put_tail(text: &mut [u8], said: Outcome, threads: bool) -> usize
+    requires { 99 ≤ length text.old }
+    ensures below { result ≤ length text.old }
+    ensures length { length text.new ≡ length text.old }
+    ensures written { drop result text.new ≡ codes " -> " ++ answer_text said threads ++ codes "\n" }
+{
+    let end = text.len();
+    let end = put_text(text, end, b"\n");
+    let end = put_answer(text, end, said, threads);
+    put_text(text, end, b" -> ")
+}
+
 /// Appends the record of a line: the line, ` -> ` and the answer. In a report of threads (`threads`) it also shows
-/// the places of holds.
+/// the places of holds. What stands behind the line is made in a small array and appended at once.
 #[tactic(auto, unfolding(crate::specs::Records::record_text))]
 pub fn append_record(
     out: &mut Vec<u8>,
@@ -234,10 +285,10 @@ pub fn append_record(
     ensures { OnOk result (out.new.items ≡
         out.old.items ++ record_text line.now said.now threads) }
 {
+    let mut text = [0u8; 99];
+    let start = put_tail(&mut text, *said, threads);
     push_text(out, line)?;
-    push_text(out, b" -> ")?;
-    push_answer(out, *said, threads)?;
-    push_text(out, b"\n")
+    push_text(out, &text[start..])
 }
 
 /// The record as a line of a report. In a report of threads (`threads`) it also shows the places of holds.

@@ -1,11 +1,11 @@
 //! The words of a report's lines: texts, numbers and addresses.
 
-ghost use Rattle.std.specs.Prelude.{◌≡◌, ◌-◌, ◌<◌, ◌++◌, OnOk, false, decimal};
+ghost use Rattle.std.specs.Prelude.{◌≡◌, ◌+◌, ◌-◌, ◌<◌, ◌≤◌, ◌∷◌, ◌++◌, drop, length, OnOk, false, decimal};
 ghost use Rattle.std.specs.Fmt.{digit_glyph};
 ghost use Rattle.stats_text.specs.Words.{hex_digits, address, addresses, block_text, blanks, in_ten_places};
 
 use chunk_tags::{Addr, NoMemory, Size};
-use itoa::Buffer;
+use itoa::{Buffer, write_digits};
 
 /// The bytes from a chunk's address to its user's.
 const USER_OFFSET: u64 = 16;
@@ -67,35 +67,96 @@ fn hex_digit(value: u8) -> u8
     }
 }
 
-/// Appends the last hexadecimal digits of a number, `count` of them.
-#[tactic(auto, unfolding(crate::specs::Words::hex_digits))]
-fn push_hex(out: &mut Vec<u8>, count: u8, n: u64) -> Result<(), NoMemory>
-    ensures { OnOk result (out.new.items ≡ out.old.items ++ hex_digits count n) }
+/// Puts a byte before `end`, and gives its place.
+fn put_byte(text: &mut [u8], end: usize, byte: u8) -> usize
+    requires { (1 ≤ end) × (end ≤ length text.old) }
+    ensures start { result + 1 ≡ end }
+    ensures written { drop result text.new ≡ byte ∷ drop end text.old }
 {
-    if count > 0 {
-        push_hex(out, count - 1, n / 16)?;
-        out.push(hex_digit((n % 16) as u8))?;
+    let start = end - 1;
+    text[start] = byte;
+    start
+}
+
+/// Puts a short text before `end`, and gives the place where it begins.
+pub(crate) fn put_text(text: &mut [u8], end: usize, word: &[u8]) -> usize
+    requires { (length word.now ≤ end) × (end ≤ length text.old) }
+    ensures start { result + length word.now ≡ end }
+    ensures length { length text.new ≡ length text.old }
+    ensures written { drop result text.new ≡ word.now ++ drop end text.old }
+{
+    let start = end - word.len();
+    text[start..end].copy_from_slice(word);
+    start
+}
+
+/// Puts a number before `end`, and gives the place where it begins.
+#[tactic(auto, using(crate::proofs::Digits::decimal_lengths))]
+pub(crate) fn put_number(text: &mut [u8], end: usize, n: u64) -> usize
+    requires { (20 ≤ end) × (end ≤ length text.old) }
+    ensures start { (result ≤ end) × (end ≤ result + 20) }
+    ensures length { length text.new ≡ length text.old }
+    ensures written { drop result text.new ≡ decimal n ++ drop end text.old }
+{
+    write_digits(n, text, end)
+}
+
+/// Puts the last twelve hexadecimal digits of a number before `end`, and gives the place where they begin.
+fn put_hex(text: &mut [u8], end: usize, n: u64) -> usize
+    requires { (12 ≤ end) × (end ≤ length text.old) }
+    ensures start { result + 12 ≡ end }
+    ensures written { drop result text.new ≡ hex_digits 12 n ++ drop end text.old }
+{
+    let mut start = end;
+    let mut left = n;
+    for done in 0..12_usize {
+        start = put_byte(text, start, hex_digit((left % 16) as u8));
+        left /= 16;
     }
-    Ok(())
+    start
+}
+
+/// Puts the user address of the chunk at `at` before `end`, and gives the place where it begins.
+#[tactic(auto, using(crate::proofs::Digits::in_user_bits), unfolding(crate::specs::Words::address))]
+fn put_address(text: &mut [u8], end: usize, at: Addr) -> usize
+    requires { (14 ≤ end) × (end ≤ length text.old) }
+    ensures start { result + 14 ≡ end }
+    ensures written { drop result text.new ≡ address at ++ drop end text.old }
+{
+    let start = put_hex(text, end, at.0.wrapping_add(USER_OFFSET));
+    let start = put_byte(text, start, b'x');
+    put_byte(text, start, b'0')
+}
+
+/// Puts a block, its user address and its size, before `end`, and gives the place where it begins.
+#[tactic(auto, using(crate::proofs::Digits::decimal_lengths), unfolding(crate::specs::Words::block_text))]
+pub(crate) fn put_block(text: &mut [u8], end: usize, addr: Addr, size: Size) -> usize
+    requires { (35 ≤ end) × (end ≤ length text.old) }
+    ensures start { (result ≤ end) × (end ≤ result + 35) }
+    ensures length { length text.new ≡ length text.old }
+    ensures written { drop result text.new ≡ block_text addr size ++ drop end text.old }
+{
+    let start = write_digits(size.0, text, end);
+    let start = put_byte(text, start, b' ');
+    put_address(text, start, addr)
 }
 
 /// Appends the user address of the chunk at `at`.
-#[tactic(auto, using(crate::proofs::Digits::in_user_bits), unfolding(crate::specs::Words::address))]
 pub(crate) fn push_address(out: &mut Vec<u8>, at: Addr) -> Result<(), NoMemory>
     ensures { OnOk result (out.new.items ≡ out.old.items ++ address at) }
 {
-    push_text(out, b"0x")?;
-    push_hex(out, 12, at.0.wrapping_add(USER_OFFSET))
+    let mut text = [0u8; 14];
+    put_address(&mut text, 14, at);
+    push_text(out, &text)
 }
 
-/// Appends a block: its user address and its size.
-#[tactic(auto, unfolding(crate::specs::Words::block_text))]
+/// Appends a block: its user address and its size. The bytes are made in a small array and appended at once.
 pub(crate) fn push_block(out: &mut Vec<u8>, addr: Addr, size: Size) -> Result<(), NoMemory>
     ensures { OnOk result (out.new.items ≡ out.old.items ++ block_text addr size) }
 {
-    push_address(out, addr)?;
-    push_text(out, b" ")?;
-    push_number(out, size.0)
+    let mut text = [0u8; 35];
+    let start = put_block(&mut text, 35, addr, size);
+    push_text(out, &text[start..])
 }
 
 /// Appends user addresses, each behind a space.
