@@ -20,11 +20,11 @@ pub is_held_push : (thread name : ℕ) (before : List Line) (line : Line) → is
 unfolding is_held
 is_held_push thread name before line = fold-append (λ (was : Bool) (l : Line). cond (eqb l.thread thread) (held_after name was l.call) was) false before (line ∷ [])
 
--- sets that took a line in say what the lines with it say
+-- tables that took a line in say what the lines with it say
 pub Knows-push : (old new : Seen) (before : List Line) (line : Line) → Adds old new line → Knows old before → Knows new (before ++ line ∷ [])
 unfolding has_ended was_posted was_taken
 Knows-push old new before line step known = record {
-  held = λ thread name small. rw (is_held_push thread name before line, ← known.held thread name small) (step.held thread name small);
+  held = λ thread name. rw (is_held_push thread name before line, ← known.held thread name) (step.held thread name);
   ended = λ thread. rw (any_push (λ (l : Line). is_exit l.call && eqb l.thread thread) before line, ← known.ended thread) (step.ended thread);
   posted = λ tray. rw (any_push (λ (l : Line). is_post tray l.call) before line, ← known.posted tray) (step.posted tray);
   taken = λ tray. rw (any_push (λ (l : Line). is_take tray l.call) before line, ← known.taken tray) (step.taken tray);

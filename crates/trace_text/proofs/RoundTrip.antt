@@ -14,7 +14,7 @@ use Rattle.trace_text.specs.declared.trace.Line.{Line}
 use Rattle.trace_text.specs.declared.trace.Trace.{Trace}
 use Rattle.trace_text.specs.Grammar.{Reading, header, is_empty, fields_of, place_after, line_of, faulty, go_on, lines_after, headed, reading_of}
 use Rattle.trace_text.specs.ReadsAs.{ReadsAs}
-use Rattle.trace_text.specs.Spelling.{spelling_of, spelling, AllFit, Allows}
+use Rattle.trace_text.specs.Spelling.{spelling_of, spelling, texts_of, AllFit, Allows}
 use Rattle.trace_text.proofs.Cuts.{Lacks, split_join}
 use Rattle.trace_text.proofs.Spelled.{spelling_lacks, line_again, line_is}
 
@@ -22,52 +22,48 @@ use Rattle.trace_text.proofs.Spelled.{spelling_lacks, line_again, line_is}
 abbrev whole : List Line → Reading
 whole lines = Ok lines
 
--- the parts of a text behind the header: a line each, and nothing behind the last newline
-abbrev body_parts : List Line → List (List ℕ)
-body_parts [] = [] ∷ []
-body_parts (line ∷ lines) = spelling_of line ∷ body_parts lines
-
-body_cons : (lines : List Line) → (first : List ℕ) × (others : List (List ℕ)) × (body_parts lines ≡ first ∷ others)
+pub body_cons : (lines : List Line) → (first : List ℕ) × (others : List (List ℕ)) × (texts_of lines ≡ first ∷ others)
 body_cons [] = ([], [], refl)
-body_cons (line ∷ lines) = (spelling_of line, body_parts lines, refl)
+body_cons (line ∷ lines) = (spelling_of line, texts_of lines, refl)
 
-body_joined : (lines : List Line) → join_with_byte 10 (body_parts lines) ≡ flat_map (λ line. spelling_of line ++ codes "\n") lines
+body_joined : (lines : List Line) → join_with_byte 10 (texts_of lines) ≡ flat_map (λ line. spelling_of line ++ codes "\n") lines
 body_joined [] = refl
 body_joined (line ∷ lines) =
     let parts = body_cons lines in
-    let one : join_with_byte 10 (body_parts (line ∷ lines)) ≡ spelling_of line ++ (10 ∷ join_with_byte 10 (body_parts lines)) = rw parts.2 refl in
+    let one : join_with_byte 10 (texts_of (line ∷ lines)) ≡ spelling_of line ++ (10 ∷ join_with_byte 10 (texts_of lines)) = rw parts.2 refl in
     one ∙ ap (λ (rest : List ℕ). spelling_of line ++ (10 ∷ rest)) (body_joined lines)
     ∙ sym (append_assoc (spelling_of line) (codes "\n") (flat_map (λ line. spelling_of line ++ codes "\n") lines))
 
-spelling_joined : (lines : List Line) → join_with_byte 10 (header ∷ body_parts lines) ≡ spelling lines
+spelling_joined : (lines : List Line) → join_with_byte 10 (header ∷ texts_of lines) ≡ spelling lines
 spelling_joined lines =
     let parts = body_cons lines in
-    let one : join_with_byte 10 (header ∷ body_parts lines) ≡ header ++ (10 ∷ join_with_byte 10 (body_parts lines)) = rw parts.2 refl in
+    let one : join_with_byte 10 (header ∷ texts_of lines) ≡ header ++ (10 ∷ join_with_byte 10 (texts_of lines)) = rw parts.2 refl in
     one ∙ ap (λ (rest : List ℕ). header ++ (10 ∷ rest)) (body_joined lines)
 
 -- ---- a spelling is read
 
-body_lacks : (before lines : List Line) → AllFit before lines → AllByRecursion (Lacks 10) (body_parts lines)
+body_lacks : (before lines : List Line) → AllFit before lines → AllByRecursion (Lacks 10) (texts_of lines)
 unfolding AllFit
 body_lacks before [] fit = (refl, tt)
 body_lacks before (line ∷ lines) fit = (spelling_lacks before line fit.0, body_lacks (before ++ line ∷ []) lines fit.1)
 
-lines_again : (before lines : List Line) → AllFit before lines → lines_after before (body_parts lines) ≡ whole (before ++ lines)
+lines_again : (before lines : List Line) → AllFit before lines → lines_after before (texts_of lines) ≡ whole (before ++ lines)
 unfolding AllFit lines_after
 lines_again before [] fit = ap whole (sym (append-nil before))
 lines_again before (line ∷ lines) fit =
     let parts = body_cons lines in
-    let one : lines_after before (body_parts (line ∷ lines)) ≡ lines_after (before ++ line ∷ []) (body_parts lines) = rw (parts.2, line_again before line fit.0) refl in
+    let one : lines_after before (texts_of (line ∷ lines)) ≡ lines_after (before ++ line ∷ []) (texts_of lines) = rw (parts.2, line_again before line fit.0) refl in
     one ∙ lines_again (before ++ line ∷ []) lines fit.1 ∙ ap whole (append_assoc before (line ∷ []) lines)
+
+pub spelling_split : (lines : List Line) → Allows lines → slice_split (λ b. b == 10) (spelling lines) ≡ header ∷ texts_of lines
+spelling_split lines fit = ap (slice_split (λ b. b == 10)) (sym (spelling_joined lines)) ∙ split_join 10 header (texts_of lines) (refl, body_lacks [] lines fit)
 
 pub spelling_again : (lines : List Line) → Allows lines → reading_of (spelling lines) ≡ whole lines
 unfolding reading_of
 spelling_again lines fit =
     let parts = body_cons lines in
-    let split : slice_split (λ b. b == 10) (spelling lines) ≡ header ∷ body_parts lines =
-    ap (slice_split (λ b. b == 10)) (sym (spelling_joined lines)) ∙ split_join 10 header (body_parts lines) (refl, body_lacks [] lines fit) in
-    let one : headed (header ∷ body_parts lines) ≡ lines_after [] (body_parts lines) = rw parts.2 refl in
-    ap headed split ∙ one ∙ lines_again [] lines fit
+    let one : headed (header ∷ texts_of lines) ≡ lines_after [] (texts_of lines) = rw parts.2 refl in
+    ap headed (spelling_split lines fit) ∙ one ∙ lines_again [] lines fit
 
 -- ---- what is read is spelled so
 
@@ -83,7 +79,7 @@ pub record Continues (before : List Line) (parts : List (List ℕ)) (all : List 
   pub lines : List Line
   pub all_is : all ≡ before ++ lines
   pub fit : AllFit before lines
-  pub parts_are : parts ≡ body_parts lines
+  pub parts_are : parts ≡ texts_of lines
 
 last_is : (before : List Line) (text : List ℕ) (all : List Line) (b : Bool) → is_empty text ≡ b → cond b (whole before) (faulty (place_after before) bad.Cut) ≡ whole all → Continues before (text ∷ []) all
 unfolding AllFit
@@ -102,7 +98,7 @@ pushed before line text parts all read more =
       lines = line ∷ more.lines;
       all_is = more.all_is ∙ append_assoc before (line ∷ []) more.lines;
       fit = (found.1, more.fit);
-      parts_are = cells text (spelling_of line) parts (body_parts more.lines) found.0 more.parts_are;
+      parts_are = cells text (spelling_of line) parts (texts_of more.lines) found.0 more.parts_are;
     }
 
 stepped : (before : List Line) (text : List ℕ) (parts : List (List ℕ)) (all : List Line) (rest : List Line → Reading) → ((so_far : List Line) → rest so_far ≡ whole all → Continues so_far parts all) → (r : Result Line BadWhy) → line_of before (fields_of text) ≡ r → go_on before r rest ≡ whole all → Continues before (text ∷ parts) all
@@ -119,7 +115,7 @@ headed_is : (first next : List ℕ) (more : List (List ℕ)) (all : List Line) (
 headed_is first next more all true same e =
     let found = lines_are [] next more all e in
     let text : first ≡ header = (bytes_eq-Decides first header).0 same in
-    rw found.all_is (found.fit, ap (join_with_byte 10) (cells first header (next ∷ more) (body_parts found.lines) text found.parts_are) ∙ spelling_joined found.lines)
+    rw found.all_is (found.fit, ap (join_with_byte 10) (cells first header (next ∷ more) (texts_of found.lines) text found.parts_are) ∙ spelling_joined found.lines)
 headed_is first next more all false same e = absurd cc
 
 parts_are : (parts : List (List ℕ)) (all : List Line) → headed parts ≡ whole all → Allows all × (join_with_byte 10 parts ≡ spelling all)

@@ -1,8 +1,8 @@
 -- Steps that did not fail.
-use Rattle.std.proofs.Common.{◌≡◌, ℕ, ◌^◌, ◌<◌, ◌≤◌, Bool, true, false, cond, leb, eqb, ◌&&◌, List, [], ◌∷◌, Option, Some, None, Result, Ok, Err, refl, ap, subst, ◌∙◌, arith}
+use Rattle.std.proofs.Common.{◌≡◌, ℕ, ◌^◌, ◌<◌, ◌≤◌, Bool, true, false, cond, leb, ltb, eqb, ◌&&◌, List, [], ◌∷◌, Option, Some, None, Result, Ok, Err, refl, ap, subst, ◌∙◌, arith}
 use Rattle.std.specs.Option.{ok_or}
 use Rattle.std.specs.Fmt.{decimal}
-use Rattle.std.proofs.lemmas.Bool.{and_parts, leb-true, le-leb, eqb-false}
+use Rattle.std.proofs.lemmas.Bool.{and_parts, leb-true, ltb-true, le-leb, lt-ltb, eqb-false}
 use Rattle.trace_text.specs.declared.fault.BadWhy.{BadWhy}
 use Rattle.trace_text.specs.declared.fault.BadWhy.TheVariants as bad
 use Rattle.trace_text.specs.Numbers.{number_of}
@@ -40,14 +40,14 @@ pub thread_is : (field : List ℕ) (n : ℕ) → thread_of field ≡ Ok n → (f
 unfolding thread_of
 thread_is field n e =
     let read = bind_ok (ok_or (number_of field) bad.Thread) _ n e in
-    let small = guard_ok (leb read.0 63) bad.Thread (Ok read.0) n read.2 in
+    let small = guard_ok (ltb read.0 64) bad.Thread (Ok read.0) n read.2 in
     let same = ok_is read.0 n small.1 in
     let found = number_is field read.0 (some_from_ok (number_of field) bad.Thread read.0 read.1) in
-    (found.0 ∙ ap decimal same, omega (arith, leb-true read.0 63 small.0, same))
+    (found.0 ∙ ap decimal same, omega (arith, ltb-true read.0 64 small.0, same))
 
 pub thread_again : (n : ℕ) → n ≤ 63 → thread_of (decimal n) ≡ Ok n
 unfolding thread_of
-thread_again n h = rw (number_again n (omega arith), le-leb n 63 h) refl
+thread_again n h = rw (number_again n (omega arith), lt-ltb n 64 (omega arith)) refl
 
 pub number_at_is : (field : List ℕ) (n : ℕ) → number_at field ≡ Ok n → (field ≡ decimal n) × (n < 2 ^ 64)
 unfolding number_at

@@ -1,6 +1,6 @@
 -- What a trace is: a header, and lines of which each fits the lines before it; or else which line is the
 -- first that is faulty, and its first fault (this project's own).
-use Rattle.std.specs.Prelude.{ℕ, ◌+◌, ◌==◌, Bool, not, ◌&&◌, List, [], ◌∷◌, ◌++◌, length, codes, Result, Ok, Err, nat_le, if◌then◌else◌}
+use Rattle.std.specs.Prelude.{ℕ, ◌+◌, ◌==◌, Bool, not, ◌&&◌, List, [], ◌∷◌, ◌++◌, length, codes, Result, Ok, Err, nat_lt, nat_le, if◌then◌else◌}
 use Rattle.std.specs.List.{list_all, slice_split}
 use Rattle.std.specs.Option.{ok_or}
 use Rattle.std.specs.Str.{bytes_eq}
@@ -31,11 +31,15 @@ fields_of text = slice_split (λ b. b == 32) text
 abbrev pub all_filled : List (List ℕ) → Bool
 all_filled fields = list_all (λ field. not (is_empty field)) fields
 
+-- how many threads a trace can name
+abbrev pub threads : ℕ
+threads = 64
+
 -- the thread of a field
 unfoldable pub thread_of : List ℕ → Result ℕ BadWhy
 thread_of field = do
   thread ← ok_or (number_of field) bad.Thread
-  if nat_le thread 63 then Ok thread else Err bad.Thread
+  if nat_lt thread threads then Ok thread else Err bad.Thread
 
 -- the command of a field
 unfoldable pub command_of : List ℕ → Result Command BadWhy

@@ -4,4 +4,5 @@ pub mod Before
 pub mod Grammar
 pub mod Spelling
 pub mod ReadsAs
+pub mod Marks
 pub mod Seen

@@ -31,6 +31,11 @@ spelling_of line = decimal line.thread ++ codes " " ++ call_spelling line.call
 abbrev pub spelling : List Line → List ℕ
 spelling lines = header ++ codes "\n" ++ flat_map (λ line. spelling_of line ++ codes "\n") lines
 
+-- the parts of a trace round its newlines, behind the header: a line each, and nothing behind the last newline
+abbrev pub texts_of : List Line → List (List ℕ)
+texts_of [] = [] ∷ []
+texts_of (line ∷ lines) = spelling_of line ∷ texts_of lines
+
 -- what a name may be
 abbrev pub IsName : ℕ → Type 0
 IsName name = (1 ≤ name) × (name ≤ 65535)

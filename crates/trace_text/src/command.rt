@@ -1,12 +1,12 @@
 //! The commands of a trace, and the calls that they ask for.
 
-ghost use Rattle.std.specs.Prelude.{◌≡◌};
-ghost use Rattle.trace_text.specs.Grammar.{thread_of, command_of, number_at, name_at, tray_at, one_number, two_numbers, three_numbers, name_alone, name_and_size, name_and_tray, name_and_sizes, end_of, call_of};
+ghost use Rattle.std.specs.Prelude.{◌≡◌, ◌<◌, IfOk};
+ghost use Rattle.trace_text.specs.Grammar.{threads, thread_of, command_of, number_at, name_at, tray_at, one_number, two_numbers, three_numbers, name_alone, name_and_size, name_and_tray, name_and_sizes, end_of, call_of};
 
 use crate::fault::BadWhy;
 use crate::fields::Fields;
 use crate::numbers::parse_number;
-use crate::trace::Call;
+use crate::trace::{Call, THREADS};
 
 /// What a line asks for: the second of its fields.
 #[derive(Clone, Copy, Debug, PartialEq, Eq)]
@@ -43,10 +43,11 @@ pub(crate) fn read_command(field: &[u8]) -> Result<Command, BadWhy>
 
 #[tactic(auto, unfolding(crate::specs::Grammar::thread_of))]
 pub(crate) fn read_thread(field: &[u8]) -> Result<u8, BadWhy>
-    ensures { result ≡ thread_of field.now }
+    ensures exact { result ≡ thread_of field.now }
+    ensures below { IfOk result (λ thread. thread < threads) }
 {
     let thread = parse_number(field).ok_or(BadWhy::Thread)?;
-    if thread > 63 {
+    if thread >= u64::from(THREADS) {
         return Err(BadWhy::Thread);
     }
     Ok(thread as u8)

@@ -5,32 +5,58 @@ ghost use Rattle.std.specs.List.{position, slice_split};
 ghost use Rattle.trace_text.specs.Grammar.{fields_of, all_filled};
 
 use crate::fault::BadWhy;
+use memchr::memchr;
 use std::marker::Model;
 
-/// The place of the first that equals `byte`.
+/// The place of the first that equals `byte`, in a text where that comes soon.
 fn place_of(text: &[u8], byte: u8) -> Option<usize>
     ensures { result ≡ position (λ b. b == byte) text.now }
 {
     text.iter().position(|b| *b == byte)
 }
 
+/// The place of the first newline.
+#[tactic(auto, using(crate::proofs::FirstPlaces::first_place))]
+fn newline_in(text: &[u8]) -> Option<usize>
+    ensures { result ≡ position (λ b. b == 10) text.now }
+{
+    memchr(b'\n', text)
+}
+
 /// The bytes before the first that equals `byte`, and those behind it.
-pub(crate) fn cut(text: &[u8], byte: u8) -> Option<(&[u8], &[u8])>
-    ensures parts { MatchOption result
+fn cut(text: &[u8], byte: u8) -> Option<(&[u8], &[u8])>
+    ensures { MatchOption result
         (slice_split (λ b. b == byte) text.now ≡ text.now ∷ [])
         (λ parts. slice_split (λ b. b == byte) text.now ≡ parts.0.now ∷ slice_split (λ b. b == byte) parts.1.now) }
-    ensures shorter { IfSome result (λ parts. length parts.1.now < length text.now) }
 {
     let end = place_of(text, byte)?;
     Some((&text[..end], &text[end + 1..]))
 }
 
-/// Whether no field of a line is empty.
+/// The bytes before the first newline, and those behind it.
+pub(crate) fn cut_line(text: &[u8]) -> Option<(&[u8], &[u8])>
+    ensures parts { MatchOption result
+        (slice_split (λ b. b == 10) text.now ≡ text.now ∷ [])
+        (λ parts. slice_split (λ b. b == 10) text.now ≡ parts.0.now ∷ slice_split (λ b. b == 10) parts.1.now) }
+    ensures shorter { IfSome result (λ parts. length parts.1.now < length text.now) }
+{
+    let end = newline_in(text)?;
+    Some((&text[..end], &text[end + 1..]))
+}
+
+/// Whether no field of a line is empty: it neither begins nor ends with a space, and no two stand side by side.
 pub(crate) fn are_filled(text: &[u8]) -> bool
     ensures { result ≡ all_filled (fields_of text.now) }
 {
-    text.split(|byte| *byte == b' ')
-        .all(|field| !field.is_empty())
+    let mut filled = true;
+    let mut behind_space = true;
+    // No branch depends on a byte here, so that the loop runs at the same pace over any line.
+    for byte in text {
+        let is_space = *byte == b' ';
+        filled &= !(is_space & behind_space);
+        behind_space = is_space;
+    }
+    filled & !behind_space
 }
 
 /// The fields of a line that aren't taken yet.

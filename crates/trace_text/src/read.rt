@@ -1,16 +1,16 @@
 //! Reading a trace.
 
-ghost use Rattle.std.specs.Prelude.{◌≡◌, ◌==◌, List, [], IfOk};
+ghost use Rattle.std.specs.Prelude.{◌≡◌, ◌<◌, ◌==◌, List, [], IfOk};
 ghost use Rattle.std.specs.List.{slice_split};
 ghost use Rattle.trace_text.specs.declared.trace.Line.{Line};
-ghost use Rattle.trace_text.specs.Grammar.{fields_of, place_after, filled_line, line_of, lines_after, reading_of};
+ghost use Rattle.trace_text.specs.Grammar.{threads, fields_of, place_after, filled_line, line_of, lines_after, reading_of};
 ghost use Rattle.trace_text.specs.Seen.{Knows};
 ghost use Rattle.trace_text.specs.ReadsAs.{ReadsAs};
 ghost use Rattle.trace_text.specs.Spelling.{spelling, Allows};
 
 use crate::command::{read_call, read_command, read_thread};
 use crate::fault::{BadWhy, TraceFault};
-use crate::fields::{Fields, are_filled, cut};
+use crate::fields::{Fields, are_filled, cut_line};
 use crate::seen::Seen;
 use crate::trace::{Line, Trace};
 use std::alloc::Global;
@@ -24,8 +24,9 @@ fn read_filled(
     number: u64,
     seen: &Seen,
 ) -> Result<Line, BadWhy>
-    ensures { (before : List Line) → Knows seen.now before → number ≡ place_after before →
+    ensures exact { (before : List Line) → Knows seen.now before → number ≡ place_after before →
         result ≡ filled_line before first.now second.now others.entry }
+    ensures thread { IfOk result (λ line. line.thread < threads) }
 {
     let thread = read_thread(first)?;
     if seen.has_ended(thread) {
@@ -44,8 +45,9 @@ fn read_filled(
 /// The line that a text is, behind the lines seen.
 #[tactic(auto, unfolding(crate::specs::Grammar::line_of))]
 fn read_line(text: &[u8], number: u64, seen: &Seen) -> Result<Line, BadWhy>
-    ensures { (before : List Line) → Knows seen.now before → number ≡ place_after before →
+    ensures exact { (before : List Line) → Knows seen.now before → number ≡ place_after before →
         result ≡ line_of before (fields_of text.now) }
+    ensures thread { IfOk result (λ line. line.thread < threads) }
 {
     if !are_filled(text) {
         return Err(BadWhy::Fields);
@@ -61,11 +63,11 @@ fn read_body(alloc: Global, text: &[u8]) -> Result<Trace, TraceFault>
     ensures { ReadsAs result (lines_after [] (slice_split (λ b. b == 10) text.now)) }
 {
     let mut lines = Vec::new(alloc);
-    let mut seen = Seen::new(alloc);
+    let mut seen = Seen::new(alloc)?;
     let mut rest = text;
     while !rest.is_empty() {
         let place = lines.len() as u64 + 2;
-        let Some((line, behind)) = cut(rest, b'\n') else {
+        let Some((line, behind)) = cut_line(rest) else {
             return Err(TraceFault::Bad {
                 line: place,
                 why: BadWhy::Cut,
@@ -92,7 +94,7 @@ pub fn read_trace(alloc: Global, bytes: &[u8]) -> Result<Trace, TraceFault>
     // What is read is allowed, and spelled so.
     ensures found { IfOk result (λ t. Allows t.lines.items × (bytes.now ≡ spelling t.lines.items)) }
 {
-    let Some((first, body)) = cut(bytes, b'\n') else {
+    let Some((first, body)) = cut_line(bytes) else {
         return Err(TraceFault::Bad {
             line: 1,
             why: BadWhy::Cut,

@@ -1,60 +1,54 @@
 //! What the lines read so far leave: the names that are held, the threads that have ended, the trays.
 
-ghost use Rattle.std.specs.Prelude.{◌≡◌, ◌+◌, ◌*◌, ◌^◌};
+ghost use Rattle.std.specs.Prelude.{◌≡◌, ◌<◌, vec_len};
+ghost use Rattle.trace_text.specs.Grammar.{threads};
 
 use crate::fault::BadWhy;
-use crate::trace::{Call, Line};
+use crate::marks::{Marks, is_marked, mark, tables, unmark};
+use crate::trace::{Call, Line, THREADS};
 use chunk_tags::NoMemory;
 use std::alloc::Global;
-use std::collections::HashSet;
 
-/// Sets that say what the lines so far say.
+/// Tables that say what the lines so far say.
 #[derive(Drop)]
 pub(crate) struct Seen {
-    held: HashSet<u64>,
-    ended: HashSet<u8>,
-    posted: HashSet<u32>,
-    taken: HashSet<u32>,
-}
-
-/// A number for each name of each thread.
-fn key_of(thread: u8, name: u32) -> u64
-    ensures { result ≡ thread * 2 ^ 32 + name }
-{
-    (u64::from(thread) << 32) + u64::from(name)
+    held: Vec<Marks>,
+    ended: Marks,
+    posted: Marks,
+    taken: Marks,
+    ghost wide: { vec_len held ≡ threads },
 }
 
 impl Seen {
-    ghost use Rattle.std.specs.Prelude.{[], List, OnOk};
+    ghost use Rattle.std.specs.Prelude.{[], List, IfOk, OnOk};
     ghost use Rattle.trace_text.specs.declared.trace.Line.{Line};
     ghost use Rattle.trace_text.specs.Before.{has_ended};
     ghost use Rattle.trace_text.specs.Grammar.{fitting, making, using};
     ghost use Rattle.trace_text.specs.Seen.{Knows, Adds};
 
     /// Before any line.
-    #[tactic(auto, unfolding(crate::specs::Before::is_held, crate::specs::Before::has_ended, crate::specs::Before::was_posted, crate::specs::Before::was_taken))]
-    pub(crate) fn new(alloc: Global) -> Seen
-        ensures { Knows result [] }
+    pub(crate) fn new(alloc: Global) -> Result<Seen, NoMemory>
+        ensures { IfOk result (λ seen. Knows seen []) }
     {
-        Seen {
-            held: HashSet::new(alloc),
-            ended: HashSet::new(alloc),
-            posted: HashSet::new(alloc),
-            taken: HashSet::new(alloc),
-        }
+        Ok(Seen {
+            held: tables(alloc, THREADS)?,
+            ended: Marks::new(alloc),
+            posted: Marks::new(alloc),
+            taken: Marks::new(alloc),
+        })
     }
 
     pub(crate) fn has_ended(&self, thread: u8) -> bool
         ensures { (before : List Line) → Knows self.now before → result ≡ has_ended thread before }
     {
-        self.ended.contains(&thread)
+        self.ended.has(u32::from(thread))
     }
 
     /// Fails where a name that is to be made is held.
     fn check_making(&self, thread: u8, name: u32) -> Result<(), BadWhy>
         ensures { (before : List Line) → Knows self.now before → result ≡ making before thread name }
     {
-        if self.held.contains(&key_of(thread, name)) {
+        if is_marked(&self.held, thread, name) {
             return Err(BadWhy::Held);
         }
         Ok(())
@@ -64,7 +58,7 @@ impl Seen {
     fn check_using(&self, thread: u8, name: u32) -> Result<(), BadWhy>
         ensures { (before : List Line) → Knows self.now before → result ≡ using before thread name }
     {
-        if !self.held.contains(&key_of(thread, name)) {
+        if !is_marked(&self.held, thread, name) {
             return Err(BadWhy::NotHeld);
         }
         Ok(())
@@ -82,14 +76,14 @@ impl Seen {
             Call::Realloc { name, .. } | Call::Free { name } => self.check_using(thread, name),
             Call::Post { name, tray } => {
                 self.check_using(thread, name)?;
-                if self.posted.contains(&tray) {
+                if self.posted.has(tray) {
                     return Err(BadWhy::TrayTwice);
                 }
                 Ok(())
             }
             Call::Take { name, tray } => {
                 self.check_making(thread, name)?;
-                if self.taken.contains(&tray) {
+                if self.taken.has(tray) {
                     return Err(BadWhy::TrayTwice);
                 }
                 Ok(())
@@ -100,30 +94,31 @@ impl Seen {
 
     /// Takes a line in.
     pub(crate) fn add(&mut self, line: &Line) -> Result<(), NoMemory>
+        requires { line.now.thread < threads }
         ensures { OnOk result (Adds self.old self.new line.now) }
     {
         match line.call {
             Call::Malloc { name, .. } | Call::Calloc { name, .. } | Call::Align { name, .. } => {
-                self.held.insert(key_of(line.thread, name))?;
+                mark(&mut self.held, line.thread, name)?;
             }
             Call::Realloc { name, size } => {
                 if size == 0 {
-                    self.held.remove(&key_of(line.thread, name));
+                    unmark(&mut self.held, line.thread, name);
                 }
             }
             Call::Free { name } => {
-                self.held.remove(&key_of(line.thread, name));
+                unmark(&mut self.held, line.thread, name);
             }
             Call::Post { name, tray } => {
                 self.posted.insert(tray)?;
-                self.held.remove(&key_of(line.thread, name));
+                unmark(&mut self.held, line.thread, name);
             }
             Call::Take { name, tray } => {
                 self.taken.insert(tray)?;
-                self.held.insert(key_of(line.thread, name))?;
+                mark(&mut self.held, line.thread, name)?;
             }
             Call::Exit => {
-                self.ended.insert(line.thread)?;
+                self.ended.insert(u32::from(line.thread))?;
             }
         }
         Ok(())

@@ -22,6 +22,9 @@ pub enum Call {
     Exit,
 }
 
+/// How many threads a trace can name.
+pub const THREADS: u8 = 64;
+
 /// A line of a trace.
 #[derive(Clone, Copy, Debug, PartialEq, Eq)]
 pub struct Line {

@@ -12,13 +12,13 @@ returns-in_default c =
 pub returns-in-Err : goal.returns-in-Err
 returns-in-Err c =
     let before = c.loop-rest.lines.items in
-    let found = c.in-Err.ensures before c.loop-rest.invariant.known (omega arith) in
+    let found = c.in-Err.ensures.exact before c.loop-rest.invariant.known (omega arith) in
     sym c.loop-rest.invariant.so_far ∙ lines_stop before (c.len.result + 2) c.loop-rest.rest.now c.in-Some.line.now c.in-Some.behind.now c.in-Err.why (omega arith) c.in-Some.ensures.parts (sym found)
 
 pub loop-rest-preserved : goal.loop-rest-preserved
 loop-rest-preserved c =
     let before = c.loop-rest.lines.items in
-    let found = c.in-Ok.ensures before c.loop-rest.invariant.known (omega arith) in
+    let found = c.in-Ok.ensures.exact before c.loop-rest.invariant.known (omega arith) in
     rw c.in_ok-push-in-Ok.ensures.items (record {
       known = Knows-push c.loop-rest.seen c.add.new.self before c.in-Ok.line c.in_ok-add-in-Ok.ensures c.loop-rest.invariant.known;
       so_far = sym (lines_more before c.loop-rest.rest.now c.in-Some.line.now c.in-Some.behind.now c.in-Ok.line c.in-Some.ensures.parts (sym found)) ∙ c.loop-rest.invariant.so_far;
