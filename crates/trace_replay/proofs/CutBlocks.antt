@@ -6,7 +6,8 @@ use Rattle.std.specs.Map.{values_of}
 use Rattle.std.specs.List.{AllByRecursion}
 use Rattle.std.proofs.lemmas.List.Sums.{sum_by-cons, sum_by-append, sum_by_push}
 use Rattle.std.proofs.lemmas.Bool.Decides.{nat_tests}
-use Rattle.chunk_tags.specs.Sizes.{IsChunkSize, cache_index_of}
+use Rattle.chunk_tags.specs.Sizes.{IsChunkSize, structure_size}
+use Rattle.chunk_tags.specs.Tunables.{IsTuned}
 use Rattle.chunk_tags.specs.declared.block.Block.{Block}
 use Rattle.chunk_tags.specs.declared.tunables.Tunables.{Tunables}
 use Rattle.address_space.specs.Ports.{Port}
@@ -17,11 +18,12 @@ use Rattle.address_space.specs.declared.asks.Answer.{Answer}
 use Rattle.address_space.specs.declared.asks.Answer.TheVariants as answers
 use Rattle.address_space.specs.declared.space.Space.{Space}
 use Rattle.thread_cache.specs.Caches.{CacheValue, Opened, opened, is_open, empty_lists, blocks_of, structure_of}
-use Rattle.thread_cache.proofs.Kept.{get_or-empty}
+use Rattle.thread_cache.specs.Held.{IsSound}
+use Rattle.thread_cache.proofs.CacheLaws.{sound_opened, none_opened}
 use Rattle.trace_replay.specs.declared.top.Top.{Top}
-use Rattle.trace_replay.specs.World.{World, first_break, first_growth, split_from, split, granted, grow, search, structure_size, with_cache}
-use Rattle.trace_replay.specs.Tiling.{Fill}
-use Rattle.trace_replay.proofs.Fills.{fill_more}
+use Rattle.trace_replay.specs.World.{World, first_break, first_growth, split_from, split, granted, grow, search, with_cache}
+use Rattle.list_laws.specs.Filling.{Fill}
+use Rattle.list_laws.proofs.Filling.{fill_more}
 
 abbrev pub block_span : Block → ℕ × ℕ
 block_span b = (b.addr, b.size)
@@ -47,7 +49,7 @@ TopEnds system (Some top) = (top.addr + top.size ≡ main_start + system) × IsC
 -- blocks in hand, live blocks and those of the cache fill what stands before top, and top the rest
 pub record IsCut (hand live : List Block) (cache : CacheValue) (top : Option Top) (system : ℕ) : Type 0 where
   pub spans : List (ℕ × ℕ)
-  pub fill : Fill main_start (top_start top) spans
+  pub fill : Fill IsChunkSize main_start (top_start top) spans
   pub top_ends : TopEnds system top
   pub same : (f : ℕ × ℕ → ℕ) → weigh f hand + weigh f live + weigh f (cache_blocks cache) ≡ sum_by f spans
 
@@ -79,7 +81,7 @@ split_cut hand live cache top system nb chunk fits cut =
     let b : Block = record { addr = top.addr; size = nb; lead = 0; arena = Some 0 } in
     record {
       spans = cut.spans ++ (top.addr, nb) ∷ [];
-      fill = fill_more main_start top.addr cut.spans nb cut.fill chunk;
+      fill = fill_more IsChunkSize main_start top.addr cut.spans nb cut.fill chunk;
       top_ends = (omega (arith, cut.top_ends.0, fits), (omega (arith, fits), omega (arith, fits, chunk.1, cut.top_ends.1.1)));
       same = λ f. omega (arith, cut.same f, sum_by-cons (λ x. f (block_span x)) b hand, sum_by_push f cut.spans (top.addr, nb));
     }
@@ -175,33 +177,11 @@ found_by_search port t hand w nb chunk cut =
 
 -- ---- the cache
 
--- a block of the size that the list at an index has
-abbrev pub IsSizedAt : ℕ → Block → Type 0
-IsSizedAt i b = IsChunkSize b.size × (cache_index_of b.size ≡ i)
-
--- an open cache has 64 lists, uses no other, and each block stands in the list of its size
-pub record IsListed (c : Opened) : Type 0 where
-  pub width : length c.lists ≡ 64
-  pub bins : c.bins ≤ 64
-  pub sized : (i : ℕ) → AllByRecursion (IsSizedAt i) (get_or c.lists i [])
-
-abbrev pub AreListed : CacheValue → Type 0
-AreListed None = Unit {0}
-AreListed (Some c) = IsListed c
-
-none_cached : (structure : Block) (count bins : ℕ) → blocks_of (opened structure count bins) ≡ []
-unfolding empty_lists
-none_cached structure count bins = refl
-
-listed_opened : (structure : Block) (count bins : ℕ) → bins ≤ 64 → AreListed (opened structure count bins)
-unfolding empty_lists
-listed_opened structure count bins le = record { width = refl; bins = le; sized = λ i. rw (get_or-empty {X = Block} 64 i) tt }
-
 -- a world with an open cache
 pub record IsReady {K : Type 0} (w now : World K) : Type 0 where
   pub cut : IsCutWorld [] now
   pub live : now.live ≡ w.live
-  pub listed : AreListed now.cache
+  pub sound : IfSome now.cache IsSound
   pub windows : now.space.windows ≡ w.space.windows
   pub window : InWindow w → InWindow now
 
@@ -210,44 +190,27 @@ opened_cut live b top system count bins cut = record {
   spans = cut.spans;
   fill = cut.fill;
   top_ends = cut.top_ends;
-  same = λ f. omega (arith, cut.same f, sum_by-append (λ x. f (block_span x)) (blocks_of (opened b count bins)) (b ∷ []), ap (weigh f) (none_cached b count bins));
+  same = λ f. omega (arith, cut.same f, sum_by-append (λ x. f (block_span x)) (blocks_of (opened b count bins)) (b ∷ []), ap (weigh f) (none_opened b count bins));
 }
 
-ready_from : {K : Type 0} (t : Tunables) (w : World K) (found : Block × World K) → t.tcache_bins ≤ 64 → w.cache ≡ None → IsFound [] w structure_size found → IsReady w (record found.1 { cache = opened found.0 t.tcache_count t.tcache_bins })
-ready_from t w found bins closed is = record {
+ready_from : {K : Type 0} (t : Tunables) (w : World K) (found : Block × World K) → IsTuned t → w.cache ≡ None → IsFound [] w structure_size found → IsReady w (record found.1 { cache = opened found.0 t.tcache_count t.tcache_bins })
+ready_from t w found tuned closed is = record {
   cut = opened_cut (values_of found.1.live) found.0 found.1.top found.1.system t.tcache_count t.tcache_bins
       (subst (λ (c : CacheValue). IsCut (found.0 ∷ []) (values_of found.1.live) c found.1.top found.1.system) (is.left.cache ∙ closed) is.left.cut);
   live = is.left.live;
-  listed = listed_opened found.0 t.tcache_count t.tcache_bins bins;
+  sound = sound_opened found.0 t.tcache_count t.tcache_bins tuned.count tuned.bins;
   windows = is.left.windows;
   window = is.left.window;
 }
 
-pub ready : {K : Type 0} (port : Port K) (t : Tunables) (w : World K) → t.tcache_bins ≤ 64 → AreListed w.cache → IsCutWorld [] w → IfSome (with_cache port t w) (IsReady w)
+pub ready : {K : Type 0} (port : Port K) (t : Tunables) (w : World K) → IsTuned t → IfSome w.cache IsSound → IsCutWorld [] w → IfSome (with_cache port t w) (IsReady w)
 unfolding with_cache
-ready port t w bins listed cut =
+ready port t w tuned sound cut =
     let step : (c : CacheValue) → w.cache ≡ c → IfSome (cond (is_open c) (Some w) (option_map (λ found. record found.1 { cache = opened found.0 t.tcache_count t.tcache_bins }) (search port t structure_size w))) (IsReady w) = elim [
       | None ↦ λ closed.
           mapped (IsFound [] w structure_size) (IsReady w) (λ found. record found.1 { cache = opened found.0 t.tcache_count t.tcache_bins }) (search port t structure_size w)
           (found_by_search port t [] w structure_size (omega arith, refl) cut)
-          (λ found is. ready_from t w found bins closed is)
-      | Some c ↦ λ is. record { cut = cut; live = refl; listed = listed; windows = refl; window = λ h. h }
+          (λ found is. ready_from t w found tuned closed is)
+      | Some c ↦ λ is. record { cut = cut; live = refl; sound = sound; windows = refl; window = λ h. h }
     ] in
     step w.cache refl
-
--- ---- cached blocks
-
-pub taken_sum : (g : Block → ℕ) (lists : List (List Block)) (i : ℕ) (b : Block) → slice_get (get_or lists i []) 0 ≡ Some b → g b + sum_by g (flat_map (λ l. l) (set lists i (drop 1 (get_or lists i [])))) ≡ sum_by g (flat_map (λ l. l) lists)
-taken_sum g [] i b found = absurd cc
-taken_sum g ([] ∷ lists) zero b found = absurd cc
-taken_sum g ((x ∷ xs) ∷ lists) zero b found =
-    let same : x ≡ b = cc in
-    omega (arith, ap g same, sum_by-cons g x (xs ++ flat_map (λ l. l) lists))
-taken_sum g (l ∷ lists) (suc i) b found =
-    omega (arith, taken_sum g lists i b found, sum_by-append g l (flat_map (λ x. x) lists), sum_by-append g l (flat_map (λ x. x) (set lists i (drop 1 (get_or lists i [])))))
-
-pub put_sum : (g : Block → ℕ) (lists : List (List Block)) (i : ℕ) (b : Block) → i < length lists → sum_by g (flat_map (λ l. l) (set lists i (b ∷ get_or lists i []))) ≡ g b + sum_by g (flat_map (λ l. l) lists)
-put_sum g [] i b lt = let no : ⊥ = omega arith in absurd no
-put_sum g (l ∷ lists) zero b lt = sum_by-cons g b (l ++ flat_map (λ x. x) lists)
-put_sum g (l ∷ lists) (suc i) b lt =
-    omega (arith, put_sum g lists i b (omega arith), sum_by-append g l (flat_map (λ x. x) lists), sum_by-append g l (flat_map (λ x. x) (set lists i (b ∷ get_or lists i []))))

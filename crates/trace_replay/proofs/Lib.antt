@@ -1,16 +1,12 @@
-pub mod ReadLoop
-pub mod Numbered
-pub mod RisingNumbers
-pub mod Fills
-pub mod ByAddress
-pub mod CutBlocks
-pub mod NamedBlocks
-pub mod CutRuns
-pub mod TiledReports
-pub mod WriteLoop
-pub mod LiveChunks
-pub mod ReplayLoop
-pub mod Refusals
-pub mod Reports
-pub mod Idle
-pub mod CachedTiles
+mod Numbered
+mod CutBlocks
+mod NamedBlocks
+mod CutRuns
+mod TiledReports
+mod LiveChunks
+mod ReplayLoop
+mod Refusals
+mod Reports
+mod Idle
+mod Words
+mod Outcomes

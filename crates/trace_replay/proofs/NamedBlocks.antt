@@ -12,7 +12,8 @@ use Rattle.trace_text.specs.declared.trace.Line.{Line}
 use Rattle.trace_text.specs.Before.{is_held, held_after}
 use Rattle.trace_text.proofs.Before.{is_held_push}
 use Rattle.trace_replay.specs.Tiling.{asked_next, asked_size}
-use Rattle.trace_replay.proofs.RisingNumbers.{Rise, at, at_with, at_without}
+use Rattle.list_laws.specs.Rising.{Rise, at}
+use Rattle.list_laws.proofs.Rising.{at_with, at_without}
 
 -- the text holds a name, and its block has the size for what was last asked for under it
 pub record IsNamed (before : List Line) (name : ℕ) (b : Block) : Type 0 where

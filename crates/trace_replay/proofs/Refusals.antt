@@ -1,6 +1,5 @@
 -- Refusals that are handed on.
 use Rattle.std.proofs.Common.{◌≡◌, Result, Ok, Err, ap, ◌∙◌}
-use Rattle.std.specs.Prelude.{OnOk}
 use Rattle.trace_replay.specs.declared.exit.Exit.{Exit}
 use Rattle.trace_replay.specs.declared.exit.Exit.TheVariants.{NoMemory}
 use Rattle.trace_replay.specs.Replays.{RefusesAs}
@@ -9,8 +8,3 @@ use Rattle.trace_replay.specs.Replays.{RefusesAs}
 pub handed_on : {A B : Type 0} (whole : Result A Exit → Result B Exit) → ((exit : Exit) → whole (Err exit) ≡ Err exit) → (exit : Exit) (part : Result A Exit) → RefusesAs exit part → RefusesAs exit (whole part)
 handed_on whole hands NoMemory part h = tt
 handed_on whole hands exit part h = ap whole h ∙ hands exit
-
--- what holds anyway holds at an Ok
-pub on_ok : {A E : Type 0} (r : Result A E) (P : Type 0) → P → OnOk r P
-on_ok (Ok a) P p = p
-on_ok (Err e) P p = tt

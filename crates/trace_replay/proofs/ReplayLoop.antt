@@ -1,12 +1,12 @@
 -- A run over lines, one after another.
-use Rattle.std.proofs.Common.{◌≡◌, ℕ, false, List, [], ◌∷◌, ◌++◌, Result, Ok, Err, refl, sym, ap, ◌∙◌, append_assoc, append-nil, ◌+◌, ◌<◌, length, get_or, drop, add-one, subst}
+use Rattle.std.proofs.Common.{◌≡◌, ℕ, false, List, [], ◌∷◌, ◌++◌, Result, Ok, Err, refl, sym, ap, ◌∙◌, append_assoc, append-nil, ◌+◌, ◌<◌, length, get_or, drop, add-one, subst, arith}
 use Rattle.std.proofs.Math.Seq.{drop-cons}
 use Rattle.chunk_tags.specs.declared.tunables.Tunables.{Tunables}
 use Rattle.address_space.specs.Ports.{Port}
 use Rattle.stats_text.specs.declared.records.Outcome.{Outcome}
 use Rattle.stats_text.specs.Records.{record_text}
 use Rattle.trace_text.specs.declared.trace.Line.{Line}
-use Rattle.trace_text.specs.Spelling.{spelling_of}
+use Rattle.trace_text.specs.Spelling.{spelling_of, texts_of}
 use Rattle.trace_replay.specs.declared.exit.Exit.{Exit}
 use Rattle.trace_replay.specs.declared.exit.Exit.TheVariants.{NoMemory}
 use Rattle.trace_replay.specs.World.{World, step}
@@ -36,9 +36,9 @@ unfolding replayed
 replayed-cons port t line rest w = refl
 
 -- a line's text goes into a buffer that was cleared, and from there into its record
-pub line_recorded : {K : Type 0} (line : Line) (said : Outcome) (w : World K) (answer : Outcome × World K) (out after cleared scratch text : List ℕ) → answer ≡ (said, w) → cleared ≡ [] → scratch ≡ cleared ++ spelling_of line → text ≡ scratch → after ≡ out ++ record_text text said false → AppendsRecord out after line w answer
-line_recorded line said w answer out after cleared scratch text answered empty spelled read written = record {
-  text = rw (answered, ← (read ∙ spelled ∙ ap (λ (front : List ℕ). front ++ spelling_of line) empty)) written;
+pub line_recorded : {K : Type 0} (line : Line) (said : Outcome) (w : World K) (answer : Outcome × World K) (out after text : List ℕ) → answer ≡ (said, w) → text ≡ spelling_of line → after ≡ out ++ record_text text said false → AppendsRecord out after line w answer
+line_recorded line said w answer out after text answered spelled written = record {
+  text = rw (answered, ← spelled) written;
   world = ap (λ (a : Outcome × World _). a.1) answered;
 }
 
@@ -63,6 +63,11 @@ refused port t lines line rest first now before out exit so_far answered =
 
 drop_at : (lines : List Line) (i : ℕ) (d : Line) → i < length lines → drop i lines ≡ get_or lines i d ∷ drop (i + 1) lines
 drop_at lines i d lt = rw add-one (drop-cons lines i d lt)
+
+-- the texts of the lines that are left, behind the next one
+pub next_texts : (lines : List Line) (i : ℕ) (old now : List (List ℕ)) (text : List ℕ) → i < length lines → old ≡ texts_of (drop i lines) → ((line : Line) (rest : List Line) → old ≡ texts_of (line ∷ rest) → (text ≡ spelling_of line) × (now ≡ texts_of rest)) → now ≡ texts_of (drop (i + 1) lines)
+next_texts [] i old now text lt is step = let no : ⊥ = omega arith in absurd no
+next_texts (d ∷ lines) i old now text lt is step = (step (get_or (d ∷ lines) i d) (drop (i + 1) (d ∷ lines)) (is ∙ ap texts_of (drop_at (d ∷ lines) i d lt))).1
 
 -- the loop goes on behind a line that was answered
 pub goes_on : {K : Type 0} (port : Port K) (t : Tunables) (lines : List Line) (i : ℕ) (d : Line) (first now next : World K) (before out after : List ℕ) (answer : Outcome × World K) → i < length lines → SoFar port t lines (drop i lines) first now before out → answer_of (get_or lines i d) (step port t (get_or lines i d) now) ≡ Ok answer → AppendsRecord out after (get_or lines i d) next answer → SoFar port t lines (drop (i + 1) lines) first next before after

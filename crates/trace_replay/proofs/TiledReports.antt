@@ -5,6 +5,9 @@ use Rattle.std.specs.Map.{values_of}
 use Rattle.std.proofs.lemmas.Bool.Decides.{nat_tests}
 use Rattle.std.proofs.lemmas.List.Sums.{sum_by-cons, sum_by-append}
 use Rattle.std.proofs.lemmas.List.Sorted.{sum_by-IsPermutation}
+use Rattle.chunk_tags.specs.Sizes.{IsChunkSize}
+use Rattle.chunk_tags.specs.Tunables.{IsTuned}
+use Rattle.chunk_tags.specs.declared.tunables.Tunables.{Tunables}
 use Rattle.chunk_tags.specs.declared.block.Block.{Block}
 use Rattle.address_space.specs.Ports.{Port}
 use Rattle.address_space.specs.Spaces.{main_start}
@@ -18,24 +21,24 @@ use Rattle.trace_text.specs.Grammar.{Reading, reading_of}
 use Rattle.trace_text.specs.Spelling.{Allows}
 use Rattle.trace_text.proofs.RoundTrip.{reading_is}
 use Rattle.trace_replay.specs.declared.exit.Exit.{Exit}
-use Rattle.trace_replay.specs.declared.exit.Exit.TheVariants.{TooLong, NotBuilt}
+use Rattle.trace_replay.specs.declared.exit.Exit.TheVariants.{TooLong}
 use Rattle.trace_replay.specs.declared.top.Top.{Top}
 use Rattle.trace_replay.specs.World.{World, block_of}
-use Rattle.trace_replay.specs.Input.{max_input}
+use Rattle.byte_edge.specs.Input.{max_input}
 use Rattle.trace_replay.specs.Places.{tile_at, live_tile, cached_tile, structure_tile, top_tile, tiles_of, placed, by_address, main_of, shown_of}
-use Rattle.trace_replay.specs.SerialText.{serial_tunables, started, has_lines, replayed, whole_report, reported, over_first, lines_of, text_of, has_word, without_word, asked_lines, verdict}
-use Rattle.trace_replay.specs.Tiling.{span_of, Fill, IsTiled, asked_size, IsFit, ShowsTiles}
-use Rattle.trace_replay.proofs.RisingNumbers.{at}
-use Rattle.trace_replay.proofs.Fills.{only_at, fill_more, fill_sum, fill_apart, fill_by_address}
-use Rattle.trace_replay.proofs.ByAddress.{ArePlaced, all_placed, spans_rise}
+use Rattle.trace_replay.specs.SerialText.{Job, started, has_lines, replayed, whole_report, reported, over_first, lines_of, text_of, job_with, job_of, verdict}
+use Rattle.trace_replay.specs.Asked.{plainly_asked, asked_by}
+use Rattle.trace_replay.specs.declared.asked.Asked.{Asked}
+use Rattle.list_laws.specs.Filling.{Fill}
+use Rattle.list_laws.specs.Rising.{at}
+use Rattle.list_laws.proofs.Filling.{only_at, fill_more, fill_sum, fill_apart, fill_by_address}
+use Rattle.list_laws.proofs.Keyed.{ArePlaced, all_placed, numbers_rise}
+use Rattle.list_laws.proofs.Sums.{sum_by-map}
+use Rattle.trace_replay.specs.Tiling.{span_of, IsTiled, asked_size, IsFit, ShowsTiles}
 use Rattle.trace_replay.proofs.CutBlocks.{block_span, weigh, cache_blocks, top_start, TopEnds, IsCut}
 use Rattle.trace_replay.proofs.CutRuns.{IsRun, removed_sum, ran}
 
 -- ---- the spans of all chunks
-
-sum_by-map : {X Y : Type 0} (f : Y → ℕ) (g : X → Y) (xs : List X) → sum_by f (map g xs) ≡ sum_by (λ x. f (g x)) xs
-sum_by-map f g [] = refl
-sum_by-map f g (x ∷ xs) = omega (arith, sum_by-cons f (g x) (map g xs), sum_by-cons (λ y. f (g y)) x xs, sum_by-map f g xs)
 
 -- a sum over the spans of chunks
 abbrev weigh_tiles : (ℕ × ℕ → ℕ) → List TileView → ℕ
@@ -75,15 +78,21 @@ weigh_all f w =
       weigh_top f w.top,
     )
 
-fill_to_end : (system : ℕ) (top : Option Top) (spans : List (ℕ × ℕ)) → Fill main_start (top_start top) spans → TopEnds system top → Fill main_start (main_start + system) (spans ++ top_span top)
-fill_to_end system None spans fill ends = subst (λ (xs : List (ℕ × ℕ)). Fill main_start (main_start + system) xs) (sym (append-nil spans)) (subst (λ (n : ℕ). Fill main_start (main_start + n) spans) (sym ends) fill)
-fill_to_end system (Some top) spans fill ends = subst (λ (n : ℕ). Fill main_start n (spans ++ top_span (Some top))) ends.0 (fill_more main_start top.addr spans top.size fill ends.1)
+fill_to_end : (system : ℕ) (top : Option Top) (spans : List (ℕ × ℕ)) → Fill IsChunkSize main_start (top_start top) spans → TopEnds system top → Fill IsChunkSize main_start (main_start + system) (spans ++ top_span top)
+fill_to_end system None spans fill ends = subst (λ (xs : List (ℕ × ℕ)). Fill IsChunkSize main_start (main_start + system) xs) (sym (append-nil spans)) (subst (λ (n : ℕ). Fill IsChunkSize main_start (main_start + n) spans) (sym ends) fill)
+fill_to_end system (Some top) spans fill ends = subst (λ (n : ℕ). Fill IsChunkSize main_start n (spans ++ top_span (Some top))) ends.0 (fill_more IsChunkSize main_start top.addr spans top.size fill ends.1)
 
 -- ---- by address
 
+abbrev address_of : TileView → ℕ
+address_of t = t.addr
+
+some_size : (n : ℕ) → IsChunkSize n → 0 < n
+some_size n size = omega (arith, size.0)
+
 record IsFilled {K : Type 0} (w : World K) : Type 0 where
   spans : List (ℕ × ℕ)
-  fill : Fill main_start (main_start + w.system) spans
+  fill : Fill IsChunkSize main_start (main_start + w.system) spans
   same : (f : ℕ × ℕ → ℕ) → weigh_tiles f (tiles_of w) ≡ sum_by f spans
 
 filled : {K : Type 0} (w : World K) → IsCut [] (values_of w.live) w.cache w.top w.system → IsFilled w
@@ -93,32 +102,32 @@ filled w cut = record {
   same = λ f. omega (arith, weigh_all f w, cut.same f, sum_by-append f cut.spans (top_span w.top));
 }
 
-in_order : {K : Type 0} (w : World K) → IsFilled w → ArePlaced [] (tiles_of w) (fold placed [] (tiles_of w))
-in_order w is = all_placed [] (tiles_of w) tt tt (λ a. omega (arith, is.same (only_at a), fill_apart main_start (main_start + w.system) is.spans is.fill a))
+in_order : {K : Type 0} (w : World K) → IsFilled w → ArePlaced address_of [] (tiles_of w) (fold placed [] (tiles_of w))
+in_order w is = all_placed address_of [] (tiles_of w) tt tt (λ a. omega (arith, is.same (only_at a), fill_apart IsChunkSize some_size main_start (main_start + w.system) is.spans is.fill a))
 
 used : (system : ℕ) (tiles : List TileView) → tile_bytes_of tiles ≡ system → system - idle_bytes_of tiles ≡ in_use_bytes_of tiles
 used system tiles all = omega (arith, all, idle_and_in_use tiles)
 
-bytes_are : (start system : ℕ) (tiles : List TileView) → Fill start (start + system) (map span_of tiles) → tile_bytes_of tiles ≡ system
+bytes_are : (start system : ℕ) (tiles : List TileView) → Fill IsChunkSize start (start + system) (map span_of tiles) → tile_bytes_of tiles ≡ system
 unfolding tile_bytes_of
-bytes_are start system tiles fill = omega (arith, fill_sum start (start + system) (map span_of tiles) fill, sum_by-map (λ (s : ℕ × ℕ). s.1) span_of tiles)
+bytes_are start system tiles fill = omega (arith, fill_sum IsChunkSize start (start + system) (map span_of tiles) fill, sum_by-map (λ (s : ℕ × ℕ). s.1) span_of tiles)
 
 -- there is a top where main has bytes from the system
-top_is : (system : ℕ) (top : Option Top) (spans : List (ℕ × ℕ)) → Fill main_start (top_start top) spans → TopEnds system top → is_some top ≡ nat_lt 0 system
+top_is : (system : ℕ) (top : Option Top) (spans : List (ℕ × ℕ)) → Fill IsChunkSize main_start (top_start top) spans → TopEnds system top → is_some top ≡ nat_lt 0 system
 top_is system None spans fill ends = grind (arith, nat_tests)
 top_is system (Some top) spans fill ends =
-    let more : 0 < system = omega (arith, ends.0, ends.1.0, fill_sum main_start top.addr spans fill) in
+    let more : 0 < system = omega (arith, ends.0, ends.1.0, fill_sum IsChunkSize main_start top.addr spans fill) in
     grind (arith, nat_tests)
 
-tiled : {K : Type 0} (lines : List Line) (w : World K) → IsRun lines w → IsTiled w
+tiled : {K : Type 0} (t : Tunables) (lines : List Line) (w : World K) → IsRun t lines w → IsTiled w
 unfolding main_of by_address in_use_of
-tiled lines w run =
+tiled t lines w run =
     let is : IsFilled w = filled w run.cut in
     let placed_all = in_order w is in
     let es : List (ℕ × TileView) = fold placed [] (tiles_of w) in
     let shown : List TileView = values_of es in
-    let fill : Fill main_start (main_start + w.system) (map span_of shown) =
-    fill_by_address main_start (main_start + w.system) is.spans (map span_of shown) is.fill (spans_rise 0 es placed_all.rise placed_all.keyed)
+    let fill : Fill IsChunkSize main_start (main_start + w.system) (map span_of shown) =
+    fill_by_address IsChunkSize some_size main_start (main_start + w.system) is.spans (map span_of shown) is.fill (numbers_rise address_of span_of (λ t. refl) 0 es placed_all.rise placed_all.keyed)
     (λ f. sum_by-map f span_of shown ∙ sum_by-IsPermutation (λ t. f (span_of t)) _ _ placed_all.each ∙ is.same f) in
     record {
       fill = fill;
@@ -134,7 +143,7 @@ tiled lines w run =
 abbrev off : ℕ × ℕ → ℕ
 off s = s.0 % 16
 
-none_off : (start end : ℕ) (spans : List (ℕ × ℕ)) → start % 16 ≡ 0 → Fill start end spans → sum_by off spans ≡ 0
+none_off : (start end : ℕ) (spans : List (ℕ × ℕ)) → start % 16 ≡ 0 → Fill IsChunkSize start end spans → sum_by off spans ≡ 0
 none_off start end [] aligned fill = refl
 none_off start end (s ∷ spans) aligned fill =
     omega (arith, aligned, fill.0, fill.1.1, sum_by-cons off s spans, none_off (start + s.1) end spans (omega (arith, aligned, fill.1.1)) fill.2)
@@ -142,8 +151,8 @@ none_off start end (s ∷ spans) aligned fill =
 aligned_in : (live : List (ℕ × Block)) (name : ℕ) (b : Block) → weigh off (values_of live) ≡ 0 → at name live ≡ Some b → b.addr % 16 ≡ 0
 aligned_in live name b none found = omega (arith, none, removed_sum (λ x. off (block_span x)) live name b found)
 
-fits : {K : Type 0} (lines : List Line) (w : World K) → IsRun lines w → (name : ℕ) (b : Block) → block_of w name ≡ Some b → IsFit (asked_size lines name) b
-fits lines w run name b found =
+fits : {K : Type 0} (t : Tunables) (lines : List Line) (w : World K) → IsRun t lines w → (name : ℕ) (b : Block) → block_of w name ≡ Some b → IsFit (asked_size lines name) b
+fits t lines w run name b found =
     let named = run.named name b found in
     let none : weigh off (values_of w.live) ≡ 0 = omega (arith, run.cut.same off, none_off main_start (top_start w.top) run.cut.spans refl run.cut.fill) in
     let aligned : b.addr % 16 ≡ 0 = aligned_in w.live name b none found in
@@ -151,62 +160,63 @@ fits lines w run name b found =
 
 -- ---- a whole run
 
-begins : {K : Type 0} (kernel : K) → IsRun [] (started serial_tunables kernel)
-begins kernel = record {
+begins : {K : Type 0} (t : Tunables) (kernel : K) → IsRun t [] (started t kernel)
+begins t kernel = record {
   cut = record { spans = []; fill = refl; top_ends = refl; same = λ f. refl };
-  listed = tt;
+  sound = tt;
   rise = tt;
   named = λ name b found. absurd cc;
   windows = refl;
   window = omega arith;
 }
 
--- lines that a run is asked for are those of a trace
-lines_fit : (bytes : List ℕ) (lines : List Line) (r : Reading) → reading_of bytes ≡ r → lines_of r ≡ Ok lines → Allows lines
-lines_fit bytes lines (Ok read) is ok =
-    let same : read ≡ lines = cc in
-    (reading_is bytes lines (rw same at is)).0
-lines_fit bytes lines (Err fault) is ok = absurd cc
+-- the lines of a job are those of a trace, and its tunables are in their ranges
+record Suits (job : Job) : Type 0 where
+  lines : Allows job.lines
+  tuned : IsTuned job.asked.tunables
 
-without_word_fit : (words : ℕ) (lines : List Line) (r : Result (List Line) Exit) → without_word words r ≡ Ok lines → r ≡ Ok lines
-without_word_fit words lines (Err exit) ok = absurd cc
-without_word_fit words lines (Ok read) ok =
-    let r : Result (List Line) Exit = Ok read in
-    let cases : (b : Bool) → cond b (Err (NotBuilt 0)) r ≡ Ok lines → r ≡ Ok lines = elim [
-      | true ↦ λ h. absurd cc
-      | false ↦ λ h. h
-    ] in
-    cases (has_word words) ok
+asked_tuned : (words : List (List ℕ)) (asked : Asked) → asked_by words ≡ Ok asked → IsTuned asked.tunables
+asked_tuned [] asked is = let same : plainly_asked ≡ asked = cc in subst (λ (a : Asked). IsTuned a.tunables) same (record { pad = omega arith; count = omega arith; bins = omega arith; fast = omega arith; main = omega arith })
+asked_tuned (name ∷ []) asked is = let same : plainly_asked ≡ asked = cc in subst (λ (a : Asked). IsTuned a.tunables) same (record { pad = omega arith; count = omega arith; bins = omega arith; fast = omega arith; main = omega arith })
+asked_tuned (name ∷ word ∷ more) asked is = absurd cc
 
-asked_fit : (words : ℕ) (bytes : List ℕ) (lines : List Line) → asked_lines words bytes ≡ Ok lines → Allows lines
-asked_fit words bytes lines ok =
-    let r : Reading = reading_of bytes in
-    let cases : (b : Bool) → cond b (Err TooLong) (without_word words (lines_of r)) ≡ Ok lines → Allows lines = elim [
+job_suits : (words : List (List ℕ)) (bytes : List ℕ) (job : Job) (a : Result Asked Exit) (r : Reading) → asked_by words ≡ a → reading_of bytes ≡ r → job_with a (lines_of r) ≡ Ok job → Suits job
+job_suits words bytes job (Ok asked) (Ok lines) is read ok =
+    let same : record { asked = asked; lines = lines } ≡ job = cc in
+    subst Suits same (record { lines = (reading_is bytes lines read).0; tuned = asked_tuned words asked is })
+job_suits words bytes job (Err exit) (Ok lines) is read ok = absurd cc
+job_suits words bytes job a (Err fault) is read ok = absurd cc
+
+suits : (words : List (List ℕ)) (bytes : List ℕ) (job : Job) → job_of (asked_by words) bytes ≡ Ok job → Suits job
+suits words bytes job ok =
+    let cases : (b : Bool) → cond b (Err TooLong) (job_with (asked_by words) (lines_of (reading_of bytes))) ≡ Ok job → Suits job = elim [
       | true ↦ λ h. absurd cc
-      | false ↦ λ h. lines_fit bytes lines r refl (without_word_fit words lines (lines_of r) h)
+      | false ↦ λ h. job_suits words bytes job (asked_by words) (reading_of bytes) refl refl h
     ] in
     cases (nat_lt max_input (length bytes)) ok
 
 -- each text that the rules give shows a world that is tiled
-shown_run : {K : Type 0} (port : Port K) (kernels : List K) (words : ℕ) (bytes text : List ℕ) (lines : List Line) (kernel : K) → asked_lines words bytes ≡ Ok lines → slice_get kernels 0 ≡ Some kernel
-    → (ran : Result (List ℕ × World K) Exit) → replayed port serial_tunables lines (started serial_tunables kernel) ≡ ran → IfOk ran (λ records. IsRun lines records.1)
-    → reported serial_tunables (has_lines lines) ran ≡ Ok text → ShowsTiles port kernels words bytes text
-shown_run port kernels words bytes text lines kernel asked first (Err exit) is whole ok = absurd cc
-shown_run port kernels words bytes text lines kernel asked first (Ok records) is whole ok =
-    let shows : text ≡ whole_report records.0 (shown_of serial_tunables (has_lines lines) records.1) = cc in
-    record { lines = lines; kernel = kernel; records = records.0; world = records.1; asked = asked; first = first; run = is; shows = shows; windows = whole.windows; tiled = tiled lines records.1 whole; fit = fits lines records.1 whole }
+shown_run : {K : Type 0} (port : Port K) (kernels : List K) (asked : Result Asked Exit) (bytes text : List ℕ) (job : Job) (kernel : K) → job_of asked bytes ≡ Ok job → slice_get kernels 0 ≡ Some kernel
+    → (ran : Result (List ℕ × World K) Exit) → replayed port job.asked.tunables job.lines (started job.asked.tunables kernel) ≡ ran → IfOk ran (λ records. IsRun job.asked.tunables job.lines records.1)
+    → reported job.asked.tunables (has_lines job.lines) ran ≡ Ok text → ShowsTiles port kernels asked bytes text
+shown_run port kernels asked bytes text job kernel given first (Err exit) is whole ok = absurd cc
+shown_run port kernels asked bytes text job kernel given first (Ok records) is whole ok =
+    let t : Tunables = job.asked.tunables in
+    let shows : text ≡ whole_report records.0 (shown_of t (has_lines job.lines) records.1) = cc in
+    record { job = job; kernel = kernel; records = records.0; world = records.1; given = given; first = first; run = is; shows = shows; windows = whole.windows; tiled = tiled t job.lines records.1 whole; fit = fits t job.lines records.1 whole }
 
-shown_over : {K : Type 0} (port : Port K) (kernels : List K) (words : ℕ) (bytes text : List ℕ) (lines : List Line) → asked_lines words bytes ≡ Ok lines
-    → (first : Option K) → slice_get kernels 0 ≡ first → over_first port lines first ≡ Ok text → ShowsTiles port kernels words bytes text
-shown_over port kernels words bytes text lines asked None is ok = absurd cc
-shown_over port kernels words bytes text lines asked (Some kernel) is ok =
-    shown_run port kernels words bytes text lines kernel asked is (replayed port serial_tunables lines (started serial_tunables kernel)) refl
-    (ran port serial_tunables lines (started serial_tunables kernel) (omega arith) (begins kernel) (asked_fit words bytes lines asked)) ok
+shown_over : {K : Type 0} (port : Port K) (kernels : List K) (asked : Result Asked Exit) (bytes text : List ℕ) (job : Job) → Suits job → job_of asked bytes ≡ Ok job
+    → (first : Option K) → slice_get kernels 0 ≡ first → over_first port job first ≡ Ok text → ShowsTiles port kernels asked bytes text
+shown_over port kernels asked bytes text job suits given None is ok = absurd cc
+shown_over port kernels asked bytes text job suits given (Some kernel) is ok =
+    let t : Tunables = job.asked.tunables in
+    shown_run port kernels asked bytes text job kernel given is (replayed port t job.lines (started t kernel)) refl
+    (ran port t job.lines (started t kernel) suits.tuned (begins t kernel) suits.lines) ok
 
-shown_lines : {K : Type 0} (port : Port K) (kernels : List K) (words : ℕ) (bytes text : List ℕ) → (asked : Result (List Line) Exit) → asked_lines words bytes ≡ asked → text_of port kernels asked ≡ Ok text → ShowsTiles port kernels words bytes text
-shown_lines port kernels words bytes text (Err exit) is ok = absurd cc
-shown_lines port kernels words bytes text (Ok lines) is ok = shown_over port kernels words bytes text lines is (slice_get kernels 0) refl ok
+shown_job : {K : Type 0} (port : Port K) (kernels : List K) (words : List (List ℕ)) (bytes text : List ℕ) → (job : Result Job Exit) → job_of (asked_by words) bytes ≡ job → text_of port kernels job ≡ Ok text → ShowsTiles port kernels (asked_by words) bytes text
+shown_job port kernels words bytes text (Err exit) is ok = absurd cc
+shown_job port kernels words bytes text (Ok job) is ok = shown_over port kernels (asked_by words) bytes text job (suits words bytes job is) is (slice_get kernels 0) refl ok
 
-pub shows_tiles : {K : Type 0} (port : Port K) (kernels : List K) (words : ℕ) (bytes text : List ℕ) → verdict port kernels words bytes ≡ Ok text → ShowsTiles port kernels words bytes text
+pub shows_tiles : {K : Type 0} (port : Port K) (kernels : List K) (words : List (List ℕ)) (bytes text : List ℕ) → verdict port kernels (asked_by words) bytes ≡ Ok text → ShowsTiles port kernels (asked_by words) bytes text
 unfolding verdict
-shows_tiles port kernels words bytes text ok = shown_lines port kernels words bytes text (asked_lines words bytes) refl ok
+shows_tiles port kernels words bytes text ok = shown_job port kernels words bytes text (job_of (asked_by words) bytes) refl ok

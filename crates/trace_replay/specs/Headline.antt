@@ -1,47 +1,91 @@
 -- What a run promises (this project's own).
-use Rattle.std.specs.Prelude.{◌≡◌, ℕ, ◌≤◌, List, IsTrue, Option, Some, Result, Err, IsOk, ◌⊎◌}
+use Rattle.std.specs.Prelude.{◌≡◌, ℕ, ◌≤◌, List, IsTrue, Some, Result, Err, IsOk, IsOkAnd, ◌⊎◌}
 use Rattle.std.specs.List.{All}
-use Rattle.address_space.specs.Ports.{Port}
-use Rattle.trace_replay.specs.declared.exit.Exit.{Exit}
-use Rattle.trace_replay.specs.declared.exit.Exit.TheVariants.{Done, ReadFault, WriteFault, NoMemory, NotBuilt}
+use Rattle.address_space.specs.Ports.{Port, Rose}
+use Rattle.byte_edge.specs.Streams.{Supply, Store, EndsInFailedCall}
+use Rattle.byte_edge.specs.Input.{IsWhole, IsTooMuch, IsCutOff}
+use Rattle.byte_edge.specs.Output.{HasText, HasPrefix}
 use Rattle.trace_text.specs.declared.trace.Line.{Line}
-use Rattle.trace_replay.specs.Replays.{RefusesAs}
+use Rattle.trace_replay.specs.declared.exit.Exit.{Exit}
+use Rattle.trace_replay.specs.declared.exit.Exit.TheVariants.{Done, TooLong, ReadFault, WriteFault, NoMemory, NotBuilt}
+
+-- ---- what is left, whatever source, sink and ports tell
+
+-- the source was read to its end
+pub record IsReadWhole {S : Type 0} (supply : Supply S) (before now : S) : Type 0 where
+  pub bytes : List ℕ
+  pub whole : IsWhole supply before now bytes
+
+-- By the answer, what a run leaves of its source. A fault is answered exactly where one was counted, and nothing is
+-- read behind it, nor behind the read that gave a byte too many. Only for want of memory may bytes be left besides.
+abbrev pub LeavesSource : {S : Type 0} → Supply S → S → Exit → S → Type 0
+LeavesSource supply before ReadFault now = IsCutOff supply before now
+LeavesSource supply before TooLong now = IsTooMuch supply before now
+LeavesSource supply before NoMemory now = supply.faults now ≡ supply.faults before
+LeavesSource supply before _ now = IsReadWhole supply before now
+
+-- a fault was counted, and nothing was asked behind it
+pub record IsFaulted {W : Type 0} (store : Store W) (before now : W) : Type 0 where
+  pub rose : Rose (store.faults before) (store.faults now)
+  pub last : EndsInFailedCall store before now
+
+-- by the answer, what it leaves of its sink: untouched but where a text was written
+abbrev pub LeavesSink : {W : Type 0} → Store W → W → Exit → W → Type 0
+LeavesSink store before Done now = store.faults now ≡ store.faults before
+LeavesSink store before WriteFault now = IsFaulted store before now
+LeavesSink store before _ now = now ≡ before
+
+-- nothing is written: the answer is no end of a writing
+abbrev pub IsUnwritten : Exit → Type 0
+IsUnwritten Done = ⊥
+IsUnwritten WriteFault = ⊥
+IsUnwritten exit = Unit {0}
+
+-- ---- what the rules give
 
 -- a source tells that these bytes are left, and each port tells
-pub record Told {S K : Type 0} (left : S → Option (List ℕ)) (port : Port K) (source : S) (kernels : List K) (bytes : List ℕ) : Type 0 where
-  pub bytes_left : left source ≡ Some bytes
+pub record Told {S K : Type 0} (supply : Supply S) (port : Port K) (source : S) (kernels : List K) (bytes : List ℕ) : Type 0 where
+  pub bytes_left : supply.left source ≡ Some bytes
   pub ports : All (λ k. IsTrue (port.tells k)) kernels
 
--- What a run answers where these are the rules: it writes only where they give a text, and refuses only as they do.
--- A fault of the source or want of memory may come before.
-abbrev pub AnswersAs : Result (List ℕ) Exit → Exit → Type 0
-AnswersAs rules Done = IsOk rules
-AnswersAs rules WriteFault = IsOk rules
-AnswersAs rules ReadFault = Unit {0}
-AnswersAs rules exit = RefusesAs exit rules
+-- What a run answers, and writes, where these are the rules: their text, all of it or a prefix, or their refusal. A
+-- fault of the source or want of memory may come before.
+abbrev pub Answers : {W : Type 0} → Result (List ℕ) Exit → Store W → W → Exit → W → Type 0
+Answers rules store before Done now = IsOkAnd rules (λ text. HasText store before text now)
+Answers rules store before WriteFault now = IsOkAnd rules (λ text. HasPrefix store before text now)
+Answers rules store before ReadFault now = Unit {0}
+Answers rules store before NoMemory now = Unit {0}
+Answers rules store before exit now = rules ≡ Err exit
 
--- a refusal of the text: no end of its writing, and no fault of the source
-abbrev pub IsTextRefusal : Exit → Type 0
-IsTextRefusal Done = ⊥
-IsTextRefusal WriteFault = ⊥
-IsTextRefusal ReadFault = ⊥
-IsTextRefusal exit = Unit {0}
+-- a refusal of a text is that of the rules; a fault of the source or want of memory may come before
+abbrev pub Refuses : Result (List ℕ) Exit → Exit → Type 0
+Refuses rules ReadFault = Unit {0}
+Refuses rules NoMemory = Unit {0}
+Refuses rules exit = rules ≡ Err exit
 
--- What a run answers where these are the lines that it is asked for, whatever the ports are: what the words and the
--- bytes alone refuse, exactly where they do. A line that isn't built stands behind the header.
-abbrev pub AnswersLines : {A : Type 0} → Result A Exit → Exit → Type 0
-AnswersLines lines Done = IsOk lines
-AnswersLines lines WriteFault = IsOk lines
-AnswersLines lines ReadFault = Unit {0}
-AnswersLines lines NoMemory = Unit {0}
-AnswersLines lines (NotBuilt line) = (IsOk lines × (2 ≤ line)) ⊎ (lines ≡ Err (NotBuilt line))
-AnswersLines lines exit = lines ≡ Err exit
+-- What a run answers where this is its job, whatever the ports are: what the words and the bytes alone refuse,
+-- exactly where they do. A line that isn't built stands behind the header.
+abbrev pub AnswersJob : {A : Type 0} → Result A Exit → Exit → Type 0
+AnswersJob job Done = IsOk job
+AnswersJob job WriteFault = IsOk job
+AnswersJob job ReadFault = Unit {0}
+AnswersJob job NoMemory = Unit {0}
+AnswersJob job (NotBuilt line) = (IsOk job × (2 ≤ line)) ⊎ (job ≡ Err (NotBuilt line))
+AnswersJob job exit = job ≡ Err exit
 
 -- how the lines of a run may stop it: a call that isn't built, of a line behind the header, or want of memory
 abbrev pub IsHalt : Exit → Type 0
 IsHalt (NotBuilt line) = 2 ≤ line
 IsHalt NoMemory = Unit {0}
 IsHalt exit = ⊥
+
+-- a refusal of the text, once the bytes are read: no end of its writing, and no fault of the reading
+abbrev pub IsTextRefusal : Exit → Type 0
+IsTextRefusal Done = ⊥
+IsTextRefusal WriteFault = ⊥
+IsTextRefusal ReadFault = ⊥
+IsTextRefusal TooLong = ⊥
+IsTextRefusal exit = Unit {0}
 
 -- the number of a line behind the header
 abbrev pub IsNumbered : Line → Type 0

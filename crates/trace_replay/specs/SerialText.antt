@@ -2,8 +2,6 @@
 -- (this project's own).
 use Rattle.std.specs.Prelude.{ℕ, ◌==◌, Bool, false, not, nat_lt, List, [], ◌∷◌, ◌++◌, length, codes, slice_get, Option, Some, None, Result, Ok, Err, if◌then◌else◌}
 use Rattle.std.specs.Option.{ok_or}
-use Rattle.chunk_tags.specs.Tunables.{defaults_of}
-use Rattle.chunk_tags.specs.declared.tunables.Mode.TheVariants.{Serial}
 use Rattle.chunk_tags.specs.declared.tunables.Tunables.{Tunables}
 use Rattle.address_space.specs.declared.space.Windows.{Windows}
 use Rattle.address_space.specs.Ports.{Port}
@@ -16,10 +14,11 @@ use Rattle.stats_text.specs.Records.{record_text}
 use Rattle.trace_text.specs.declared.trace.Line.{Line}
 use Rattle.trace_text.specs.Grammar.{Reading, reading_of}
 use Rattle.trace_text.specs.Spelling.{spelling_of}
+use Rattle.trace_replay.specs.declared.asked.Asked.{Asked}
 use Rattle.trace_replay.specs.declared.exit.Exit.{Exit}
 use Rattle.trace_replay.specs.declared.exit.Exit.TheVariants.{BadTrace, TooLong, NotBuilt}
 use Rattle.trace_replay.specs.Places.{shown_of}
-use Rattle.trace_replay.specs.Input.{max_input}
+use Rattle.byte_edge.specs.Input.{max_input}
 use Rattle.trace_replay.specs.World.{World, opening_world, step}
 
 -- ---- the run over the lines
@@ -44,10 +43,6 @@ replayed port t [] w = Ok ([], w)
 replayed port t (line ∷ lines) w = recorded line (answer_of line (step port t line w)) (replayed port t lines)
 
 -- ---- the whole text
-
--- the tunables of a serial run
-abbrev pub serial_tunables : Tunables
-serial_tunables = defaults_of Serial
 
 -- the windows that the tunables give
 abbrev pub windows_of : Tunables → Windows
@@ -78,40 +73,37 @@ reported t lines (Err exit) = Err exit
 abbrev pub report_of : {K : Type 0} → Port K → Tunables → List Line → K → Result (List ℕ) Exit
 report_of port t lines kernel = reported t (has_lines lines) (replayed port t lines (started t kernel))
 
--- the same, out of the ports of all threads; that there are 64 is a condition of the run
-abbrev pub over_first : {K : Type 0} → Port K → List Line → Option K → Result (List ℕ) Exit
-over_first port lines (Some kernel) = report_of port serial_tunables lines kernel
-over_first port lines None = Err (NotBuilt 0)
+-- ---- a run's job
 
-abbrev pub serial_text : {K : Type 0} → Port K → List Line → List K → Result (List ℕ) Exit
-serial_text port lines kernels = over_first port lines (slice_get kernels 0)
-
--- ---- what is refused before
-
--- a word behind the program's name
-abbrev pub has_word : ℕ → Bool
-has_word words = nat_lt 1 words
+-- what a run has to do: what is asked for, and the lines of the trace
+pub record Job : Type 0 where
+  pub asked : Asked
+  pub lines : List Line
 
 -- the lines of a text, or its first fault
 abbrev pub lines_of : Reading → Result (List Line) Exit
 lines_of (Ok lines) = Ok lines
 lines_of (Err fault) = Err (BadTrace fault.line fault.why)
 
-abbrev pub text_of : {K : Type 0} → Port K → List K → Result (List Line) Exit → Result (List ℕ) Exit
-text_of port kernels (Ok lines) = serial_text port lines kernels
+-- a fault of the text comes before a refusal of the words
+abbrev pub job_with : Result Asked Exit → Result (List Line) Exit → Result Job Exit
+job_with asked (Err exit) = Err exit
+job_with (Err exit) (Ok lines) = Err exit
+job_with (Ok asked) (Ok lines) = Ok (record { asked = asked; lines = lines })
+
+-- the job that the words and the bytes give, or how these refuse it: the first that applies
+abbrev pub job_of : Result Asked Exit → List ℕ → Result Job Exit
+job_of asked bytes = if nat_lt max_input (length bytes) then Err TooLong else job_with asked (lines_of (reading_of bytes))
+
+-- the text for a job, out of the ports of all threads; that there are 64 is a condition of the run
+abbrev pub over_first : {K : Type 0} → Port K → Job → Option K → Result (List ℕ) Exit
+over_first port job (Some kernel) = report_of port job.asked.tunables job.lines kernel
+over_first port job None = Err (NotBuilt 0)
+
+abbrev pub text_of : {K : Type 0} → Port K → List K → Result Job Exit → Result (List ℕ) Exit
+text_of port kernels (Ok job) = over_first port job (slice_get kernels 0)
 text_of port kernels (Err exit) = Err exit
 
--- the lines of a trace; where a word stands behind the program's name, what it asks for isn't built
-abbrev pub without_word : ℕ → Result (List Line) Exit → Result (List Line) Exit
-without_word words (Ok lines) = if has_word words then Err (NotBuilt 0) else Ok lines
-without_word words (Err exit) = Err exit
-
--- the lines that a run is asked for by a number of words and the bytes, or how these refuse it: the first that applies
-abbrev pub asked_lines : ℕ → List ℕ → Result (List Line) Exit
-asked_lines words bytes =
-    if nat_lt max_input (length bytes) then Err TooLong
-    else without_word words (lines_of (reading_of bytes))
-
 -- what a run writes for these, over the ports, or how it refuses them
-unfoldable pub verdict : {K : Type 0} → Port K → List K → ℕ → List ℕ → Result (List ℕ) Exit
-verdict port kernels words bytes = text_of port kernels (asked_lines words bytes)
+unfoldable pub verdict : {K : Type 0} → Port K → List K → Result Asked Exit → List ℕ → Result (List ℕ) Exit
+verdict port kernels asked bytes = text_of port kernels (job_of asked bytes)

@@ -6,7 +6,8 @@ use Rattle.std.specs.Option.{option_and_then, option_map, option_or}
 use Rattle.std.specs.Ordering.{nat_cmp}
 use Rattle.std.specs.BTreeMap.{is_at, insert_entry}
 use Rattle.std.specs.Map.{lookup, remove_entry}
-use Rattle.chunk_tags.specs.Sizes.{chunk_size_of, padded_request, max_cached, cache_index_of}
+use Rattle.chunk_tags.specs.Pages.{page_up_of}
+use Rattle.chunk_tags.specs.Sizes.{padded_request, max_cached, cache_index_of, structure_size}
 use Rattle.chunk_tags.specs.declared.block.Block.{Block}
 use Rattle.chunk_tags.specs.declared.tunables.Tunables.{Tunables}
 use Rattle.address_space.specs.declared.asks.Ask.TheVariants.{Break}
@@ -44,13 +45,9 @@ block_of w name = lookup (is_at (nat_cmp name)) w.live
 
 -- ---- main's top
 
--- a number of bytes, rounded up to a page
-abbrev pub page_up : ℕ → ℕ
-page_up n = (n + 4095) / 4096 * 4096
-
 -- the first growth, for a chunk of nb bytes
 abbrev pub first_growth : Tunables → ℕ → ℕ
-first_growth t nb = page_up (nb + t.top_pad + 32)
+first_growth t nb = page_up_of (nb + t.top_pad + 32)
 
 -- a chunk of nb bytes from top's front, where top keeps at least 32 bytes
 abbrev pub split_from : {K : Type 0} → ℕ → World K → Option Top → Option (Block × World K)
@@ -85,10 +82,6 @@ unfoldable pub search : {K : Type 0} → Port K → Tunables → ℕ → World K
 search port t nb w = option_or (split nb w) (option_and_then (split nb) (grow port t nb w))
 
 -- ---- the calls
-
--- the chunk size of a cache's structure, which is a request of 640 bytes
-abbrev pub structure_size : ℕ
-structure_size = chunk_size_of 640
 
 -- the world with the thread's cache open
 unfoldable pub with_cache : {K : Type 0} → Port K → Tunables → World K → Option (World K)

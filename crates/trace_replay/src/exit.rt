@@ -2,13 +2,15 @@
 
 ghost use Rattle.std.specs.Prelude.{◌≡◌, Some};
 ghost use Rattle.trace_replay.specs.declared.exit.Exit.TheVariants.{NoMemory as OutOfMemory};
+ghost use Rattle.trace_replay.specs.Exits.{exit_of_unread, exit_of_fault, exit_of_halt};
 ghost use Rattle.trace_replay.specs.Messages.{large_of, message_of};
 ghost use Rattle.trace_replay.specs.Status.{status_of};
 
+use crate::halt::Halt;
+use byte_edge::Unread;
 use chunk_tags::NoMemory;
-use std::alloc::{AllocError, AllocFailed};
 use std::fmt;
-use trace_text::BadWhy;
+use trace_text::{BadWhy, TraceFault};
 
 /// What is too large for `--threads`.
 #[derive(Clone, Copy, Debug, PartialEq, Eq)]
@@ -102,18 +104,35 @@ impl From<NoMemory> for Exit {
     }
 }
 
-impl From<AllocError> for Exit {
-    ghost from_gives = { λ _ e. e ≡ OutOfMemory };
+impl From<Unread> for Exit {
+    ghost from_gives = { λ unread e. e ≡ exit_of_unread unread };
 
-    fn from(_e: AllocError) -> Exit {
-        Exit::NoMemory
+    fn from(unread: Unread) -> Exit {
+        match unread {
+            Unread::CutOff => Exit::ReadFault,
+            Unread::TooLong => Exit::TooLong,
+            Unread::NoMemory => Exit::NoMemory,
+        }
     }
 }
 
-impl<T: Drop> From<AllocFailed<T>> for Exit {
-    ghost from_gives = { λ _ e. e ≡ OutOfMemory };
+impl From<TraceFault> for Exit {
+    ghost from_gives = { λ fault e. e ≡ exit_of_fault fault };
 
-    fn from(_e: AllocFailed<T>) -> Exit {
-        Exit::NoMemory
+    fn from(fault: TraceFault) -> Exit {
+        match fault {
+            TraceFault::Bad { line, why } => Exit::BadTrace { line, why },
+            TraceFault::NoMemory => Exit::NoMemory,
+        }
+    }
+}
+
+/// How a call of a line ends the run where it has no answer.
+pub(crate) fn halt_exit(line: u64, halt: Halt) -> Exit
+    ensures { result ≡ exit_of_halt line halt }
+{
+    match halt {
+        Halt::NotBuilt => Exit::NotBuilt { line },
+        Halt::NoMemory => Exit::NoMemory,
     }
 }

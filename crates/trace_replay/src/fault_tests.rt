@@ -1,6 +1,7 @@
 //! Runs over sources, sinks and ports that fail, that give and take little at a time, or that tell nothing.
 
 ghost use Rattle.std.specs.Prelude.{◌≡◌, None, IfOk, vec_len};
+ghost use Rattle.byte_edge.specs.Streams.{Supply, Store};
 
 use super::*;
 use crate::tests::{ample, run_over};
@@ -34,9 +35,7 @@ impl Dribble {
 }
 
 impl Source for Dribble {
-    ghost left = { λ _. None };
-
-    ghost faults = { λ s. s.faults };
+    ghost supply = { record { left = λ _. None; faults = λ s. s.faults } };
 
     fn read(&mut self, into: &mut [u8]) -> Fetch {
         self.reads = self.reads.saturating_add(1);
@@ -85,9 +84,7 @@ impl Sips {
 }
 
 impl Sink for Sips {
-    ghost written = { λ _. None };
-
-    ghost faults = { λ s. s.faults };
+    ghost store = { record { written = λ _. None; faults = λ s. s.faults } };
 
     fn write(&mut self, from: &[u8]) -> Put {
         let count = from.len().min(SIP);

@@ -1,26 +1,26 @@
-//! The top call: a trace's bytes in, the report's bytes out.
+//! The top call: a trace's bytes in, the report's bytes out. A contract sees a run by its words, the bytes that its
+//! source tells, its ports and its answer; the one promise is `run`'s clause `told`: what is written, or how it is
+//! refused, is what the rules give (`verdict` of `SerialText`).
 #![tactic(auto)]
 
+mod asked;
 mod exit;
 mod gate;
 mod halt;
-mod memory;
 mod process;
-mod reading;
 mod replay;
 mod snapshot;
-mod standard;
-mod streams;
 mod top;
 mod top_call;
-mod writing;
 
+pub use asked::Asked;
+pub use byte_edge::{
+    CountSink, Fetch, Flush, MemSink, MemSource, Put, Sink, Source, StdSink, StdSource, SureSource,
+};
 pub use exit::{Exit, Large};
 pub use gate::{Gate, Open};
-pub use memory::{CountSink, MemSink, MemSource, SureSource};
-pub use standard::{StdSink, StdSource};
-pub use streams::{Fetch, Flush, Put, Sink, Source};
 pub use top_call::run;
+pub use trace_text::THREADS;
 
 #[cfg(test)]
 mod examples;

@@ -6,22 +6,16 @@ ghost use Rattle.std.specs.Option.{ForSome};
 ghost use Rattle.std.specs.List.{All};
 ghost use Rattle.std.specs.BTreeMap.{values};
 ghost use Rattle.chunk_tags.specs.Sizes.{IsChunkSize};
-ghost use Rattle.trace_replay.specs.World.{page_up as page_up_of};
 
 use crate::halt::Halt;
 use crate::top::Top;
 use address_space::{Answer, Kernel, MAIN_START, Space};
-use chunk_tags::{Addr, Block, MAX_CACHED, Size, Tunables, cache_index, request_size};
+use chunk_tags::{Addr, Block, MAX_CACHED, Size, Tunables, cache_index, page_up, request_size};
 use stats_text::{Outcome, Sink3, Source3};
 use std::alloc::Global;
 use std::collections::BTreeMap;
-use thread_cache::Cache;
+use thread_cache::{Cache, STRUCTURE_SIZE};
 use trace_text::{Call, Line};
-
-/// The chunk of a cache's structure: a request of 640 bytes, glibc's `sizeof (tcache_perthread_struct)`.
-const STRUCTURE_SIZE: Size = Size(656);
-
-const PAGE: u64 = 4096;
 
 /// One thread over main.
 #[derive(Drop)]
@@ -34,14 +28,6 @@ pub struct Process<K: Kernel> {
     ghost end_fits: { ForSome top (λ t. t.addr + t.size < 2 ^ 64) },
     ghost within: { ForSome top (λ t. t.size ≤ system) },
     ghost chunks: { All (λ b. IsChunkSize b.size) (values live) },
-}
-
-/// A number of bytes, rounded up to a page.
-fn page_up(n: u64) -> u64
-    requires { n + 4095 < 2 ^ 64 }
-    ensures { result ≡ page_up_of n }
-{
-    n.div_ceil(PAGE) * PAGE
 }
 
 impl<K: Kernel> Process<K> {

@@ -5,12 +5,11 @@ ghost use Rattle.std.specs.BTreeMap.{values};
 ghost use Rattle.stats_text.specs.Totals.{HasTotals, idle_bytes_of};
 ghost use Rattle.thread_cache.specs.Caches.{addresses_of, blocks_of};
 ghost use Rattle.trace_replay.specs.Processes.{world_of};
-ghost use Rattle.trace_replay.specs.ByIndex.{tile_by_index, tiles_by_index};
 ghost use Rattle.trace_replay.specs.Places.{live_tile, cached_tile, structure_tile, top_tile, tiles_of, placed as placed_in, by_address, cache_lists, main_of, first_dials, shown_of};
 
 use crate::process::Process;
 use address_space::Kernel;
-use chunk_tags::{Addr, NoMemory, Size, Tunables, cached_size};
+use chunk_tags::{Addr, NoMemory, Size, Tunables};
 use stats_text::{ArenaView, CacheView, DialState, Place, Snapshot, TileView};
 use std::alloc::Global;
 use std::collections::BTreeMap;
@@ -48,29 +47,6 @@ fn sorted(alloc: Global, tiles: &[TileView]) -> Result<Vec<TileView>, NoMemory>
     Ok(placed.values().copied().collect(alloc)?)
 }
 
-/// Appends the cached chunks of a list.
-fn append_cached(tiles: &mut Vec<TileView>, index: usize, addrs: &[Addr]) -> Result<(), NoMemory>
-    requires { index < 64 }
-    ensures { OnOk result (tiles.new.items ≡ tiles.old.items ++ map (tile_by_index index) addrs.now) }
-{
-    let size = cached_size(index as u8);
-    for addr in addrs {
-        tiles.push(tile(*addr, size, Place::Cache { thread: 0 }))?;
-    }
-    Ok(())
-}
-
-/// Appends the cached chunks of all lists.
-fn append_all_cached(tiles: &mut Vec<TileView>, lists: &[Vec<Addr>]) -> Result<(), NoMemory>
-    requires { length lists.now ≤ 64 }
-    ensures { OnOk result (tiles.new.items ≡ tiles.old.items ++ tiles_by_index 0 (map (λ v. v.items) lists.now)) }
-{
-    for (index, addrs) in lists.iter().enumerate() {
-        append_cached(tiles, index, addrs.as_slice())?;
-    }
-    Ok(())
-}
-
 /// The lists of a cache for the report.
 fn cache_views(alloc: Global, lists: &[Vec<Addr>]) -> Result<Vec<CacheView>, NoMemory>
     requires { length lists.now ≤ 64 }
@@ -89,12 +65,14 @@ fn cache_views(alloc: Global, lists: &[Vec<Addr>]) -> Result<Vec<CacheView>, NoM
 }
 
 /// Appends the cached chunks.
-#[tactic(auto, using(crate::proofs::CachedTiles::cached_tiles))]
 fn append_cache(alloc: Global, tiles: &mut Vec<TileView>, cache: &Cache) -> Result<(), NoMemory>
     ensures { OnOk result (tiles.new.items ≡ tiles.old.items ++ map cached_tile (blocks_of cache.now)) }
 {
-    let lists = cache.lists(alloc)?;
-    append_all_cached(tiles, lists.as_slice())
+    let cached = cache.tiles(alloc)?;
+    for chunk in &cached {
+        tiles.push(tile(chunk.addr, chunk.size, Place::Cache { thread: 0 }))?;
+    }
+    Ok(())
 }
 
 /// The blocks by name.

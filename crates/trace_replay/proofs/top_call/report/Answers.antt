@@ -18,7 +18,7 @@ returns-in_err-replay-clause-told g c h =
 pub returns-clause-told : goal.returns-clause-told
 returns-clause-told g c h =
     let first : world_of c.new-process.result ≡ started c.args.t.now c.args.kernel = c.new-process.ensures ∙ ap opening_world c.new.ensures in
-    report_served _ _ _ _ _ _ _ _ _ c.in_ok-shown.shown first c.in_ok-text.ensures.items
+    report_served _ _ _ _ _ _ _ _ _ c.in_ok-shown.shown first c.in_ok-text.ensures
     (c.in_ok-replay.ensures.told (subst (λ (w : World _). IsTrue (g.K.Kernel.port.tells w.space.kernel)) (sym first) h))
     (c.in_ok-shown.ensures.shown ∙ ap (λ (empty : Bool). shown_of c.args.t.now (not empty) (world_of c.replay.new.process)) c.is_empty.ensures)
     c.in_ok-append_sections.ensures
