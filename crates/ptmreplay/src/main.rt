@@ -1,28 +1,35 @@
 //! `ptmreplay`: reads a trace of malloc calls from standard input and writes the report to standard output.
 #![tactic(auto)]
 
-ghost use Rattle.std.specs.Prelude.{◌≡◌, ◌≢◌, ℕ, List, Some, length, replicate, vec_len, IfOk, IsOkAnd, IsTrue};
-ghost use Rattle.trace_replay.specs.Headline.{AnswersAs};
-ghost use Rattle.trace_replay.specs.Output.{IsWritten};
-ghost use Rattle.trace_replay.specs.SerialText.{has_word, verdict};
+ghost use Rattle.std.specs.Prelude.{◌≡◌, ℕ, List, Some, replicate, IfOk, IsErr, IsOk};
+ghost use Rattle.trace_replay.specs.Asked.{asked_of};
+ghost use Rattle.trace_replay.specs.Headline.{Answers, IsUnwritten};
+ghost use Rattle.trace_replay.specs.SerialText.{verdict};
 
 mod ending;
 
 use address_space::{Always, Kernel};
+use chunk_tags::NoMemory;
 use ending::{Complaint, exit_code};
-use std::alloc::{AllocError, Global};
-use std::env;
+use std::alloc::Global;
+use std::env::{self, FillError};
 use std::io::{self, ErrorKind};
 use std::process::ExitCode;
 use std::rt::Env;
-use trace_replay::{Exit, Open, Sink, Source, StdSink, StdSource};
+use trace_replay::{Exit, Open, Sink, Source, StdSink, StdSource, THREADS};
 
-/// The threads that a trace can name.
-const THREADS: usize = 64;
+/// The program's name alone, whatever its bytes are.
+fn name_alone(alloc: Global) -> Result<Vec<String>, NoMemory>
+    ensures { IfOk result (λ words. IsOk (asked_of words.items)) }
+{
+    let mut words = Vec::new(alloc);
+    words.push(String::from_str(alloc, "ptmreplay")?)?;
+    Ok(words)
+}
 
 /// What stands for words that are no text: an empty word behind the program's name.
-fn unreadable_words(alloc: Global) -> Result<Vec<String>, AllocError>
-    ensures { IfOk result (λ words. IsTrue (has_word (vec_len words))) }
+fn unreadable_words(alloc: Global) -> Result<Vec<String>, NoMemory>
+    ensures { IfOk result (λ words. IsErr (asked_of words.items)) }
 {
     let mut words = Vec::new(alloc);
     words.push(String::from_str(alloc, "ptmreplay")?)?;
@@ -30,13 +37,26 @@ fn unreadable_words(alloc: Global) -> Result<Vec<String>, AllocError>
     Ok(words)
 }
 
+/// Whether a word stands behind the program's name.
+fn has_word<R: Env>(rt: &R) -> bool {
+    !matches!(rt.arg(1, &mut []), Err(FillError::NotPresent))
+}
+
 /// The words of the command line.
-fn words<R: Env + AllocGlobal>(rt: &R) -> Result<Vec<String>, Exit> {
+fn words<R: Env + AllocGlobal>(rt: &R) -> Result<Vec<String>, NoMemory> {
     match env::args(rt) {
         Ok(args) => Ok(args.collect(rt.alloc())?),
-        Err(error) if error.kind() == ErrorKind::InvalidData => Ok(unreadable_words(rt.alloc())?),
-        Err(_) => Err(Exit::NoMemory),
+        Err(error) if error.kind() != ErrorKind::InvalidData => Err(NoMemory),
+        Err(_) if has_word(rt) => unreadable_words(rt.alloc()),
+        Err(_) => name_alone(rt.alloc()),
     }
+}
+
+/// A port for each thread, which grants each ask.
+fn ports(alloc: Global) -> Result<Vec<Always>, NoMemory>
+    ensures { IfOk result (λ ports. ports.items ≡ replicate 64 (record {})) }
+{
+    Ok(vec![in alloc; Always; THREADS as usize]?)
 }
 
 /// Runs over ports that grant each ask.
@@ -47,23 +67,22 @@ fn replay_over<S: Source, W: Sink>(
     sink: &mut W,
 ) -> Exit
     // What is written and what is refused is what the rules give over these ports.
-    ensures done { result ≡ Exit.Done → (bytes : List ℕ) → S.left source.old ≡ Some bytes
-        → IsOkAnd (verdict ⟦<Always as Kernel>⟧.port (replicate 64 (record {})) (length words.now) bytes) (λ text. IsWritten W.written W.faults sink.old text sink.new) }
-    ensures exact { (bytes : List ℕ) → S.left source.old ≡ Some bytes
-        → AnswersAs (verdict ⟦<Always as Kernel>⟧.port (replicate 64 (record {})) (length words.now) bytes) result }
+    ensures told { (bytes : List ℕ) → S.supply.left source.old ≡ Some bytes →
+        Answers (verdict ⟦<Always as Kernel>⟧.port (replicate 64 (record {})) (asked_of words.now) bytes)
+        W.store sink.old result sink.new }
 
     // Nothing is written where a word stands behind the program's name.
-    ensures word { IsTrue (has_word (length words.now)) → (result ≢ Exit.Done) × (result ≢ Exit.WriteFault) }
+    ensures word { IsErr (asked_of words.now) → IsUnwritten result }
 {
-    let Ok(kernels) = vec![in alloc; Always; THREADS] else {
-        return Exit::NoMemory;
-    };
-    trace_replay::run(alloc, words, source, sink, kernels, &Open)
+    match ports(alloc) {
+        Ok(ports) => trace_replay::run(alloc, words, source, sink, ports, &Open),
+        Err(NoMemory) => Exit::NoMemory,
+    }
 }
 
 /// Runs over standard input and output.
 fn replay<R: Input + Print + AllocGlobal>(rt: &R, words: &[String]) -> Exit
-    ensures { IsTrue (has_word (length words.now)) → (result ≢ Exit.Done) × (result ≢ Exit.WriteFault) }
+    ensures { IsErr (asked_of words.now) → IsUnwritten result }
 {
     let mut source = StdSource::new(rt.reader());
     let mut sink = StdSink::new(io::writer(rt));
@@ -73,7 +92,7 @@ fn replay<R: Input + Print + AllocGlobal>(rt: &R, words: &[String]) -> Exit
 fn main(rt: HostRuntime) -> ExitCode {
     let exit = match words(&rt) {
         Ok(words) => replay(&rt, words.as_slice()),
-        Err(exit) => exit,
+        Err(short) => Exit::from(short),
     };
     if exit != Exit::Done {
         let _ = rt.eprintln(Complaint(exit));
