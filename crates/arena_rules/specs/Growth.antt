@@ -1,0 +1,174 @@
+-- An arena asks the system for more: glibc 2.31 malloc/malloc.c, sysmalloc, and malloc/arena.c, new_heap and grow_heap.
+-- How an old top is closed, and what is gone through once more, is this project's own.
+use Rattle.std.specs.Prelude.{ℕ, ◌+◌, ◌-◌, suc, zero, max, Bool, true, false, nat_eq, nat_lt, nat_le, List, [], ◌∷◌, Option, Some, None, if◌then◌else◌}
+use Rattle.chunk_tags.specs.declared.tiles.Chunk.{Chunk}
+use Rattle.chunk_tags.specs.Pages.{page_up_of, mapping_length}
+use Rattle.chunk_tags.specs.Tiles.{top_of}
+use Rattle.chunk_tags.specs.Dials.{MmapThreshold, MappedCount}
+use Rattle.chunk_tags.specs.declared.tunables.Tunables.{Tunables}
+use Rattle.address_space.specs.declared.asks.Ask.TheVariants as asks
+use Rattle.arena_rules.specs.PlainArena.{Plain, is_main}
+use Rattle.arena_rules.specs.Moves.{top_size, top_start, top_end, with_top_size, with_moved_top, left_of_top, cut_from_top}
+use Rattle.arena_rules.specs.Rules.{Rules, Stop, Does, Needs, Counts, Maps, behind, asks_for, reads, flag_of, place_told}
+use Rattle.arena_rules.specs.Trim.{heap_start, heap_index, heap_length}
+use Rattle.arena_rules.specs.Release.{released}
+
+-- what was found: a chunk of the arena, a mapped chunk, or nothing
+pub data Found : Type 0 where
+  InArena : Chunk → Found
+  InMapping : Chunk → Found
+  Nowhere : Found
+
+pub record Took : Type 0 where
+  pub found : Found
+  pub arena : Plain
+
+-- What is left of a closed top is released.
+abbrev pub closing : Tunables → Option Chunk → Plain → Rules Plain
+closing t None a = Stop a
+closing t (Some c) a = released t a c
+
+-- whether top can give nb bytes and keep the smallest chunk
+abbrev pub has_top_for : Plain → ℕ → Bool
+has_top_for a nb = nat_le (nb + 32) (top_size a)
+
+-- The main arena.
+
+-- the part of a growth that main's top gives, while main is contiguous
+abbrev pub top_part : Plain → ℕ
+top_part a = if a.contiguous then top_size a else 0
+
+-- by how much the break grows
+abbrev pub main_growth : Tunables → Plain → ℕ → ℕ
+main_growth t a nb = page_up_of (nb + t.top_pad + 32 - top_part a)
+
+-- the length of a piece, where the break was refused (MMAP_AS_MORECORE_SIZE at least)
+abbrev pub piece_length : Tunables → Plain → ℕ → ℕ
+piece_length t a nb = max (page_up_of (main_growth t a nb + top_part a)) 1048576
+
+abbrev pub with_break : Plain → ℕ → Plain
+with_break a growth = record a { break_at = a.break_at + growth; system = a.system + growth }
+
+abbrev pub with_piece : Plain → ℕ → Plain
+with_piece a len = record a { contiguous = false; next_piece = a.next_piece + len; system = a.system + len }
+
+-- The break was granted. Where top ends at it, top grows; where there is no top, the new range is it; else top moves to
+-- it, and the old one is closed.
+abbrev pub is_top_at_break : Plain → Bool
+is_top_at_break a = nat_eq (top_end a) a.break_at
+
+abbrev pub break_taken : Plain → ℕ → Plain
+break_taken a growth =
+    if is_top_at_break a
+    then with_top_size (with_break a growth) (top_size a + growth)
+    else with_moved_top (with_break a growth) a.break_at growth
+
+-- what is then to be released
+abbrev pub break_rest : Plain → Option Chunk
+break_rest a = if is_top_at_break a then None else left_of_top a
+
+-- A piece was granted: it is top, and the old one is closed.
+abbrev pub piece_taken : Plain → ℕ → Plain
+piece_taken a len = with_moved_top (with_piece a len) a.next_piece len
+
+-- Where the break is refused a piece is asked for.
+abbrev pub piece_grown : Tunables → ℕ → Plain → Rules Plain
+piece_grown t nb a =
+    let len = piece_length t a nb in
+    asks_for a (asks.Piece a.next_piece len) (λ granted.
+    if granted then closing t (left_of_top a) (piece_taken a len) else Stop a)
+
+-- The break is asked for. Where closing an old top trimmed so much of the new one that it doesn't suffice, all of this
+-- is gone through once more.
+abbrev pub main_grown : ℕ → Tunables → ℕ → Plain → Rules Plain
+main_grown zero t nb a = Stop a
+main_grown (suc n) t nb a =
+    let growth = main_growth t a nb in
+    asks_for a (asks.Break a.break_at (a.break_at + growth)) (λ granted.
+    if granted
+    then behind (closing t (break_rest a) (break_taken a growth)) (λ b.
+    if has_top_for b nb then Stop b else main_grown n t nb b)
+    else piece_grown t nb a)
+
+-- Another arena.
+
+-- the first length of a heap, for a need
+abbrev pub first_length : Tunables → ℕ → ℕ
+first_length t need = page_up_of (
+    if nat_lt (need + t.top_pad) 32768 then 32768
+    else (if nat_le (need + t.top_pad) t.heap_max then need + t.top_pad
+    else (if nat_le need t.heap_max then t.heap_max else need)))
+
+-- the heap that top is in
+abbrev pub last_heap : Tunables → Plain → ℕ
+last_heap t a = elim (top_of a.tiles) [ None ↦ 0 | Some top ↦ heap_index t a.number top.addr ]
+
+abbrev pub last_length : Tunables → Plain → ℕ
+last_length t a = elim (top_of a.tiles) [ None ↦ 0 | Some top ↦ heap_length t a.number top ]
+
+-- Where the last heap can't be extended a new one is asked for; behind its header, of 32 bytes, the rest is top.
+abbrev pub heap_added : Tunables → ℕ → Plain → Rules Took → (Plain → Rules Took) → Rules Took
+heap_added t nb a refused go =
+    let heap = last_heap t a + 1 in
+    let len = first_length t (nb + 64) in
+    asks_for a (asks.NewHeap a.number heap len) (λ granted.
+    if granted
+    then behind (closing t (left_of_top a)
+    (with_moved_top (record a { system = a.system + len }) (heap_start t a.number heap + 32) (len - 32))) go
+    else refused)
+
+-- The last heap is extended so far that top suffices; else a heap is added.
+abbrev pub heaps_grown : Tunables → ℕ → Plain → Rules Took → (Plain → Rules Took) → Rules Took
+heaps_grown t nb a refused go =
+    let growth = page_up_of (nb + 32 - top_size a) in
+    let len = last_length t a in
+    asks_for a (asks.GrowHeap a.number (last_heap t a) len (len + growth)) (λ granted.
+    if granted
+    then go (with_top_size (record a { system = a.system + growth }) (top_size a + growth))
+    else heap_added t nb a refused go)
+
+-- All arenas.
+
+-- the most bytes that there were, raised to those that there are
+abbrev pub noted : Plain → Plain
+noted a = record a { most = max a.most a.system }
+
+-- a chunk of nb bytes from top, where that suffices
+abbrev pub from_top : ℕ → Plain → Took
+from_top nb a =
+    if has_top_for a nb
+    then record { found = InArena (record { at = top_start a; size = nb }); arena = cut_from_top a nb }
+    else record { found = Nowhere; arena = a }
+
+-- A mapping is asked for. Where it is granted it is counted.
+abbrev pub mapping : ℕ → Plain → Rules (Option Chunk)
+mapping nb a =
+    let len = mapping_length nb in
+    Needs a (Maps len) (λ s.
+    if flag_of s then Does (Counts len) (Stop (Some (record { at = place_told s; size = len }))) else Stop None)
+
+-- where it is granted it is the answer
+abbrev pub maps_else : ℕ → Plain → Rules Took → Rules Took
+maps_else nb a refused = behind (mapping nb a) (λ mapped. elim mapped [
+  | Some c ↦ Stop (record { found = InMapping c; arena = a })
+  | None ↦ refused
+])
+
+-- the arena grows, and a chunk is cut from its top
+abbrev pub grown : Tunables → ℕ → Bool → Plain → Rules Took
+grown t nb tried a =
+    let finish = λ (b : Plain). Stop (from_top nb (noted b)) in
+    if is_main a then behind (main_grown 2 t nb a) finish
+    else heaps_grown t nb a
+    (if tried then finish a else maps_else nb a (heaps_grown t nb a (finish a) finish))
+    finish
+
+-- whether a mapping is asked for first: the size reaches the threshold, and there aren't too many
+abbrev pub maps_first : Tunables → ℕ → Plain → Rules Bool
+maps_first t nb a =
+    reads a MmapThreshold (λ threshold.
+    if nat_le threshold nb then reads a MappedCount (λ count. Stop (nat_lt count t.mmaps_max)) else Stop false)
+
+-- The system is asked: for a mapping first, where that is so; else, and where that is refused, the arena grows.
+abbrev pub system_asked : Tunables → ℕ → Plain → Rules Took
+system_asked t nb a = behind (maps_first t nb a) (λ first. if first then maps_else nb a (grown t nb true a) else grown t nb false a)

@@ -1,0 +1,14 @@
+pub use Rattle.chunk_tags.specs.BinOrder
+pub use Rattle.chunk_tags.specs.Pages
+pub use Rattle.chunk_tags.specs.Sizes
+pub use Rattle.chunk_tags.specs.Tiles
+pub mod MainPlaces
+pub mod PlainArena
+pub mod Moves
+pub mod Rules
+pub mod Walks
+pub mod Trim
+pub mod Release
+pub mod Growth
+pub mod Examples
+pub mod Search

@@ -1,0 +1,12 @@
+//! The rules of one arena, as definitions and laws: what an arena consists of (`PlainArena`), the moves of which every
+//! rule is made (`Moves`), and the rules of a hold as a tree over the answers that it is told (`Rules`, `Release`,
+//! `Growth`, `Search`). The crates above keep their contracts by them.
+#![tactic(auto)]
+
+#[cfg(test)]
+mod examples;
+mod moves;
+mod said;
+
+pub use moves::Moves;
+pub use said::Said;
