@@ -1,0 +1,76 @@
+//! Chunks in mappings of their own.
+
+ghost use Rattle.std.specs.Prelude.{◌≡◌, false, IfSome};
+ghost use Rattle.chunk_tags.specs.Pages.{mapping_length};
+ghost use Rattle.chunk_tags.specs.Sizes.{IsRequestSize};
+ghost use Rattle.address_space.specs.Spaces.{map_passes};
+ghost use Rattle.mapped_chunks.specs.DialPorts.{Maps, Unmaps};
+ghost use Rattle.mapped_chunks.specs.Mappings.{mapping_bytes, IsMapped, MapsChunk, UnmapsChunk, FreesChunk, IsSteady};
+
+use crate::port::Dials;
+use address_space::{Back, Kernel, Space};
+use chunk_tags::{Addr, Block, Size, page_up};
+
+/// The largest size word, with the bit for a mapped chunk, to which freeing raises the thresholds: glibc's
+/// `DEFAULT_MMAP_THRESHOLD_MAX`.
+const LARGEST_THRESHOLD: u64 = 33_554_432;
+
+/// The bit that the size word of a mapped chunk has: glibc's `IS_MMAPPED`.
+const MAPPED_BIT: u64 = 2;
+
+/// Asks for a mapping for a chunk of at least `nb` bytes, and counts it (in glibc's `sysmalloc`). `None` exactly where the
+/// ask was refused.
+pub fn map<K: Kernel, D: Dials>(nb: Size, space: &mut Space<K>, dials: &mut D) -> Option<Block>
+    requires size { IsRequestSize nb }
+    requires counted { map_passes space.old (mapping_length nb) ≡ false
+        → D.dials.allows dials.old (Maps (mapping_length nb)) }
+    ensures maps { MapsChunk K.port D.dials (space.old, dials.old) (mapping_length nb) result
+        (space.new, dials.new) }
+    ensures mapped { IfSome result IsMapped }
+{
+    let len = page_up(nb.0 + 8);
+    let at = space.map(len)?;
+    dials.note_map(len);
+    Some(Block {
+        addr: Addr(at),
+        size: Size(len),
+        lead: 0,
+        arena: None,
+    })
+}
+
+/// Gives a mapped chunk's mapping back, and counts it no more (glibc's `munmap_chunk`).
+pub fn unmap<K: Kernel, D: Dials>(b: Block, space: &mut Space<K>, dials: &mut D)
+    requires mapped { IsMapped b }
+    requires counted { D.dials.allows dials.old (Unmaps (mapping_bytes b)) }
+    ensures { UnmapsChunk K.port D.dials (space.old, dials.old) b (space.new, dials.new) }
+{
+    let len = b.lead + b.size.0;
+    space.back(Back::Unmap {
+        addr: b.addr.0 - b.lead,
+        len,
+    });
+    dials.note_unmap(len);
+}
+
+/// Frees a mapped chunk. Where the thresholds are dynamic and the chunk is above the mmap threshold, but not above the
+/// largest, they are raised to its size and to twice that first (in glibc's `__libc_free`).
+pub fn unmap_freed<K: Kernel, D: Dials>(
+    b: Block,
+    dynamic: bool,
+    space: &mut Space<K>,
+    dials: &mut D,
+)
+    requires steady { IsSteady D.dials }
+    requires mapped { IsMapped b }
+    requires counted { D.dials.allows dials.old (Unmaps (mapping_bytes b)) }
+    ensures { FreesChunk K.port D.dials (space.old, dials.old) dynamic b (space.new, dials.new) }
+{
+    if dynamic {
+        let word = b.size.0 + MAPPED_BIT;
+        if word > dials.mmap_threshold() && word <= LARGEST_THRESHOLD {
+            dials.raise(b.size.0);
+        }
+    }
+    unmap(b, space, dials);
+}
