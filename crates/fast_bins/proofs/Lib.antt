@@ -1,0 +1,3 @@
+pub mod Reversed
+pub mod PlainSteps
+pub mod Reserving

@@ -1,0 +1,45 @@
+-- Room is made in one bin after another.
+use Rattle.std.proofs.Common.{◌≡◌, ℕ, ◌+◌, ◌≤◌, ◌<◌, IsTrue, List, set, get_or, length, sym, ap, ◌∙◌, subst, inl, inr, arith}
+use Rattle.std.proofs.lemmas.Bool.{cases_eq}
+use Rattle.std.proofs.lemmas.Bool.Decides.{nat_tests}
+use Rattle.std.proofs.lemmas.List.{get_or_default, get_or-set_same, get_or-set_other}
+use Rattle.std.proofs.Math.Seq.{map-set_same}
+use Rattle.fast_bins.specs.PlainBins.{RoomyBin, no_bin, listed, has_room, Roomier, HaveRoom}
+
+-- the bin at an index has more room
+pub record Gains (bins : List RoomyBin) (i : ℕ) (b' : RoomyBin) : Type 0 where
+  pub below : i < length bins
+  pub bin : b'.bin ≡ (get_or bins i no_bin).bin
+  pub more : (get_or bins i no_bin).room ≤ b'.room
+
+pub gains : (bins : List RoomyBin) (i : ℕ) (d b' : RoomyBin) → i < length bins → b'.bin ≡ (get_or bins i d).bin → (get_or bins i d).room ≤ b'.room → Gains bins i b'
+gains bins i d b' below bin more =
+    let same : get_or bins i d ≡ get_or bins i no_bin = get_or_default bins i d no_bin below in
+    record {
+      below = below;
+      bin = subst (λ (x : RoomyBin). b'.bin ≡ x.bin) same bin;
+      more = subst (λ (x : RoomyBin). x.room ≤ b'.room) same more;
+    }
+
+more_room : (b b' : RoomyBin) → b'.bin ≡ b.bin → b.room ≤ b'.room → IsTrue (has_room b) → IsTrue (has_room b')
+more_room b b' e more h =
+    let same : length (listed b'.bin) ≡ length (listed b.bin) = ap (λ x. length (listed x)) e in
+    grind (arith, nat_tests)
+
+pub roomier_more : (old bins : List RoomyBin) (i : ℕ) (b' : RoomyBin) → Roomier old bins → Gains bins i b' → Roomier old (set bins i b')
+roomier_more old bins i b' so_far g = record {
+  bins = map-set_same (λ x. x.bin) bins i b' no_bin g.bin ∙ so_far.bins;
+  room = λ k h. elim (cases_eq k i) [
+    | inl e ↦ subst (λ n. IsTrue (has_room (get_or (set bins i b') n no_bin))) (sym e)
+        (subst (λ x. IsTrue (has_room x)) (sym (get_or-set_same bins i b' no_bin g.below))
+        (more_room (get_or bins i no_bin) b' g.bin g.more (subst (λ n. IsTrue (has_room (get_or bins n no_bin))) e (so_far.room k h))))
+    | inr ne ↦ subst (λ x. IsTrue (has_room x)) (sym (get_or-set_other bins i k b' no_bin ne)) (so_far.room k h)
+  ];
+}
+
+pub room_more : (bins : List RoomyBin) (i : ℕ) (b' : RoomyBin) → HaveRoom i bins → i < length bins → IsTrue (has_room b') → HaveRoom (i + 1) (set bins i b')
+room_more bins i b' so_far below room k h = elim (cases_eq k i) [
+  | inl e ↦ subst (λ n. IsTrue (has_room (get_or (set bins i b') n no_bin))) (sym e)
+      (subst (λ x. IsTrue (has_room x)) (sym (get_or-set_same bins i b' no_bin below)) room)
+  | inr ne ↦ subst (λ x. IsTrue (has_room x)) (sym (get_or-set_other bins i k b' no_bin ne)) (so_far k (omega arith))
+]

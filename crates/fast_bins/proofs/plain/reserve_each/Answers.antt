@@ -1,0 +1,17 @@
+use Rattle.std.proofs.Common.{arith}
+use Rattle.fast_bins.proofs.Reserving.{roomier_more, room_more, gains}
+use Rattle.fast_bins.proofs.plain.reserve_each.Goals as goal
+
+pub returns-in_err-make_room-clause-roomier : goal.returns-in_err-make_room-clause-roomier
+returns-in_err-make_room-clause-roomier c =
+    let b = c.make_room.new.self in
+    roomier_more c.args.bins.now c.loop-b.bins c.loop-b.b-index b c.loop-b.invariant.0
+    (gains c.loop-b.bins c.loop-b.b-index c.b-item.result b (omega arith) c.make_room.ensures.bin c.make_room.ensures.more)
+
+pub loop-b-preserved : goal.loop-b-preserved
+loop-b-preserved c =
+    let b = c.make_room.new.self in (
+      roomier_more c.args.bins.now c.loop-b.bins c.loop-b.b-index b c.loop-b.invariant.0
+          (gains c.loop-b.bins c.loop-b.b-index c.b-item.result b (omega arith) c.make_room.ensures.bin c.make_room.ensures.more),
+      room_more c.loop-b.bins c.loop-b.b-index b c.loop-b.invariant.1 (omega arith) c.in_ok-make_room.ensures.room,
+    )

@@ -1,0 +1,3 @@
+pub use Rattle.chunk_tags.specs.BinOrder
+pub mod FastPorts
+pub mod PlainBins

@@ -1,0 +1,12 @@
+//! The fast bins of an arena: what a port to them promises, and the ten bins for one order of calls.
+#![tactic(auto)]
+
+mod plain;
+mod port;
+mod stack;
+
+pub use plain::PlainFast;
+pub use port::FastPort;
+
+#[cfg(test)]
+mod tests;
