@@ -1,0 +1,8 @@
+pub mod Merges
+pub mod Fewer
+pub mod Emptying
+pub mod Lifts
+pub mod Carried
+pub mod Trims
+pub mod HoldSteps
+pub mod Allowing

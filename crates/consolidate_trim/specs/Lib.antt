@@ -1,0 +1,9 @@
+pub use Rattle.arena_rules.specs.PlainArena
+pub use Rattle.arena_rules.specs.Release
+pub use Rattle.arena_rules.specs.Rules
+pub use Rattle.arena_rules.specs.Trim
+pub mod Outside
+pub mod Holds
+pub mod FastHolds
+pub mod Merges
+pub mod Trims
