@@ -1,0 +1,6 @@
+pub use Rattle.chunk_tags.specs.Tiles
+pub use Rattle.part_words.specs.Extents
+pub use Rattle.chunk_image.specs.Rows
+pub use Rattle.arena_rules.specs.PlainArena
+pub mod Regions
+pub mod MainRanges

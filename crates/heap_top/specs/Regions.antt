@@ -1,0 +1,52 @@
+-- An arena as its regions, its tiles and its bins together make it (this project's own; glibc 2.31 malloc/malloc.c
+-- keeps the numbers of regions in malloc_state and mp_).
+use Rattle.std.specs.Prelude.{◌≡◌, ℕ, ◌-◌, nat_lt, List, [], Option, Some, None, if◌then◌else◌}
+use Rattle.chunk_tags.specs.declared.tiles.Chunk.{Chunk}
+use Rattle.chunk_tags.specs.Tiles.{Row, swapped, tile_at, top_of}
+use Rattle.chunk_tags.specs.declared.tiles.Tile.{Tile}
+use Rattle.chunk_tags.specs.declared.tiles.TileKind.TheVariants.{Top}
+use Rattle.arena_rules.specs.PlainArena.{Plain}
+use Rattle.arena_rules.specs.Moves.{tile_of, closed_top}
+use Rattle.heap_top.specs.declared.regions.Regions.{Regions}
+
+-- the arena of these regions, tiles, bins and last remainder
+abbrev pub arena_of : Regions → List Tile → List (List Chunk) → Option ℕ → Plain
+arena_of r tiles bins last = record {
+  number = r.number;
+  tiles = tiles;
+  bins = bins;
+  last = last;
+  contiguous = r.contiguous;
+  break_at = r.break_at;
+  next_piece = r.next_piece;
+  system = r.system;
+  most = r.most;
+}
+
+-- the same, seen without its bins
+abbrev pub bare_arena : Regions → List Tile → Plain
+bare_arena r tiles = arena_of r tiles [] None
+
+abbrev pub address_of : Option Tile → Option ℕ
+address_of None = None
+address_of (Some t) = Some t.addr
+
+-- the tiles with top closed, where there is one
+abbrev pub closed_tiles : List Tile → List Tile
+closed_tiles ts = elim (top_of ts) [ None ↦ ts | Some t ↦ swapped t.addr (closed_top t) ts ]
+
+-- the used chunk that a tile leaves where it is closed
+abbrev pub left_of_closed : Tile → Option Chunk
+left_of_closed t = if nat_lt t.size 64 then None else Some (record { at = t.addr; size = t.size - 32 })
+
+-- tiles in a row, of which the one at this address is top
+pub record KnowsTop (top : Option ℕ) (ts : List Tile) : Type 0 where
+  pub row : Row ts
+  pub is : address_of (top_of ts) ≡ top
+
+-- a tile that is top stands at this address
+pub record HasTop (top : Option ℕ) (ts : List Tile) : Type 0 where
+  pub at : ℕ
+  pub size : ℕ
+  pub known : top ≡ Some at
+  pub stands : tile_at at ts ≡ Some (tile_of Top at size)

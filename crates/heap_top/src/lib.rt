@@ -1,0 +1,7 @@
+//! The regions of an arena: where top is, how far main's break and its pieces reach, and the bytes from the system.
+//! Each call is the move of a plain arena in constant time, whatever its bins are.
+#![tactic(auto)]
+
+mod regions;
+
+pub use regions::Regions;
