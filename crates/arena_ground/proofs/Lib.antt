@@ -1,0 +1,9 @@
+pub mod Bridges
+pub mod Joining
+pub mod Keeping
+pub mod Moving
+pub mod Opened
+pub mod Reading
+pub mod Scenes
+pub mod Sorting
+pub mod Topping

@@ -1,0 +1,22 @@
+use Rattle.std.proofs.Common.{ap, ◌∙◌}
+use Rattle.arena_rules.specs.Growth.{piece_taken}
+use Rattle.arena_ground.specs.Grounds.{GroundView, bins_at}
+use Rattle.arena_ground.proofs.Keeping.{held}
+use Rattle.arena_ground.proofs.Topping.{piece_done, bare_filled}
+use Rattle.arena_ground.proofs.ground.GroundMoves.take_piece.Goals as goal
+
+pub take_piece-requires-clause-main : goal.take_piece-requires-clause-main
+take_piece-requires-clause-main c = bare_filled _ _ _ _ c.self.invariant
+
+pub invariant_of-self : goal.invariant_of-self
+invariant_of-self c =
+    let g = held _ _ _ _ _ c.self.invariant c.self.view_is c.requires.sound in
+    (piece_done _ _ _ _ _ _ c.args.len g (rw (← c.self.view_is) at c.requires.room)
+    (record { arena = c.take_piece.ensures.arena (bins_at c.self.inside.tiles.tiles c.self.inside.links.lists) c.self.inside.last; top = c.take_piece.ensures.top; extent = c.take_piece.ensures.extent })).kept
+
+pub returns-clause-arena : goal.returns-clause-arena
+returns-clause-arena c =
+    let g = held _ _ _ _ _ c.self.invariant c.self.view_is c.requires.sound in
+    (piece_done _ _ _ _ _ _ c.args.len g (rw (← c.self.view_is) at c.requires.room)
+    (record { arena = c.take_piece.ensures.arena (bins_at c.self.inside.tiles.tiles c.self.inside.links.lists) c.self.inside.last; top = c.take_piece.ensures.top; extent = c.take_piece.ensures.extent })).is
+    ∙ ap (λ (v : GroundView). piece_taken v.arena c.args.len) c.self.view_is

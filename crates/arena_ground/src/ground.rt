@@ -1,0 +1,257 @@
+//! An arena in its words.
+
+ghost use Rattle.std.specs.Prelude.{◌≡◌, ℕ, ◌≤◌, ◌+◌, map, ◌<◌, IfOk, OnOk};
+ghost use Rattle.chunk_tags.specs.Tunables.{main_limit};
+ghost use Rattle.address_space.specs.Spaces.{main_start, piece_start};
+ghost use Rattle.part_words.specs.Extents.{AreOpen, IsWithinPart};
+ghost use Rattle.arena_rules.specs.PlainArena.{bin_at, empty_main};
+ghost use Rattle.chunk_tags.specs.declared.tiles.Chunk.{Chunk as Piece};
+ghost use Rattle.heap_top.specs.MainRanges.{IsMainFilled, IsNewRange};
+
+use crate::steps::{
+    UNSORTED, addresses, best, bin_of, claim, first_oldest_from, is_free, is_top, join, oldest_in,
+    part, shelve, sort_in,
+};
+use address_space::{MAIN_START, PIECE_START};
+use arena_rules::Moves;
+use bin_links::LinkWords;
+use chunk_image::TileWords;
+use chunk_tags::{Addr, Chunk, NoMemory, Size, Tile, TileKind, small_index};
+use heap_top::Regions;
+use std::alloc::Global;
+use std::marker::Model;
+
+/// One arena: the words that say where its tiles are and which bins its free chunks are in, and the numbers of its
+/// regions. It is main now.
+#[derive(Drop)]
+pub struct Ground {
+    tiles: TileWords,
+    links: LinkWords,
+    regions: Regions,
+    /// The last remainder.
+    last: Option<Addr>,
+    alloc: Global,
+}
+
+impl Model for Ground {
+    ghost use Rattle.arena_ground.specs.Grounds.{GroundView};
+
+    ghost Value = { GroundView };
+
+    ghost use Rattle.arena_ground.specs.Grounds.{view_of, IsGround};
+
+    ghost view = { λ g. view_of g.regions g.tiles g.links g.last };
+
+    ghost invariant = { λ g. IsGround g.regions g.tiles g.links g.last };
+}
+
+impl Ground {
+    /// Main before its first growth.
+    pub fn main(alloc: Global) -> Result<Ground, NoMemory>
+        ensures { IfOk result (λ g. g.arena ≡ empty_main) }
+    {
+        let stride = PIECE_START - MAIN_START;
+        let links = LinkWords::new(alloc, MAIN_START, stride)?;
+        Ok(Ground {
+            tiles: TileWords::new(alloc, Addr(MAIN_START), stride),
+            links,
+            regions: Regions::main(),
+            last: None,
+            alloc,
+        })
+    }
+
+    /// All tiles, by address.
+    pub fn tiles(&self, alloc: Global) -> Result<Vec<Tile>, NoMemory>
+        ensures { IfOk result (λ v. v.items ≡ self.now.arena.tiles) }
+    {
+        self.tiles.tiles(alloc)
+    }
+
+    /// The addresses of the chunks of a bin, its front first.
+    pub fn bin(&self, alloc: Global, index: u8) -> Result<Vec<Addr>, NoMemory>
+        requires { index < 127 }
+        ensures { IfOk result (λ v.
+            v.items ≡ map (λ (c : Piece). c.at) (bin_at self.now.arena index)) }
+    {
+        addresses(&self.links, alloc, index)
+    }
+
+    /// The bytes from the system (glibc's `system_mem`).
+    pub fn system(&self) -> u64
+        ensures { result ≡ self.now.arena.system }
+    {
+        self.regions.system
+    }
+
+    /// The most of these that there were (glibc's `max_system_mem`).
+    pub fn most(&self) -> u64
+        ensures { result ≡ self.now.arena.most }
+    {
+        self.regions.most
+    }
+
+    /// A law; the call does nothing. The tiles of main fill its break and its pieces.
+    pub fn laws(&self)
+        ensures number { self.now.arena.number ≡ 0 }
+        ensures filled { IsMainFilled self.now.arena }
+    {
+        let _ = &self.tiles;
+    }
+
+    /// Opens the words of a range: those of links first, so that each tile's address has one.
+    fn open(&mut self, at: u64, len: u64) -> Result<(), NoMemory>
+        requires { IsWithinPart self.old.extent at len }
+        ensures room { OnOk result (AreOpen self.new.extent at len) }
+        ensures arena { self.new.arena ≡ self.old.arena }
+    {
+        self.links.open(self.alloc, Addr(at), len)?;
+        self.tiles.open(self.alloc, Addr(at), len)
+    }
+}
+
+impl Moves for Ground {
+    ghost plain = { λ g. g.arena };
+
+    ghost break_room = { λ g growth. IsNewRange g.extent g.arena.break_at growth (main_start + main_limit) };
+
+    ghost piece_room = { λ g len. IsNewRange g.extent g.arena.next_piece len (piece_start + main_limit) };
+
+    fn number(&self) -> u8 {
+        self.regions.number
+    }
+
+    fn join_before(&mut self, c: Chunk) -> Chunk {
+        let Chunk { at, size } = c;
+        match self.tiles.free_before(at) {
+            None => Chunk { at, size },
+            Some(t) => {
+                let chunk = Tile {
+                    addr: at,
+                    size,
+                    kind: TileKind::Used,
+                };
+                join(&mut self.tiles, &mut self.links, &t, &chunk, t.addr)
+            }
+        }
+    }
+
+    fn join_behind(&mut self, c: Chunk) -> Chunk {
+        let Chunk { at, size } = c;
+        let chunk = Tile {
+            addr: at,
+            size,
+            kind: TileKind::Used,
+        };
+        let u = self.tiles.behind(&chunk);
+        if is_free(&u) {
+            join(&mut self.tiles, &mut self.links, &chunk, &u, u.addr)
+        } else {
+            Chunk { at, size }
+        }
+    }
+
+    fn is_before_top(&self, c: Chunk) -> bool {
+        let Chunk { at, size } = c;
+        let chunk = Tile {
+            addr: at,
+            size,
+            kind: TileKind::Used,
+        };
+        is_top(&self.tiles.behind(&chunk))
+    }
+
+    fn absorb(&mut self, c: Chunk) -> Size {
+        self.regions.absorb(&mut self.tiles, c)
+    }
+
+    fn shelve(&mut self, c: Chunk) {
+        shelve(&mut self.tiles, &mut self.links, c);
+    }
+
+    fn claim(&mut self, c: Chunk) {
+        claim(&mut self.tiles, &mut self.links, c);
+    }
+
+    fn part(&mut self, c: Chunk, nb: Size) -> Chunk {
+        part(&mut self.tiles, c, nb)
+    }
+
+    fn sort_in(&mut self, c: Chunk) {
+        sort_in(&self.tiles, &mut self.links, c);
+    }
+
+    fn oldest_unsorted(&self) -> Option<Chunk> {
+        oldest_in(&self.tiles, &self.links, UNSORTED)
+    }
+
+    fn has_one_unsorted(&self) -> bool {
+        self.links.is_only(UNSORTED)
+    }
+
+    fn last_remainder(&self) -> Option<Addr> {
+        self.last
+    }
+
+    fn set_last_remainder(&mut self, at: Addr) {
+        self.last = Some(at);
+    }
+
+    fn oldest_small(&self, nb: Size) -> Option<Chunk> {
+        oldest_in(&self.tiles, &self.links, small_index(nb))
+    }
+
+    fn best(&self, nb: Size) -> Option<Chunk> {
+        best(&self.tiles, &self.links, nb)
+    }
+
+    fn first_larger(&mut self, nb: Size) -> Option<Chunk> {
+        first_oldest_from(&self.tiles, &self.links, bin_of(nb) + 1)
+    }
+
+    fn top(&self) -> Option<Tile> {
+        self.regions.top(&self.tiles)
+    }
+
+    fn cut_top(&mut self, nb: Size) -> Addr {
+        self.regions.cut_top(&mut self.tiles, nb)
+    }
+
+    fn is_contiguous(&self) -> bool {
+        self.regions.contiguous
+    }
+
+    fn break_at(&self) -> u64 {
+        self.regions.break_at
+    }
+
+    fn next_piece(&self) -> u64 {
+        self.regions.next_piece
+    }
+
+    fn make_break_room(&mut self, growth: u64) -> Result<(), NoMemory> {
+        let at = self.regions.break_at;
+        self.open(at, growth)
+    }
+
+    fn take_break(&mut self, growth: u64) -> Option<Chunk> {
+        self.regions.take_break(&mut self.tiles, growth)
+    }
+
+    fn make_piece_room(&mut self, len: u64) -> Result<(), NoMemory> {
+        let at = self.regions.next_piece;
+        self.open(at, len)
+    }
+
+    fn take_piece(&mut self, len: u64) -> Option<Chunk> {
+        self.regions.take_piece(&mut self.tiles, len)
+    }
+
+    fn note_most(&mut self) {
+        self.regions.note_most();
+    }
+
+    fn cut_main(&mut self, bytes: u64) {
+        self.regions.cut_main(&mut self.tiles, bytes);
+    }
+}

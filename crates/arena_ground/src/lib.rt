@@ -1,0 +1,11 @@
+//! One arena kept in words: its tiles by heads and feet, its bins by links, its regions by numbers. A contract sees the
+//! plain arena, and each move of the rules is a call of constant time.
+#![tactic(auto)]
+
+mod ground;
+mod steps;
+
+pub use ground::Ground;
+
+#[cfg(test)]
+mod tests;
