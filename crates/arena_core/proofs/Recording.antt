@@ -1,0 +1,87 @@
+-- Laws of recorded holds, for this crate and those above it: the arena is still what its journal gives.
+use Rattle.std.proofs.Common.{◌≡◌, ℕ, ◌+◌, ◌%◌, ◌^◌, ◌≤◌, Bool, true, false, ◌&&◌, List, [], ◌∷◌, ◌++◌, Option, Some, None, IsTrue, Result, Ok, Err, refl, sym, ap, ◌∙◌, subst, inl, inr, arith}
+use Rattle.std.specs.Prelude.{◌⊎◌, nat_le, nat_eq}
+use Rattle.std.specs.Result.{IsErr}
+use Rattle.std.proofs.lemmas.Bool.Decides.{nat_tests}
+use Rattle.chunk_tags.specs.Sizes.{IsRequestSize}
+use Rattle.chunk_tags.specs.declared.refusals.NoMemory.{NoMemory}
+use Rattle.chunk_tags.specs.declared.tunables.Tunables.{Tunables}
+use Rattle.address_space.specs.declared.space.Space.{Space}
+use Rattle.thread_cache.specs.Caches.{CacheValue}
+use Rattle.arena_rules.specs.declared.said.Said.{Said}
+use Rattle.arena_rules.specs.PlainArena.{Plain}
+use Rattle.arena_rules.specs.Rules.{Rules, Stop, Needs}
+use Rattle.arena_rules.specs.Growth.{Took}
+use Rattle.arena_rules.specs.Release.{given}
+use Rattle.arena_rules.specs.Search.{searched}
+use Rattle.arena_rules.specs.Walks.{Ways, Walks, Reaches}
+use Rattle.arena_rules.proofs.Walks.{ends_as_walked, left_as_walked, reaches_behind, short_behind}
+use Rattle.consolidate_trim.specs.Holds.{Chunks, no_chunk, one_chunk, GivesUp, hold}
+use Rattle.consolidate_trim.specs.Outside.{Means, Outside, ways}
+use Rattle.arena_core.specs.declared.found.Found.{Found}
+use Rattle.arena_core.specs.declared.found.Found.TheVariants as finds
+use Rattle.arena_core.specs.declared.journal.Act.{Act}
+use Rattle.arena_core.specs.declared.journal.Act.TheVariants as acts
+use Rattle.arena_core.specs.declared.journal.Ended.TheVariants.{Done, Short}
+use Rattle.arena_core.specs.declared.journal.Who.{Who}
+use Rattle.arena_core.specs.declared.take.Take.{Take}
+use Rattle.arena_core.specs.Arenas.{Held, Records, RecordsShort, Takes, FailsShort, recorded, take_of}
+use Rattle.arena_core.specs.Asking.{Finds, found_of, beside_arena}
+use Rattle.arena_core.specs.Journal.{Recorded}
+use Rattle.arena_core.specs.Ledgers.{stage}
+use Rattle.arena_core.specs.Replay.{IsReplay, rules_of, may_act, ended_of, is_request_size, chunk_at, found_nothing}
+use Rattle.arena_core.proofs.Lifting.{works_carries}
+use Rattle.arena_core.proofs.Replays.{replay_more, next_done, next_short}
+
+-- answers put behind none are all the answers
+only_said : {O A : Type 0} {t : Tunables} {w : Ways O} {r q : Rules A} {o z : O} {said : List Said} → Reaches t w r o [] q said z → Walks t w r o said q z
+only_said {t = t} {w = w} {r = r} {q = q} {o = o} {z = z} a = subst (λ ss. Walks t w r o ss q z) (sym a.added) a.walks
+
+pub records_replay : {P K : Type 0} {m : Means P K} {t : Tunables} {who : Who} {act : Act} {x y : Held P K} {given : Chunks} {found : Found} (start : Plain) → may_act act x.arena ≡ true → Records m t who act x given found y → IsReplay t start x.journal x.arena → IsReplay t start y.journal y.arena
+records_replay {t = t} {who = who} {act = act} {x = x} {y = y} {found = found} start may r old =
+    subst (λ es. IsReplay t start es y.arena) (sym r.added)
+    (replay_more t start x.journal x.arena y.arena (recorded who act r.said (ended_of act (found_of found))) old (next_done t who act r.said (found_of found) x.arena y.arena may (ends_as_walked (only_said r.walks))))
+
+pub short_replay : {P K : Type 0} {m : Means P K} {t : Tunables} {who : Who} {act : Act} {x y : Held P K} {given : Chunks} (start : Plain) → may_act act x.arena ≡ true → FailsShort m t who act x given y → IsReplay t start x.journal x.arena → IsReplay t start y.journal y.arena
+short_replay {t = t} {x = x} {y = y} start may (inl same) old = subst (λ (h : Held _ _). IsReplay t start h.journal h.arena) (sym same) old
+short_replay {t = t} {who = who} {act = act} {x = x} {y = y} start may (inr r) old =
+    subst (λ es. IsReplay t start es y.arena) (sym r.added)
+    (replay_more t start x.journal x.arena y.arena (recorded who act r.said Short) old (next_short t who act r.said x.arena y.arena may (left_as_walked (only_said r.stops.reaches))))
+
+pub request_size : (nb : ℕ) → IsRequestSize nb → is_request_size nb ≡ true
+request_size nb size = grind (arith, nat_tests, size.chunk.0, size.chunk.1, size.largest)
+
+-- ---- what a search gives, recorded
+
+pub takes : {P K : Type 0} (m : Means P K) (t : Tunables) (who : Who) (nb : ℕ) (a b : Plain) (p q : P) (cache cache' : CacheValue) (space space' : Space K) (said : List Said) (old new : List Recorded) (found : Found) (take : Take) →
+    Finds m t (searched t nb a) (stage a (beside_arena p cache space) []) (Ok found) (stage b (beside_arena q cache' space') said) → new ≡ old ++ recorded who (acts.Take nb) said (ended_of (acts.Take nb) (found_of found)) ∷ [] → take ≡ take_of b.number found →
+    Takes m t who (acts.Take nb) (record { arena = a; outside = beside_arena p cache space; journal = old }) take (record { arena = b; outside = beside_arena q cache' space'; journal = new })
+takes m t who nb a b p q cache cache' space space' said old new found take w added is = record {
+  found = found;
+  taken = subst (λ n. take ≡ take_of n found) w.keeps.number is;
+  records = record { said = said; added = added; walks = w.walk.done; balances = w.keeps };
+}
+
+pub takes_short : {P K : Type 0} (m : Means P K) (t : Tunables) (who : Who) (nb : ℕ) (a b : Plain) (p q : P) (cache cache' : CacheValue) (space space' : Space K) (said : List Said) (old new : List Recorded) (d : NoMemory) →
+    Finds m t (searched t nb a) (stage a (beside_arena p cache space) []) (Err d) (stage b (beside_arena q cache' space') said) → new ≡ old ++ recorded who (acts.Take nb) said Short ∷ [] →
+    RecordsShort m t who (acts.Take nb) (record { arena = a; outside = beside_arena p cache space; journal = old }) no_chunk (record { arena = b; outside = beside_arena q cache' space'; journal = new })
+takes_short m t who nb a b p q cache cache' space space' said old new d w added = record { said = said; added = added; stops = w.walk.short; loses = w.spares }
+
+-- ---- what giving back does, recorded
+
+abbrev give_ends : Plain → Rules Took
+give_ends b = Stop (found_nothing b)
+
+pub gives : {P K : Type 0} (m : Means P K) (t : Tunables) (who : Who) (at size : ℕ) (a b : Plain) (p q : P) (cache : CacheValue) (space space' : Space K) (said : List Said) (old new : List Recorded) → let ok : Result (Unit {0}) NoMemory = Ok tt in
+    GivesUp m t (given t a (chunk_at at size)) (one_chunk (chunk_at at size)) (hold a p cache space []) ok (hold b q cache space' said) → new ≡ old ++ recorded who (acts.Give at size) said Done ∷ [] →
+    Records m t who (acts.Give at size) (record { arena = a; outside = beside_arena p cache space; journal = old }) (one_chunk (chunk_at at size)) finds.Nowhere (record { arena = b; outside = beside_arena q cache space'; journal = new })
+gives m t who at size a b p q cache space space' said old new w added =
+    let c = works_carries w in
+    record { said = said; added = added; walks = reaches_behind give_ends c.walk.done; balances = c.keeps }
+
+pub gives_short : {P K : Type 0} (m : Means P K) (t : Tunables) (who : Who) (at size : ℕ) (a b : Plain) (p q : P) (cache : CacheValue) (space space' : Space K) (said : List Said) (old new : List Recorded) (d : NoMemory) → let err : Result (Unit {0}) NoMemory = Err d in
+    GivesUp m t (given t a (chunk_at at size)) (one_chunk (chunk_at at size)) (hold a p cache space []) err (hold b q cache space' said) → new ≡ old ++ recorded who (acts.Give at size) said Short ∷ [] →
+    RecordsShort m t who (acts.Give at size) (record { arena = a; outside = beside_arena p cache space; journal = old }) (one_chunk (chunk_at at size)) (record { arena = b; outside = beside_arena q cache space'; journal = new })
+gives_short m t who at size a b p q cache space space' said old new d w added =
+    let c = works_carries w in
+    record { said = said; added = added; stops = short_behind give_ends c.walk.short; loses = c.spares }

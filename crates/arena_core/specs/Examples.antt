@@ -1,0 +1,26 @@
+-- Words for worked examples (this project's own).
+use Rattle.std.specs.Prelude.{ℕ, false, List, [], ◌∷◌, Option, Some, None}
+use Rattle.chunk_tags.specs.Tunables.{serial_values}
+use Rattle.arena_rules.specs.PlainArena.{Plain, empty_main, unsorted_of}
+use Rattle.arena_rules.specs.declared.said.Said.{Said}
+use Rattle.arena_core.specs.declared.journal.Act.{Act}
+use Rattle.arena_core.specs.declared.journal.Act.TheVariants.{Take, Give}
+use Rattle.arena_core.specs.declared.journal.Ended.TheVariants.{Got, Done}
+use Rattle.arena_core.specs.Journal.{Recorded}
+use Rattle.arena_core.specs.Replay.{replayed}
+
+-- a hold of thread 0, in any line, that took a chunk of the very size, at an address
+abbrev pub takes_at : ℕ → List Said → ℕ → Recorded
+takes_at nb said at = record { who = record { thread = 0; line = 0 }; act = Take nb; said = said; ended = Got at nb false }
+
+-- a hold that gave a chunk back
+abbrev pub gives_at : ℕ → ℕ → List Said → Recorded
+gives_at at size said = record { who = record { thread = 0; line = 0 }; act = Give at size; said = said; ended = Done }
+
+-- main behind these holds
+abbrev pub main_after : List Recorded → Option Plain
+main_after es = replayed serial_values (Some empty_main) es
+
+-- the last remainder then
+abbrev pub last_after : List Recorded → Option (Option ℕ)
+last_after es = elim (main_after es) [ None ↦ None | Some a ↦ Some a.last ]

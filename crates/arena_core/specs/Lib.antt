@@ -1,0 +1,10 @@
+pub use Rattle.arena_rules.specs.PlainArena
+pub use Rattle.arena_rules.specs.Rules
+pub use Rattle.arena_rules.specs.Search
+pub mod Journal
+pub mod Replay
+pub mod Ledgers
+pub mod Steps
+pub mod Asking
+pub mod Arenas
+pub mod Examples

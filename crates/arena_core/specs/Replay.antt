@@ -1,0 +1,81 @@
+-- A journal is replayed: each entry's act goes through its rules with the answers that the entry has (this project's own).
+use Rattle.std.specs.Prelude.{◌≡◌, ℕ, ◌+◌, ◌^◌, ◌%◌, Bool, true, false, ◌&&◌, nat_eq, nat_le, List, [], ◌∷◌, Option, Some, None, if◌then◌else◌}
+use Rattle.chunk_tags.specs.declared.tiles.Chunk.{Chunk}
+use Rattle.chunk_tags.specs.declared.tunables.Tunables.{Tunables}
+use Rattle.arena_rules.specs.PlainArena.{Plain, is_own}
+use Rattle.arena_rules.specs.Rules.{Rules, Stop, behind, end_of_rules, left_by_rules}
+use Rattle.arena_rules.specs.Release.{given}
+use Rattle.arena_rules.specs.Growth.{Found, InArena, InMapping, Nowhere, Took}
+use Rattle.arena_rules.specs.Search.{searched}
+use Rattle.arena_core.specs.declared.journal.Act.{Act}
+use Rattle.arena_core.specs.declared.journal.Act.TheVariants.{Take, Give}
+use Rattle.arena_core.specs.declared.journal.Ended.{Ended}
+use Rattle.arena_core.specs.declared.journal.Ended.TheVariants.{Got, Done, Refused, Short}
+use Rattle.arena_rules.specs.declared.said.Said.{Said}
+use Rattle.arena_core.specs.Journal.{Recorded}
+
+abbrev pub chunk_at : ℕ → ℕ → Chunk
+chunk_at at size = record { at = at; size = size }
+
+-- what a hold that only changes the arena ends with
+abbrev pub found_nothing : Plain → Took
+found_nothing a = record { found = Nowhere; arena = a }
+
+-- the rules of an act
+abbrev pub rules_of : Tunables → Act → Plain → Rules Took
+rules_of t (Take nb) a = searched t nb a
+rules_of t (Give at size) a = behind (given t a (chunk_at at size)) (λ b. Stop (found_nothing b))
+
+-- a size that a request may become
+abbrev pub is_request_size : ℕ → Bool
+is_request_size nb = nat_le 32 nb && nat_eq (nb % 16) 0 && nat_le nb (2 ^ 63 + 16)
+
+-- whether an act meets the conditions of its call: its size is in range, or its chunk is a used one
+abbrev pub may_act : Act → Plain → Bool
+may_act (Take nb) a = is_request_size nb
+may_act (Give at size) a = is_own a (chunk_at at size)
+
+-- how an act ends that found this
+abbrev pub ended_of : Act → Found → Ended
+ended_of (Take nb) (InArena c) = Got c.at c.size false
+ended_of (Take nb) (InMapping c) = Got c.at c.size true
+ended_of (Take nb) Nowhere = Refused
+ended_of (Give at size) found = Done
+
+abbrev same_bool : Bool → Bool → Bool
+same_bool true b = b
+same_bool false true = false
+same_bool false false = true
+
+abbrev pub same_end : Ended → Ended → Bool
+same_end (Got at size mapped) (Got at' size' mapped') = nat_eq at at' && nat_eq size size' && same_bool mapped mapped'
+same_end Done Done = true
+same_end Refused Refused = true
+same_end Short Short = true
+same_end x y = false
+
+-- the arena that the rules ended with, where the entry ended as they did
+abbrev pub arena_ended : Act → Ended → Option Took → Option Plain
+arena_ended act ended None = None
+arena_ended act ended (Some took) = if same_end (ended_of act took.found) ended then Some took.arena else None
+
+-- the arena that an entry leaves, read by how it ended: short of memory, it leaves what the rules have before the next answer
+abbrev pub arena_after : Tunables → Act → Ended → Rules Took → List Said → Option Plain
+arena_after t act (Got at size mapped) r said = arena_ended act (Got at size mapped) (end_of_rules t r said)
+arena_after t act Done r said = arena_ended act Done (end_of_rules t r said)
+arena_after t act Refused r said = arena_ended act Refused (end_of_rules t r said)
+arena_after t act Short r said = left_by_rules t r said
+
+-- one entry
+abbrev pub next_arena : Tunables → Recorded → Plain → Option Plain
+next_arena t e a = if may_act e.act a then arena_after t e.act e.ended (rules_of t e.act a) e.said else None
+
+-- the entries of a journal, in order
+abbrev pub replayed : Tunables → Option Plain → List Recorded → Option Plain
+replayed t a [] = a
+replayed t None (e ∷ es) = None
+replayed t (Some a) (e ∷ es) = replayed t (next_arena t e a) es
+
+-- an arena is what the replay of a journal gives
+pub record IsReplay (t : Tunables) (start : Plain) (journal : List Recorded) (a : Plain) : Type 0 where
+  pub gives : replayed t (Some start) journal ≡ Some a

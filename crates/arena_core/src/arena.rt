@@ -1,0 +1,204 @@
+//! An arena with its journal.
+
+ghost use Rattle.std.specs.Prelude.{◌≡◌, ℕ, ◌<◌, [], ◌∷◌, ◌++◌, IsTrue, IfOk, IfErr, OnOk, OnErr, None, Some, vec_len, vec_capacity};
+ghost use Rattle.chunk_tags.specs.Sizes.{IsRequestSize};
+ghost use Rattle.thread_cache.specs.Caches.{CacheValue};
+ghost use Rattle.arena_rules.specs.PlainArena.{Plain, is_main};
+ghost use Rattle.consolidate_trim.specs.Holds.{IsBacked, no_chunk, one_chunk};
+ghost use Rattle.consolidate_trim.specs.Outside.{Apart, means};
+ghost use Rattle.arena_core.specs.Ledgers.{stage};
+ghost use Rattle.arena_core.specs.Asking.{IsSearchable, IsReady, AllowsMaps, beside_arena, found_of};
+ghost use Rattle.arena_core.specs.Replay.{IsReplay, chunk_at, ended_of};
+ghost use Rattle.arena_core.specs.Arenas.{Takes, FailsShort, GivesShort, Records, held, take_of, recorded};
+ghost use Rattle.arena_core.specs.declared.journal.Act.TheVariants as acts;
+ghost use Rattle.arena_core.specs.declared.found.Found.TheVariants as finds;
+
+use crate::entry::Entry;
+use crate::found::Found;
+use crate::journal::{Act, Ended, Who};
+use crate::room::make_room;
+use crate::search::search;
+use crate::take::{GiveShort, Take};
+use address_space::{Kernel, Space};
+use arena_rules::{Moves, Said};
+use chunk_tags::{Block, Chunk, NoMemory, Size, Tunables};
+use consolidate_trim::give;
+use fast_bins::FastPort;
+use mapped_chunks::Dials;
+use std::alloc::Global;
+use thread_cache::Cache;
+
+/// An arena: what it consists of, and the journal of its holds.
+pub struct Arena<M: Moves> {
+    pub ground: M,
+    pub journal: Vec<Entry>,
+}
+
+/// How a search ends that found this.
+fn ended_by(found: &Found) -> Ended
+    ensures { (nb : ℕ) → result ≡ ended_of (acts.Take nb) (found_of found.now) }
+{
+    match found {
+        Found::InArena(c) => Ended::Got {
+            addr: c.at,
+            size: c.size,
+            mapped: false,
+        },
+        Found::InMapping(c) => Ended::Got {
+            addr: c.at,
+            size: c.size,
+            mapped: true,
+        },
+        Found::Nowhere => Ended::Refused,
+    }
+}
+
+/// What is taken where this was found, in the arena with this number.
+fn take_found(number: u8, found: &Found) -> Take
+    ensures { result ≡ take_of number found.now }
+{
+    match found {
+        Found::InArena(c) => Take::Got(Block {
+            addr: c.at,
+            size: c.size,
+            lead: 0,
+            arena: Some(number),
+        }),
+        Found::InMapping(c) => Take::Got(Block {
+            addr: c.at,
+            size: c.size,
+            lead: 0,
+            arena: None,
+        }),
+        Found::Nowhere => Take::Refused,
+    }
+}
+
+/// Puts an entry behind the others, where room was made for it. No memory is asked for.
+fn append(journal: &mut Vec<Entry>, who: Who, act: Act, said: Vec<Said>, ended: Ended)
+    requires { vec_len journal.old < vec_capacity journal.old }
+    ensures { journal.new.items ≡ journal.old.items ++ recorded who act said.items ended ∷ [] }
+{
+    journal
+        .push(Entry {
+            who,
+            act,
+            said,
+            ended,
+        })
+        .unwrap();
+}
+
+impl<M: Moves> Arena<M> {
+    /// Takes a chunk of `nb` bytes by the rules of the search, and records the hold (glibc's `_int_malloc`). Chunks that go
+    /// to the caller's cache lie there afterwards. The entry is reserved before anything changes; where memory is short
+    /// later, the entry says so.
+    pub fn take<K: Kernel, P: FastPort + Dials>(
+        &mut self,
+        alloc: Global,
+        who: Who,
+        nb: Size,
+        cache: &mut Cache,
+        port: &mut P,
+        space: &mut Space<K>,
+        t: &Tunables,
+    ) -> Result<Take, NoMemory>
+        requires ready { IsReady (means P.fast P.dials K.port) t.now
+            (stage (M.plain self.old.ground) (beside_arena port.old cache.old space.old) []) }
+        requires allows { AllowsMaps P.dials port.old space.old }
+        requires apart { Apart P.fast P.dials }
+        requires tuned { IsSearchable t.now }
+        requires size { IsRequestSize nb }
+        ensures taken { IfOk result (λ take.
+            Takes (means P.fast P.dials K.port) t.now who (acts.Take nb)
+            (held (M.plain self.old.ground) port.old cache.old space.old self.old.journal.items)
+            take (held (M.plain self.new.ground) port.new cache.new space.new self.new.journal.items)) }
+        ensures short { OnErr result
+            (FailsShort (means P.fast P.dials K.port) t.now who (acts.Take nb)
+            (held (M.plain self.old.ground) port.old cache.old space.old self.old.journal.items)
+            no_chunk (held (M.plain self.new.ground) port.new cache.new space.new self.new.journal.items)) }
+
+        // The arena is still what the replay of its journal gives.
+        ensures replay { (start : Plain) → IsReplay t.now start self.old.journal.items (M.plain self.old.ground)
+            → IsReplay t.now start self.new.journal.items (M.plain self.new.ground) }
+    {
+        make_room(&mut self.journal)?;
+        let mut said = Vec::new(alloc);
+        match search(&mut self.ground, nb, cache, port, space, t, &mut said) {
+            Ok(found) => {
+                let found = &found;
+                append(
+                    &mut self.journal,
+                    who,
+                    Act::Take { nb },
+                    said,
+                    ended_by(found),
+                );
+                Ok(take_found(self.ground.number(), found))
+            }
+            Err(NoMemory) => {
+                append(&mut self.journal, who, Act::Take { nb }, said, Ended::Short);
+                Err(NoMemory)
+            }
+        }
+    }
+
+    /// Gives a used chunk back to its arena, and records the hold: it is merged, and what follows (the part of glibc's
+    /// `_int_free` under the lock). Where there is no memory for the entry, the block comes back and nothing changed; where
+    /// memory is short later, the chunk is merged, and the entry says so.
+    pub fn give<K: Kernel, P: FastPort + Dials>(
+        &mut self,
+        alloc: Global,
+        who: Who,
+        b: Block,
+        port: &mut P,
+        space: &mut Space<K>,
+        t: &Tunables,
+    ) -> Result<(), GiveShort>
+        requires backed { IsBacked P.fast (M.plain self.old.ground) port.old (one_chunk (chunk_at b.addr b.size)) }
+        requires apart { Apart P.fast P.dials }
+        requires main { IsTrue (is_main (M.plain self.old.ground)) }
+        ensures given { (cache : CacheValue) → OnOk result
+            (Records (means P.fast P.dials K.port) t.now who (acts.Give b.addr b.size)
+            (held (M.plain self.old.ground) port.old cache space.old self.old.journal.items)
+            (one_chunk (chunk_at b.addr b.size)) finds.Nowhere
+            (held (M.plain self.new.ground) port.new cache space.new self.new.journal.items)) }
+        ensures short { (cache : CacheValue) → IfErr result (λ e.
+            GivesShort (means P.fast P.dials K.port) t.now who b
+            (held (M.plain self.old.ground) port.old cache space.old self.old.journal.items)
+            e.back (held (M.plain self.new.ground) port.new cache space.new self.new.journal.items)) }
+
+        // The arena is still what the replay of its journal gives.
+        ensures replay { (start : Plain) → IsReplay t.now start self.old.journal.items (M.plain self.old.ground)
+            → IsReplay t.now start self.new.journal.items (M.plain self.new.ground) }
+    {
+        if make_room(&mut self.journal).is_err() {
+            return Err(GiveShort { back: Some(b) });
+        }
+        let mut said = Vec::new(alloc);
+        let Block {
+            addr,
+            size,
+            lead: _,
+            arena: _,
+        } = b;
+        let act = Act::Give { addr, size };
+        match give(
+            &mut self.ground,
+            Chunk { at: addr, size },
+            port,
+            space,
+            t,
+            &mut said,
+        ) {
+            Ok(()) => {
+                append(&mut self.journal, who, act, said, Ended::Done);
+                Ok(())
+            }
+            Err(NoMemory) => {
+                append(&mut self.journal, who, act, said, Ended::Short);
+                Err(GiveShort { back: None })
+            }
+        }
+    }
+}

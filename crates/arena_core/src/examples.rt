@@ -1,0 +1,56 @@
+//! Worked examples on the definitions alone. Nothing runs; the check computes them.
+
+ghost use Rattle.std.specs.Prelude.{◌≡◌, ℕ, [], ◌∷◌, Some, None, true, false};
+ghost use Rattle.address_space.specs.declared.asks.Ask.TheVariants.{Break};
+ghost use Rattle.address_space.specs.declared.asks.Answer.TheVariants.{Granted};
+ghost use Rattle.arena_rules.specs.declared.said.Said.TheVariants.{Flag, Popped, Own, Asked, Dial};
+ghost use Rattle.arena_core.specs.Examples.{takes_at, gives_at, last_after};
+
+/// A small request is cut from a larger free chunk, and the next one from what is left of it, the last remainder.
+#[tactic(auto, unfolding(arena_rules::specs::PlainArena::empty_bins, arena_rules::specs::Search::most_stashed))]
+fn small_requests_split_the_last_remainder()
+    ensures { last_after (takes_at 656 (Flag false ∷ Dial 131072 ∷ Asked (Break 0x555555559000 0x55555557a000) Granted ∷ []) 0x555555559000
+        ∷ takes_at 2016 (Flag false ∷ []) 0x555555559290
+        ∷ takes_at 32 (Popped None ∷ []) 0x555555559a70
+        ∷ gives_at 0x555555559290 2016 []
+        ∷ takes_at 112 (Popped None ∷ []) 0x555555559290
+        ∷ takes_at 112 (Popped None ∷ []) 0x555555559300
+        ∷ []) ≡ Some (Some 0x555555559370) }
+{}
+
+/// Of several chunks of one size in a large bin the second is taken; a new one of that size becomes the second.
+#[tactic(auto, unfolding(arena_rules::specs::PlainArena::empty_bins, arena_rules::specs::Search::most_stashed))]
+fn large_bins_give_the_second_of_equals()
+    ensures { last_after (takes_at 656 (Flag false ∷ Dial 131072 ∷ Asked (Break 0x555555559000 0x55555557a000) Granted ∷ []) 0x555555559000
+        ∷ takes_at 2016 (Flag false ∷ []) 0x555555559290
+        ∷ takes_at 32 (Popped None ∷ []) 0x555555559a70
+        ∷ takes_at 2016 (Flag false ∷ []) 0x555555559a90
+        ∷ takes_at 32 (Popped None ∷ []) 0x55555555a270
+        ∷ takes_at 2016 (Flag false ∷ []) 0x55555555a290
+        ∷ takes_at 32 (Popped None ∷ []) 0x55555555aa70
+        ∷ gives_at 0x555555559290 2016 []
+        ∷ gives_at 0x555555559a90 2016 []
+        ∷ gives_at 0x55555555a290 2016 []
+        ∷ takes_at 3008 (Flag false ∷ []) 0x55555555aa90
+        ∷ takes_at 2016 (Flag false ∷ []) 0x55555555a290
+        ∷ takes_at 2016 (Flag false ∷ []) 0x555555559a90
+        ∷ takes_at 2016 (Flag false ∷ []) 0x555555559290
+        ∷ []) ≡ Some None }
+{}
+
+/// A large request consolidates the fast bins first; a chunk between used ones goes to its small bin.
+#[tactic(auto, unfolding(arena_rules::specs::PlainArena::empty_bins, arena_rules::specs::Search::most_stashed, arena_rules::specs::Release::consolidated))]
+fn large_requests_consolidate_first()
+    ensures { last_after (takes_at 656 (Flag false ∷ Dial 131072 ∷ Asked (Break 0x555555559000 0x55555557a000) Granted ∷ []) 0x555555559000
+        ∷ takes_at 32 (Popped None ∷ []) 0x555555559290
+        ∷ takes_at 32 (Popped None ∷ []) 0x5555555592b0
+        ∷ takes_at 32 (Popped None ∷ []) 0x5555555592d0
+        ∷ takes_at 32 (Popped None ∷ []) 0x5555555592f0
+        ∷ takes_at 32 (Popped None ∷ []) 0x555555559310
+        ∷ takes_at 32 (Popped None ∷ []) 0x555555559330
+        ∷ takes_at 32 (Popped None ∷ []) 0x555555559350
+        ∷ takes_at 32 (Popped None ∷ []) 0x555555559370
+        ∷ takes_at 32 (Popped None ∷ []) 0x555555559390
+        ∷ takes_at 1120 (Flag true ∷ Own (Some 0x555555559370) ∷ Own None ∷ Own None ∷ Own None ∷ Own None ∷ Own None ∷ Own None ∷ Own None ∷ Own None ∷ Own None ∷ Own None ∷ []) 0x5555555593b0
+        ∷ []) ≡ Some None }
+{}
