@@ -1,0 +1,162 @@
+/* What a plain C program does with the same trace: it reads and checks every line, calls the machine's own malloc and
+ * free, and writes a record for each line in the form of a report. It keeps no list of chunks: behind the records it
+ * writes the blocks that are left. */
+#include <malloc.h>
+#include <stdint.h>
+#include <stdio.h>
+#include <stdlib.h>
+#include <string.h>
+
+enum { THREADS = 64, NAMES = 65536, LISTS = 64, FULL = 7 };
+
+struct name {
+    void *block;
+    unsigned char held;
+};
+
+static struct name *names[THREADS];
+static unsigned cached[LISTS];
+
+static void fail(unsigned long line, const char *why) {
+    fprintf(stderr, "line %lu: %s\n", line, why);
+    exit(3);
+}
+
+/* The whole of standard input. */
+static char *read_all(size_t *length) {
+    size_t room = 65536, used = 0, got;
+    char *bytes = malloc(room);
+    while (bytes && (got = fread(bytes + used, 1, room - used, stdin)) > 0) {
+        used += got;
+        if (used == room)
+            bytes = realloc(bytes, room *= 2);
+    }
+    if (!bytes || ferror(stdin))
+        exit(6);
+    *length = used;
+    return bytes;
+}
+
+/* The number at *at, which ends at a space or at the end of the line. */
+static uint64_t number(const char **at, const char *end, unsigned long line) {
+    const char *p = *at;
+    uint64_t n = 0;
+    if (p == end || *p < '0' || *p > '9' || (*p == '0' && p + 1 < end && p[1] != ' '))
+        fail(line, "Number");
+    while (p < end && *p != ' ') {
+        if (*p < '0' || *p > '9' || n > (UINT64_MAX - (*p - '0')) / 10)
+            fail(line, "Number");
+        n = n * 10 + (uint64_t)(*p++ - '0');
+    }
+    *at = p < end ? p + 1 : p;
+    return n;
+}
+
+static char *put_text(char *to, const char *text) {
+    while (*text)
+        *to++ = *text++;
+    return to;
+}
+
+static char *put_number(char *to, uint64_t n) {
+    char digits[20];
+    int count = 0;
+    do
+        digits[count++] = (char)('0' + n % 10);
+    while (n /= 10);
+    while (count)
+        *to++ = digits[--count];
+    return to;
+}
+
+/* An address with 12 digits, and the size of the chunk there. */
+static char *put_block(char *to, const void *block) {
+    to = put_text(to, "0x");
+    for (int shift = 44; shift >= 0; shift -= 4)
+        *to++ = "0123456789abcdef"[(uintptr_t)block >> shift & 15];
+    *to++ = ' ';
+    return put_number(to, malloc_usable_size((void *)block) + 8);
+}
+
+static struct name *find(uint64_t thread, uint64_t n, unsigned long line) {
+    if (n < 1 || n > 65535)
+        fail(line, "Name");
+    if (!names[thread] && !(names[thread] = calloc(NAMES, sizeof(struct name))))
+        exit(8);
+    return &names[thread][n];
+}
+
+static size_t list_of(void *block) { return (malloc_usable_size(block) + 8 - 32 + 15) / 16; }
+
+static void run_line(const char *text, const char *end, unsigned long line) {
+    const char *at = text;
+    uint64_t thread = number(&at, end, line);
+    if (thread >= THREADS)
+        fail(line, "Thread");
+    if (end - at < 3 || at[1] != ' ')
+        fail(line, "Fields");
+    char command = *at;
+    at += 2;
+    struct name *name = find(thread, number(&at, end, line), line);
+    fwrite(text, 1, (size_t)(end - text), stdout);
+    if (command == 'm') {
+        uint64_t size = number(&at, end, line);
+        if (at != end)
+            fail(line, "Fields");
+        if (name->held)
+            fail(line, "Held");
+        name->held = 1;
+        name->block = malloc(size);
+        if (!name->block) {
+            fputs(" -> null big\n", stdout);
+            return;
+        }
+        size_t list = list_of(name->block);
+        int from_cache = list < LISTS && cached[list] > 0;
+        if (from_cache)
+            cached[list]--;
+        char record[80], *to = put_block(put_text(record, " -> "), name->block);
+        to = put_text(to, from_cache ? " cached\n" : " arena 0\n");
+        fwrite(record, 1, (size_t)(to - record), stdout);
+    } else if (command == 'f') {
+        if (at != end)
+            fail(line, "Fields");
+        if (!name->held)
+            fail(line, "NotHeld");
+        name->held = 0;
+        if (name->block) {
+            size_t list = list_of(name->block);
+            if (list < LISTS && cached[list] < FULL)
+                cached[list]++;
+        }
+        free(name->block);
+        name->block = NULL;
+        fputs(" -> cached\n", stdout);
+    } else {
+        fail(line, "Command");
+    }
+}
+
+int main(void) {
+    static const char header[] = "ptmtrace 1\n";
+    size_t length;
+    char *bytes = read_all(&length), *end = bytes + length;
+    if (length < sizeof header - 1 || memcmp(bytes, header, sizeof header - 1))
+        fail(1, "Header");
+    puts("ptmreport 1 serial");
+    unsigned long line = 2;
+    for (char *at = bytes + sizeof header - 1; at < end; line++) {
+        char *newline = memchr(at, '\n', (size_t)(end - at));
+        if (!newline)
+            fail(line, "Cut");
+        run_line(at, newline, line);
+        at = newline + 1;
+    }
+    for (unsigned n = 1; names[0] && n < NAMES; n++)
+        if (names[0][n].block) {
+            char place[80], *to = put_number(put_text(put_block(place, names[0][n].block), " live 0 "), n);
+            *to++ = '\n';
+            fwrite(place, 1, (size_t)(to - place), stdout);
+        }
+    return fflush(stdout) ? 7 : 0;
+}
