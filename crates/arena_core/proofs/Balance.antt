@@ -1,5 +1,5 @@
 -- Laws of accounts, for this crate and those above it: one after another, and from what a move keeps.
-use Rattle.std.proofs.Common.{◌≡◌, ℕ, ◌+◌, ◌≤◌, List, Result, Ok, Err, refl, sym, ap, ◌∙◌, subst, arith}
+use Rattle.std.proofs.Common.{◌≡◌, ℕ, ◌+◌, ◌≤◌, List, Result, Ok, Err, refl, ap, ◌∙◌, subst, arith}
 use Rattle.std.specs.Result.{IsErr}
 use Rattle.chunk_tags.specs.declared.tiles.Chunk.{Chunk}
 use Rattle.chunk_tags.specs.declared.tunables.Tunables.{Tunables}
@@ -10,7 +10,7 @@ use Rattle.arena_rules.specs.Walks.{Reaches, StopsShort}
 use Rattle.arena_rules.proofs.Moved.{Moved, none, nothing}
 use Rattle.arena_rules.proofs.MainPlaces.{placed_still}
 use Rattle.consolidate_trim.specs.Holds.{Chunks, no_chunk, times_cached}
-use Rattle.arena_core.specs.Ledgers.{Ledger, Stage, stage, elsewhere, KeepsCached, Balances, Loses, Works}
+use Rattle.arena_core.specs.Ledgers.{Ledger, Stage, stage, elsewhere, Balances, Loses, Works}
 
 -- nothing happened
 pub balances_here : {O : Type 0} (l : Ledger O) (x : Stage O) (said : List Said) → IsSound x.arena → Balances l x no_chunk no_chunk (stage x.arena x.outside said)

@@ -1,10 +1,8 @@
 -- What is taken from the bins or from top, and what an arena is then.
-use Rattle.std.proofs.Common.{◌≡◌, ℕ, ◌+◌, ◌-◌, ◌≤◌, Bool, true, false, cond, List, [], ◌∷◌, drop, Option, Some, None, Result, Ok, Err, refl, sym, ap, ◌∙◌, subst, arith}
-use Rattle.std.specs.Prelude.{nat_le}
+use Rattle.std.proofs.Common.{◌≡◌, ℕ, ◌+◌, ◌≤◌, Bool, true, false, cond, List, drop, Option, Some, None, refl, sym, ap, ◌∙◌, subst, arith}
 use Rattle.std.proofs.lemmas.Bool.Decides.{nat_tests}
 use Rattle.chunk_tags.specs.declared.tiles.Chunk.{Chunk}
 use Rattle.chunk_tags.specs.declared.tiles.Tile.{Tile}
-use Rattle.chunk_tags.specs.declared.tunables.Tunables.{Tunables}
 use Rattle.chunk_tags.specs.BinOrder.{best_of, once}
 use Rattle.chunk_tags.specs.Sizes.{IsChunkSize, is_small_size, large_index_of, bin_of}
 use Rattle.chunk_tags.specs.Tiles.{top_of}
@@ -19,7 +17,7 @@ use Rattle.arena_rules.proofs.Beside.{beside_cut}
 use Rattle.arena_rules.proofs.Carving.{IsBestIn}
 use Rattle.arena_rules.proofs.Moved.{Moved, none, nothing}
 use Rattle.arena_rules.proofs.TopMoves.{cut_moved}
-use Rattle.consolidate_trim.specs.Holds.{Chunks, no_chunk}
+use Rattle.consolidate_trim.specs.Holds.{no_chunk}
 use Rattle.arena_core.specs.declared.step.Step as step_type
 use Rattle.arena_core.specs.declared.step.Step.TheVariants as steps
 use Rattle.arena_core.specs.Ledgers.{Ledger, Stage, stage, Balances}

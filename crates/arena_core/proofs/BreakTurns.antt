@@ -1,9 +1,8 @@
 -- The turns of a growth by main's break, and the chunk that is cut from top then.
-use Rattle.std.proofs.Common.{◌≡◌, ℕ, ◌+◌, ◌-◌, ◌<◌, ◌≤◌, suc, zero, Bool, true, false, ◌&&◌, cond, List, [], ◌∷◌, ◌++◌, Option, Some, None, IsTrue, Result, Ok, Err, refl, sym, ap, ◌∙◌, subst, arith}
-use Rattle.std.specs.Prelude.{nat_eq, max, if◌then◌else◌}
+use Rattle.std.proofs.Common.{◌≡◌, ℕ, ◌+◌, suc, Bool, true, false, cond, List, IsTrue, Result, Ok, Err, refl, sym, ap, ◌∙◌, subst, arith}
+use Rattle.std.specs.Prelude.{if◌then◌else◌}
 use Rattle.std.specs.Result.{IsErr}
-use Rattle.chunk_tags.specs.BinOrder.{once}
-use Rattle.chunk_tags.specs.Sizes.{IsChunkSize, IsRequestSize}
+use Rattle.chunk_tags.specs.Sizes.{IsRequestSize}
 use Rattle.chunk_tags.specs.declared.refusals.NoMemory.{NoMemory}
 use Rattle.chunk_tags.specs.declared.tiles.Chunk.{Chunk}
 use Rattle.chunk_tags.specs.declared.tunables.Tunables.{Tunables}
@@ -13,28 +12,28 @@ use Rattle.address_space.specs.declared.space.Space.{Space}
 use Rattle.thread_cache.specs.Caches.{CacheValue}
 use Rattle.arena_rules.specs.declared.said.Said.{Said}
 use Rattle.arena_rules.specs.PlainArena.{Plain, IsSound, is_main, once_of}
-use Rattle.arena_rules.specs.MainPlaces.{IsMainPlaced, IsPlaced}
+use Rattle.arena_rules.specs.MainPlaces.{IsMainPlaced}
 use Rattle.arena_rules.specs.Moves.{top_start, cut_from_top}
 use Rattle.arena_rules.specs.Growth as growth
 use Rattle.arena_rules.specs.Growth.{main_growth, has_top_for, closing, break_rest, break_taken, piece_grown, main_grown, noted, from_top, grown, heaps_grown, maps_else}
-use Rattle.arena_rules.specs.Rules.{Rules, Stop, behind, asks_for, windows_of}
+use Rattle.arena_rules.specs.Rules.{Rules, Stop, behind}
 use Rattle.arena_rules.specs.Search as search
 use Rattle.arena_rules.specs.Walks.{Reaches}
 use Rattle.arena_rules.proofs.Walks.{reaches_here}
-use Rattle.consolidate_trim.specs.Holds.{Chunks, no_chunk, IsBacked}
+use Rattle.consolidate_trim.specs.Holds.{no_chunk}
 use Rattle.consolidate_trim.specs.Outside.{Means, Outside}
 use Rattle.arena_core.specs.declared.found.Found.{Found}
 use Rattle.arena_core.specs.declared.found.Found.TheVariants as finds
 use Rattle.arena_core.specs.declared.step.Step.{Step}
 use Rattle.arena_core.specs.declared.step.Step.TheVariants as steps
 use Rattle.arena_core.proofs.BinnedLaws.{topped_balances}
-use Rattle.arena_core.specs.Asking.{IsReady, IsSearchable, AsksFor, Closes, Grows, Finds, took, chunks_found, answer_of, beside_arena, chunks_in}
-use Rattle.arena_core.specs.Ledgers.{Ledger, Stage, stage, Balances, Works, full}
+use Rattle.arena_core.specs.Asking.{IsReady, IsSearchable, AsksFor, Closes, Grows, Finds, took, chunks_found, beside_arena}
+use Rattle.arena_core.specs.Ledgers.{Ledger, Stage, stage, Balances, full}
 use Rattle.arena_core.specs.Steps.{step_of, chunks_of, topped}
-use Rattle.arena_core.proofs.Balance.{balances_here, balances_then, balances_as, loses_from, works_ok, works_short}
-use Rattle.arena_core.proofs.Growing.{asked_passes, asked_short, IsGrowing, growth_is}
+use Rattle.arena_core.proofs.Balance.{balances_here, balances_then, balances_as, works_ok}
+use Rattle.arena_core.proofs.Growing.{asked_passes, asked_short, growth_is}
 use Rattle.arena_core.proofs.MainGrowth.{ready_after, IsTaken, granted_break, within, same_break}
-use Rattle.arena_core.proofs.Parts.{Passes, passes_here, passes_then, passes_as, passes_behind, works_after, short_behind_works, passes_closed}
+use Rattle.arena_core.proofs.Parts.{Passes, passes_then, passes_as, passes_behind, works_after, short_behind_works, passes_closed}
 
 abbrev after_close : ℕ → Tunables → ℕ → Plain → Rules Plain
 after_close turns t nb b = if has_top_for b nb then Stop b else main_grown turns t nb b

@@ -1,5 +1,5 @@
 -- A found chunk can be carved: it is claimed, parted, and its rest is shelved, each move from a sound arena.
-use Rattle.std.proofs.Common.{◌≡◌, ℕ, ◌+◌, ◌-◌, ◌<◌, ◌≤◌, IsTrue, arith}
+use Rattle.std.proofs.Common.{ℕ, ◌+◌, ◌-◌, ◌<◌, ◌≤◌, IsTrue, arith}
 use Rattle.chunk_tags.specs.BinOrder.{once}
 use Rattle.chunk_tags.specs.declared.tiles.Chunk.{Chunk}
 use Rattle.chunk_tags.specs.Sizes.{IsChunkSize}

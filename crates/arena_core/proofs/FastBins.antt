@@ -1,6 +1,6 @@
 -- What the chunks of a fast bin go through that are popped, and put into the cache.
-use Rattle.std.proofs.Common.{◌≡◌, ℕ, ◌+◌, ◌-◌, ◌*◌, ◌/◌, ◌%◌, ◌<◌, ◌≤◌, suc, zero, Bool, true, false, cond, List, [], ◌∷◌, ◌++◌, length, Option, Some, None, Result, Ok, Err, IfSome, IsTrue, refl, sym, ap, ◌∙◌, subst, arith}
-use Rattle.std.specs.Prelude.{nat_le, nat_lt, if◌then◌else◌}
+use Rattle.std.proofs.Common.{◌≡◌, ℕ, ◌+◌, ◌-◌, ◌<◌, ◌≤◌, suc, zero, Bool, true, false, cond, List, [], ◌∷◌, ◌++◌, length, Option, Some, None, Result, Ok, Err, IfSome, refl, sym, ap, ◌∙◌, subst, arith}
+use Rattle.std.specs.Prelude.{nat_le, if◌then◌else◌}
 use Rattle.std.specs.Result.{IsErr}
 use Rattle.std.proofs.lemmas.Bool.Decides.{nat_tests}
 use Rattle.chunk_tags.specs.BinOrder.{fast_chunk, once}
@@ -14,14 +14,14 @@ use Rattle.fast_bins.specs.FastPorts as fasts
 use Rattle.fast_bins.specs.FastPorts.{Fast, Did}
 use Rattle.arena_rules.specs.declared.said.Said.{Said}
 use Rattle.arena_rules.specs.declared.said.Said.TheVariants as told
-use Rattle.arena_rules.specs.PlainArena.{Plain, IsSound, is_own, times_used}
+use Rattle.arena_rules.specs.PlainArena.{Plain, IsSound, is_own}
 use Rattle.arena_rules.specs.Rules.{Rules, Stop, Misfit, Does, Stashes, Rooms, Pops, asks_room, pops, block_of, flag_of, chunk_told}
 use Rattle.arena_rules.specs.Walks.{Ways, Reaches, StopsShort}
 use Rattle.arena_rules.specs.Search.{Step, Taken, Onward, fast_taken, stashing_fast, most_stashed}
 use Rattle.arena_rules.proofs.Bins.{once_self}
 use Rattle.arena_rules.proofs.ChunkMoves.{own_from}
 use Rattle.arena_rules.proofs.Walks.{reaches_here, reaches_then, reaches_told, reaches_done, short_here, short_then}
-use Rattle.consolidate_trim.specs.Holds.{IsBacked, no_chunk, times_cached}
+use Rattle.consolidate_trim.specs.Holds.{IsBacked, no_chunk}
 use Rattle.arena_core.specs.declared.step.Step as step_type
 use Rattle.arena_core.specs.declared.step.Step.TheVariants as steps
 use Rattle.arena_core.specs.Ledgers.{near_ledger, Near, near, Stage, stage, Balances}

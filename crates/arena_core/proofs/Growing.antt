@@ -1,43 +1,32 @@
 -- What a growth of main goes through.
-use Rattle.std.proofs.Common.{◌≡◌, ℕ, ◌+◌, ◌-◌, ◌*◌, ◌/◌, ◌%◌, ◌^◌, ◌<◌, ◌≤◌, suc, zero, Bool, true, false, ◌&&◌, ◌||◌, not, cond, List, [], ◌∷◌, ◌++◌, Option, Some, None, IsTrue, Result, Ok, Err, refl, sym, ap, ◌∙◌, subst, arith}
-use Rattle.std.specs.Prelude.{nat_le, nat_lt, nat_eq, max, if◌then◌else◌}
+use Rattle.std.proofs.Common.{◌≡◌, ℕ, ◌+◌, ◌-◌, ◌%◌, ◌^◌, ◌<◌, ◌≤◌, Bool, true, false, ◌&&◌, ◌||◌, not, cond, List, [], ◌∷◌, ◌++◌, Option, Result, Ok, Err, refl, sym, ap, ◌∙◌, subst, arith}
 use Rattle.std.specs.Result.{IsErr}
-use Rattle.std.proofs.lemmas.Bool.{eq-eqb}
 use Rattle.std.proofs.lemmas.Bool.Decides.{nat_tests}
-use Rattle.chunk_tags.specs.BinOrder.{once}
 use Rattle.chunk_tags.specs.Pages.{page_up_of}
-use Rattle.chunk_tags.specs.Sizes.{IsChunkSize, IsRequestSize}
-use Rattle.chunk_tags.specs.Tiles.{top_of}
-use Rattle.chunk_tags.specs.Tunables.{main_limit}
+use Rattle.chunk_tags.specs.Sizes.{IsRequestSize}
 use Rattle.chunk_tags.specs.declared.refusals.NoMemory.{NoMemory}
-use Rattle.chunk_tags.specs.declared.tiles.Chunk.{Chunk}
 use Rattle.chunk_tags.specs.declared.tunables.Tunables.{Tunables}
 use Rattle.address_space.specs.Ports.{Port}
-use Rattle.address_space.specs.Spaces.{AsksWithin, MapsWithin, GivesWithin, used_up, place_answer, granted_place, map_place, map_passes, main_start, piece_start, break_passes, piece_passes}
+use Rattle.address_space.specs.Spaces.{AsksWithin, MapsWithin, used_up, place_answer, map_passes}
 use Rattle.address_space.specs.declared.asks.Ask.{Ask}
-use Rattle.address_space.specs.declared.asks.Ask.TheVariants as asks
 use Rattle.address_space.specs.declared.asks.Answer.{Answer}
 use Rattle.address_space.specs.declared.asks.Answer.TheVariants.{Granted, Refused}
 use Rattle.address_space.specs.declared.space.Space.{Space}
-use Rattle.address_space.specs.declared.space.Windows.{Windows}
 use Rattle.thread_cache.specs.Caches.{CacheValue}
 use Rattle.arena_rules.specs.declared.said.Said.{Said}
 use Rattle.arena_rules.specs.declared.said.Said.TheVariants as told
-use Rattle.arena_rules.specs.PlainArena.{Plain, IsSound, is_main, once_of}
-use Rattle.arena_rules.specs.MainPlaces.{IsMainPlaced, IsPlaced}
-use Rattle.arena_rules.specs.Moves.{top_size, left_of_top}
-use Rattle.arena_rules.specs.Growth.{main_growth, piece_length, top_part, has_top_for, closing, break_rest, break_taken, piece_taken, piece_grown, main_grown}
-use Rattle.arena_rules.specs.Rules.{Rules, Stop, Need, Deed, Asks, Flagged, Pops, Owns, Rooms, Maps, Reads, Clears, Gathers, Pushes, Stashes, Draws, Gives, Counts, asks_for, behind, flag_of, fits, same_ask, windows_of, passes_window, is_refused}
-use Rattle.arena_rules.specs.Walks.{Ways, Walks, here, idled, done, told as walked, Reaches, StopsShort}
-use Rattle.arena_rules.proofs.MainPlaces.{IsGrowth, break_grown, piece_grown as piece_grown_by}
-use Rattle.arena_rules.proofs.Moved.{Moved, none, nothing}
-use Rattle.arena_rules.proofs.Walks.{reaches_here, reaches_told, short_here}
-use Rattle.consolidate_trim.specs.Holds.{Chunks, no_chunk, IsBacked}
+use Rattle.arena_rules.specs.PlainArena.{Plain, IsSound}
+use Rattle.arena_rules.specs.Moves.{top_size}
+use Rattle.arena_rules.specs.Growth.{main_growth, piece_length, top_part, has_top_for}
+use Rattle.arena_rules.specs.Rules.{Rules, Need, Deed, Asks, Flagged, Pops, Owns, Rooms, Maps, Reads, Clears, Gathers, Pushes, Stashes, Draws, Gives, Counts, asks_for, flag_of, fits, same_ask, windows_of, passes_window, is_refused}
+use Rattle.arena_rules.specs.Walks.{Walks, here, idled, done, told as walked, Reaches}
+use Rattle.arena_rules.proofs.Walks.{reaches_told, short_here}
+use Rattle.consolidate_trim.specs.Holds.{Chunks, no_chunk}
 use Rattle.consolidate_trim.specs.Outside.{Means, Outside, Goes, Does, ways}
-use Rattle.arena_core.specs.Asking.{IsReady, IsSearchable, AsksFor, Closes, Grows, answer_of, beside_arena, chunks_in}
-use Rattle.arena_core.specs.Ledgers.{Ledger, Stage, stage, Balances, Loses, Works, full}
-use Rattle.arena_core.proofs.Balance.{balances_here, loses_from, works_ok, works_short}
-use Rattle.arena_core.proofs.Parts.{Passes, passes_here, passes_then, passes_as, passes_behind, works_after, short_behind_works, backed_balances}
+use Rattle.arena_core.specs.Asking.{IsSearchable, AsksFor, answer_of, beside_arena}
+use Rattle.arena_core.specs.Ledgers.{Stage, stage, Works, full}
+use Rattle.arena_core.proofs.Balance.{balances_here, loses_from, works_short}
+use Rattle.arena_core.proofs.Parts.{Passes}
 
 -- ---- the windows stay
 

@@ -1,6 +1,7 @@
 pub mod Balance
 pub mod Carved
 pub mod Chosen
+pub mod Endings
 pub mod FastBins
 pub mod Growing
 pub mod Lifting
@@ -11,6 +12,8 @@ pub mod Mappings
 pub mod Parts
 pub mod BinnedLaws
 pub mod Recording
+pub mod Nowhere
+pub mod Refusals
 pub mod Remainders
 pub mod Replays
 pub mod Rounds

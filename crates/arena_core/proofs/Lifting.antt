@@ -1,21 +1,20 @@
 -- What holds beside a part of a hold holds beside all of it, for this crate and those above it.
-use Rattle.std.proofs.Common.{◌≡◌, ℕ, ◌+◌, ◌≤◌, List, [], ◌∷◌, Result, Ok, Err, refl, sym, ap, ◌∙◌, subst, arith}
+use Rattle.std.proofs.Common.{◌≡◌, ℕ, ◌+◌, List, Result, Ok, Err, refl, ap, ◌∙◌, arith}
 use Rattle.chunk_tags.specs.declared.tiles.Chunk.{Chunk}
 use Rattle.chunk_tags.specs.declared.tunables.Tunables.{Tunables}
 use Rattle.address_space.specs.declared.space.Space.{Space}
 use Rattle.thread_cache.specs.Caches.{CacheValue, with_newest, without_newest}
-use Rattle.fast_bins.specs.FastPorts as fasts
 use Rattle.fast_bins.specs.FastPorts.{Fast}
 use Rattle.arena_rules.specs.declared.said.Said.{Said}
 use Rattle.arena_rules.specs.declared.said.Said.TheVariants as told
-use Rattle.arena_rules.specs.PlainArena.{Plain, times_used}
-use Rattle.arena_rules.specs.Rules.{Rules, Stop, Need, Flagged, Pops, Owns, Rooms, Asks, Maps, Reads, Deed, Clears, Gathers, Pushes, Stashes, Draws, Gives, Counts, block_of}
+use Rattle.arena_rules.specs.PlainArena.{Plain}
+use Rattle.arena_rules.specs.Rules.{Rules, Need, Flagged, Pops, Owns, Rooms, Deed, Clears, Gathers, Pushes, Stashes, Draws, block_of}
 use Rattle.chunk_tags.specs.Sizes.{cache_index_of}
 use Rattle.arena_rules.specs.Walks.{Ways, Walks, here, idled, done, told, Reaches, StopsShort}
-use Rattle.consolidate_trim.specs.FastHolds.{FastHold, fast_hold, FastAnswers, FastDoes, fast_ways, Empties}
-use Rattle.consolidate_trim.specs.Holds.{Chunks, no_chunk, times_cached, Hold, hold, outside, Carries}
-use Rattle.consolidate_trim.specs.Outside.{Means, Outside, ways, Goes, Does}
-use Rattle.arena_core.specs.Ledgers.{Ledger, Stage, stage, elsewhere, Balances, Loses, Works, shelf, CacheGoes, CacheDoes, Near, near, NearGoes, NearDoes, near_ledger, fast_ledger, full}
+use Rattle.consolidate_trim.specs.FastHolds.{FastHold, FastAnswers, FastDoes, Empties}
+use Rattle.consolidate_trim.specs.Holds.{Chunks, no_chunk, times_cached, Hold, outside, Carries}
+use Rattle.consolidate_trim.specs.Outside.{Means, Outside, Goes, Does}
+use Rattle.arena_core.specs.Ledgers.{Ledger, Stage, stage, Balances, Loses, Works, shelf, CacheGoes, CacheDoes, Near, near, NearGoes, NearDoes, near_ledger, fast_ledger, full}
 
 -- one outside as a part of another
 pub record Embeds {O Q : Type 0} (v : Ways O) (w : Ways Q) (put : O → Q) : Type 0 where

@@ -1,8 +1,6 @@
 -- The scan with what follows it, and the first steps of a search.
-use Rattle.std.proofs.Common.{◌≡◌, ℕ, ◌+◌, Bool, true, false, cond, List, [], ◌∷◌, ◌++◌, Result, Ok, Err, IsTrue, refl, sym, ap, ◌∙◌, subst, arith}
-use Rattle.std.specs.Prelude.{if◌then◌else◌}
+use Rattle.std.proofs.Common.{◌≡◌, ℕ, Bool, true, false, cond, List, [], ◌∷◌, ◌++◌, Result, Ok, Err, refl, sym, ap, ◌∙◌, subst, arith}
 use Rattle.std.specs.Result.{IsErr}
-use Rattle.chunk_tags.specs.BinOrder.{once}
 use Rattle.chunk_tags.specs.declared.refusals.NoMemory.{NoMemory}
 use Rattle.chunk_tags.specs.declared.tiles.Chunk.{Chunk}
 use Rattle.chunk_tags.specs.declared.tunables.Tunables.{Tunables}
@@ -18,17 +16,17 @@ use Rattle.arena_rules.specs.Rules.{Rules, Stop, Flagged, asks_flag, behind, fla
 use Rattle.arena_rules.specs.Walks.{Ways, Reaches, StopsShort}
 use Rattle.arena_rules.specs.Search as search
 use Rattle.arena_rules.specs.Search.{next_step, scanned_all, looked, best_taken, larger_taken, top_taken, small_taken, fast_taken, consolidated_first}
-use Rattle.arena_rules.proofs.Walks.{reaches_here, reaches_then, reaches_told, reaches_behind, short_here, short_then}
+use Rattle.arena_rules.proofs.Walks.{reaches_here, reaches_told, short_here}
 use Rattle.consolidate_trim.specs.FastHolds.{fast_hold, Empties}
 use Rattle.consolidate_trim.specs.Holds.{no_chunk, IsBacked}
 use Rattle.arena_core.specs.declared.step.Step as step_type
 use Rattle.arena_core.specs.declared.step.Step.TheVariants as steps
 use Rattle.arena_core.specs.Ledgers.{Ledger, Stage, stage, Works, Balances, shelf, Near, near, near_ledger, fast_ledger}
 use Rattle.arena_core.specs.Steps.{Steps, Sweeps, step_of, chunks_of, binned, begun, begun_small}
-use Rattle.arena_core.proofs.Balance.{balances_here, balances_then, balances_as, restage, loses_from, works_ok, works_short}
+use Rattle.arena_core.proofs.Balance.{balances_here, balances_then, balances_as, loses_from, works_ok, works_short}
 use Rattle.arena_core.proofs.BinnedLaws.{binned_is, binned_balances}
 use Rattle.arena_core.proofs.Lifting.{works_put, works_empties, shelf_part, fast_part}
-use Rattle.arena_core.proofs.Parts.{Passes, passes_here, passes_then, passes_behind, works_after, short_behind_works, step_ends, step_goes, backed_balances}
+use Rattle.arena_core.proofs.Parts.{Passes, passes_then, passes_behind, works_after, short_behind_works, step_ends, step_goes, backed_balances}
 
 -- ---- a look
 

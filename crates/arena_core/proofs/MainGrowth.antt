@@ -1,16 +1,13 @@
 -- Main grows by its break or by a piece, and what its old top leaves is released.
-use Rattle.std.proofs.Common.{◌≡◌, ℕ, ◌+◌, ◌-◌, ◌%◌, ◌<◌, ◌≤◌, suc, zero, Bool, true, false, ◌&&◌, cond, List, [], ◌∷◌, ◌++◌, Option, Some, None, IsTrue, Result, Ok, Err, refl, sym, ap, ◌∙◌, subst, arith}
-use Rattle.std.specs.Prelude.{nat_eq, nat_lt, if◌then◌else◌}
+use Rattle.std.proofs.Common.{◌≡◌, ℕ, ◌+◌, ◌≤◌, Bool, true, false, ◌&&◌, cond, List, Option, Some, None, IsTrue, Result, Ok, Err, refl, sym, ap, ◌∙◌, arith}
+use Rattle.std.specs.Prelude.{nat_eq, if◌then◌else◌}
 use Rattle.std.specs.Result.{IsErr}
 use Rattle.std.proofs.lemmas.Bool.{eq-eqb}
 use Rattle.std.proofs.lemmas.Bool.Decides.{nat_tests}
-use Rattle.chunk_tags.specs.BinOrder.{once}
 use Rattle.chunk_tags.specs.Sizes.{IsRequestSize}
-use Rattle.chunk_tags.specs.Tiles.{top_of}
 use Rattle.chunk_tags.specs.Tunables.{main_limit}
 use Rattle.chunk_tags.specs.declared.refusals.NoMemory.{NoMemory}
 use Rattle.chunk_tags.specs.declared.tiles.Chunk.{Chunk}
-use Rattle.chunk_tags.specs.declared.tiles.Tile.{Tile}
 use Rattle.chunk_tags.specs.declared.tunables.Tunables.{Tunables}
 use Rattle.address_space.specs.Spaces.{break_passes, piece_passes, main_start, piece_start}
 use Rattle.address_space.specs.declared.asks.Ask.{Ask}
@@ -19,24 +16,22 @@ use Rattle.address_space.specs.declared.asks.Answer.TheVariants.{Granted, Refuse
 use Rattle.address_space.specs.declared.space.Space.{Space}
 use Rattle.thread_cache.specs.Caches.{CacheValue}
 use Rattle.arena_rules.specs.declared.said.Said.{Said}
-use Rattle.arena_rules.specs.PlainArena.{Plain, IsSound, is_main, once_of, beside}
-use Rattle.arena_rules.specs.MainPlaces.{IsMainPlaced, IsPlaced}
+use Rattle.arena_rules.specs.PlainArena.{Plain, IsSound, is_main, once_of}
 use Rattle.arena_rules.specs.Moves.{top_size, left_of_top, with_top_size, with_moved_top}
-use Rattle.arena_rules.specs.Growth.{main_growth, piece_length, has_top_for, closing, break_rest, break_taken, piece_taken, piece_grown, main_grown, with_break, with_piece, is_top_at_break}
+use Rattle.arena_rules.specs.Growth.{piece_length, has_top_for, closing, break_rest, break_taken, piece_taken, piece_grown, with_break, with_piece, is_top_at_break}
 use Rattle.arena_rules.specs.Release.{released}
-use Rattle.arena_rules.specs.Rules.{Rules, Stop, behind, asks_for, windows_of, passes_window}
-use Rattle.arena_rules.specs.Walks.{Walks, Reaches}
+use Rattle.arena_rules.specs.Rules.{Rules, Stop, windows_of, passes_window}
 use Rattle.arena_rules.proofs.Beside.{beside_sized, beside_moved_top}
 use Rattle.arena_rules.proofs.MainPlaces.{IsGrowth, break_grown, piece_grown as piece_grown_by}
 use Rattle.arena_rules.proofs.Walks.{reaches_here}
-use Rattle.consolidate_trim.specs.Holds.{Chunks, no_chunk, one_chunk, IsBacked, GivesUp, hold}
-use Rattle.consolidate_trim.specs.Outside.{Means, Outside, ways}
-use Rattle.arena_core.specs.Asking.{IsReady, IsSearchable, AsksFor, Closes, Grows, answer_of, beside_arena, chunks_in}
-use Rattle.arena_core.specs.Ledgers.{Ledger, Stage, stage, Balances, Works, full}
-use Rattle.arena_core.proofs.Balance.{balances_here, balances_as, loses_from, works_ok, works_short}
-use Rattle.arena_core.proofs.Growing.{walks_windows, asked_passes, asked_short, IsGrowing, growth_is, piece_is}
+use Rattle.consolidate_trim.specs.Holds.{no_chunk, one_chunk, IsBacked, GivesUp, hold}
+use Rattle.consolidate_trim.specs.Outside.{Means, Outside}
+use Rattle.arena_core.specs.Asking.{IsReady, IsSearchable, AsksFor, Closes, Grows, beside_arena, chunks_in}
+use Rattle.arena_core.specs.Ledgers.{Stage, stage, Balances, full}
+use Rattle.arena_core.proofs.Balance.{balances_here, works_ok}
+use Rattle.arena_core.proofs.Growing.{walks_windows, asked_passes, asked_short, IsGrowing, piece_is}
 use Rattle.arena_core.proofs.Lifting.{works_carries}
-use Rattle.arena_core.proofs.Parts.{Passes, passes_here, passes_then, passes_as, passes_behind, works_after, short_behind_works, backed_balances}
+use Rattle.arena_core.proofs.Parts.{Passes, passes_then, passes_as, works_after, backed_balances}
 
 -- ---- a hold stays ready
 

@@ -1,16 +1,15 @@
 -- What asking for a mapping goes through.
-use Rattle.std.proofs.Common.{◌≡◌, ℕ, ◌+◌, ◌<◌, ◌≤◌, Bool, true, false, cond, List, [], ◌∷◌, ◌++◌, Option, Some, None, IfSome, IsTrue, Result, Ok, Err, refl, sym, ap, ◌∙◌, subst, arith}
-use Rattle.std.specs.Prelude.{nat_le, nat_lt, nat_eq, if◌then◌else◌}
+use Rattle.std.proofs.Common.{◌≡◌, ℕ, ◌<◌, ◌≤◌, Bool, true, false, cond, List, [], ◌∷◌, ◌++◌, Option, Some, None, Result, Ok, refl, sym, ap, subst, arith}
+use Rattle.std.specs.Prelude.{nat_le, nat_lt, if◌then◌else◌}
 use Rattle.std.specs.Result.{IsErr}
 use Rattle.std.proofs.lemmas.Bool.{eq-eqb}
 use Rattle.std.proofs.lemmas.Bool.Decides.{nat_tests}
 use Rattle.chunk_tags.specs.Pages.{mapping_length}
-use Rattle.chunk_tags.specs.BinOrder.{once}
 use Rattle.chunk_tags.specs.Dials.{Dial, MmapThreshold, MappedCount}
 use Rattle.chunk_tags.specs.declared.refusals.NoMemory.{NoMemory}
 use Rattle.chunk_tags.specs.declared.tiles.Chunk.{Chunk}
 use Rattle.chunk_tags.specs.declared.tunables.Tunables.{Tunables}
-use Rattle.address_space.specs.Spaces.{MapsWithin, IsNextPlace, map_passes, map_place, map_ask}
+use Rattle.address_space.specs.Spaces.{MapsWithin, map_passes, map_place}
 use Rattle.address_space.specs.declared.asks.Ask.TheVariants as asks
 use Rattle.address_space.specs.declared.asks.Answer.TheVariants.{Granted, Refused}
 use Rattle.address_space.specs.declared.space.Space.{Space}
@@ -22,16 +21,16 @@ use Rattle.arena_rules.specs.declared.said.Said.{Said}
 use Rattle.arena_rules.specs.declared.said.Said.TheVariants as told
 use Rattle.arena_rules.specs.PlainArena.{Plain, IsSound}
 use Rattle.arena_rules.specs.Growth.{mapping, maps_first}
-use Rattle.arena_rules.specs.Rules.{Rules, Stop, Does, Counts, Maps, Reads, Need, Deed, reads, flag_of, place_told, number_told, fits}
-use Rattle.arena_rules.specs.Walks.{Ways, Reaches}
-use Rattle.arena_rules.proofs.Walks.{reaches_here, reaches_then, reaches_told, reaches_done, short_here, short_then}
+use Rattle.arena_rules.specs.Rules.{Rules, Stop, Does, Counts, Maps, Reads, Need, reads, number_told, fits}
+use Rattle.arena_rules.specs.Walks.{Reaches}
+use Rattle.arena_rules.proofs.Walks.{reaches_then, reaches_told, reaches_done, short_here, short_then}
 use Rattle.consolidate_trim.specs.Holds.{no_chunk}
-use Rattle.consolidate_trim.specs.Outside.{Means, Outside, Apart, ways}
-use Rattle.arena_core.specs.Ledgers.{Ledger, Stage, stage, Balances, Works, full, word_ledger}
+use Rattle.consolidate_trim.specs.Outside.{Means, Apart}
+use Rattle.arena_core.specs.Ledgers.{stage, full, word_ledger}
 use Rattle.arena_core.specs.Asking.{AllowsMaps, AsksMapping, AsksWhether, beside_arena}
 use Rattle.arena_core.proofs.Balance.{balances_here, loses_from, works_ok, works_short}
-use Rattle.arena_core.proofs.Lifting.{Embeds, IsPart}
-use Rattle.arena_core.proofs.Parts.{Passes, passes_here, passes_then, works_after}
+use Rattle.arena_core.proofs.Lifting.{IsPart}
+use Rattle.arena_core.proofs.Parts.{Passes, passes_then}
 
 -- ---- words
 

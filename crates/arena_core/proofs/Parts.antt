@@ -1,21 +1,20 @@
 -- Laws of the parts of a body, one behind the other, for this crate and those above it.
-use Rattle.std.proofs.Common.{◌≡◌, ℕ, ◌+◌, ◌≤◌, List, Result, Ok, Err, refl, sym, ap, ◌∙◌, subst, arith}
+use Rattle.std.proofs.Common.{◌≡◌, ℕ, ◌+◌, List, Result, Ok, Err, subst, arith}
 use Rattle.std.specs.Result.{IsErr}
-use Rattle.chunk_tags.specs.declared.refusals.NoMemory.{NoMemory}
 use Rattle.chunk_tags.specs.declared.tiles.Chunk.{Chunk}
 use Rattle.chunk_tags.specs.declared.tunables.Tunables.{Tunables}
 use Rattle.fast_bins.specs.FastPorts.{Fast}
 use Rattle.arena_rules.specs.declared.said.Said.{Said}
-use Rattle.arena_rules.specs.PlainArena.{Plain, IsSound, times_used}
+use Rattle.arena_rules.specs.PlainArena.{Plain, IsSound}
 use Rattle.arena_rules.specs.Rules.{Rules, Stop, behind}
 use Rattle.arena_rules.specs.Walks.{Reaches, StopsShort}
 use Rattle.arena_rules.specs.Search as search
 use Rattle.arena_rules.specs.Search.{next_step}
 use Rattle.arena_rules.proofs.Walks.{reaches_here, reaches_then, reaches_behind, short_then, short_behind}
-use Rattle.consolidate_trim.specs.Holds.{Chunks, no_chunk, IsBacked, times_cached}
+use Rattle.consolidate_trim.specs.Holds.{Chunks, no_chunk, IsBacked}
 use Rattle.arena_core.specs.declared.step.Step as step_type
 use Rattle.arena_core.specs.declared.step.Step.TheVariants.{Taken, Onward}
-use Rattle.arena_core.specs.Ledgers.{Ledger, Stage, stage, Balances, Loses, Works}
+use Rattle.arena_core.specs.Ledgers.{Ledger, Stage, Balances, Works}
 use Rattle.arena_core.specs.Steps.{step_of, chunks_of}
 use Rattle.arena_core.proofs.Balance.{balances_here, balances_then, balances_as, loses_then}
 

@@ -1,7 +1,5 @@
 -- Laws of recorded holds, for this crate and those above it: the arena is still what its journal gives.
-use Rattle.std.proofs.Common.{◌≡◌, ℕ, ◌+◌, ◌%◌, ◌^◌, ◌≤◌, Bool, true, false, ◌&&◌, List, [], ◌∷◌, ◌++◌, Option, Some, None, IsTrue, Result, Ok, Err, refl, sym, ap, ◌∙◌, subst, inl, inr, arith}
-use Rattle.std.specs.Prelude.{◌⊎◌, nat_le, nat_eq}
-use Rattle.std.specs.Result.{IsErr}
+use Rattle.std.proofs.Common.{◌≡◌, ℕ, true, List, [], ◌∷◌, ◌++◌, Result, Ok, Err, sym, subst, inl, inr, arith}
 use Rattle.std.proofs.lemmas.Bool.Decides.{nat_tests}
 use Rattle.chunk_tags.specs.Sizes.{IsRequestSize}
 use Rattle.chunk_tags.specs.declared.refusals.NoMemory.{NoMemory}
@@ -10,14 +8,14 @@ use Rattle.address_space.specs.declared.space.Space.{Space}
 use Rattle.thread_cache.specs.Caches.{CacheValue}
 use Rattle.arena_rules.specs.declared.said.Said.{Said}
 use Rattle.arena_rules.specs.PlainArena.{Plain}
-use Rattle.arena_rules.specs.Rules.{Rules, Stop, Needs}
+use Rattle.arena_rules.specs.Rules.{Rules, Stop}
 use Rattle.arena_rules.specs.Growth.{Took}
 use Rattle.arena_rules.specs.Release.{given}
 use Rattle.arena_rules.specs.Search.{searched}
 use Rattle.arena_rules.specs.Walks.{Ways, Walks, Reaches}
 use Rattle.arena_rules.proofs.Walks.{ends_as_walked, left_as_walked, reaches_behind, short_behind}
 use Rattle.consolidate_trim.specs.Holds.{Chunks, no_chunk, one_chunk, GivesUp, hold}
-use Rattle.consolidate_trim.specs.Outside.{Means, Outside, ways}
+use Rattle.consolidate_trim.specs.Outside.{Means}
 use Rattle.arena_core.specs.declared.found.Found.{Found}
 use Rattle.arena_core.specs.declared.found.Found.TheVariants as finds
 use Rattle.arena_core.specs.declared.journal.Act.{Act}
@@ -29,7 +27,7 @@ use Rattle.arena_core.specs.Arenas.{Held, Records, RecordsShort, Takes, FailsSho
 use Rattle.arena_core.specs.Asking.{Finds, found_of, beside_arena}
 use Rattle.arena_core.specs.Journal.{Recorded}
 use Rattle.arena_core.specs.Ledgers.{stage}
-use Rattle.arena_core.specs.Replay.{IsReplay, rules_of, may_act, ended_of, is_request_size, chunk_at, found_nothing}
+use Rattle.arena_core.specs.Replay.{IsReplay, may_act, ended_of, is_request_size, chunk_at, found_nothing}
 use Rattle.arena_core.proofs.Lifting.{works_carries}
 use Rattle.arena_core.proofs.Replays.{replay_more, next_done, next_short}
 

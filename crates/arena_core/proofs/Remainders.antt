@@ -1,17 +1,15 @@
 -- The last remainder is an address beside all else of an arena.
-use Rattle.std.proofs.Common.{◌≡◌, ℕ, ◌+◌, ◌-◌, ◌<◌, ◌≤◌, Bool, true, false, cond, List, Option, Some, None, IsTrue, refl, sym, ap, ◌∙◌, subst}
+use Rattle.std.proofs.Common.{ℕ, ◌+◌, ◌-◌, ◌<◌, ◌≤◌, Bool, true, false, cond, List, Option, Some}
 use Rattle.std.specs.Prelude.{nat_lt}
 use Rattle.chunk_tags.specs.BinOrder.{once}
 use Rattle.chunk_tags.specs.declared.tiles.Chunk.{Chunk}
 use Rattle.chunk_tags.specs.Sizes.{IsChunkSize, is_small_size}
 use Rattle.arena_rules.specs.declared.said.Said.{Said}
-use Rattle.arena_rules.specs.PlainArena.{Plain, IsSound, IsListed, times_listed, beside}
-use Rattle.arena_rules.specs.MainPlaces.{IsMainPlaced, IsPlaced}
+use Rattle.arena_rules.specs.PlainArena.{Plain, IsSound, times_listed}
+use Rattle.arena_rules.specs.MainPlaces.{IsMainPlaced}
 use Rattle.arena_rules.specs.Search.{carved, carved_chunk, with_remainder}
-use Rattle.arena_rules.proofs.Moved.{Moved, none, nothing}
 use Rattle.arena_rules.proofs.Beside.{beside_carved}
 use Rattle.arena_rules.proofs.Carving.{carved_moved}
-use Rattle.arena_rules.proofs.MainPlaces.{placed_still}
 use Rattle.consolidate_trim.specs.Holds.{no_chunk}
 use Rattle.arena_core.specs.Ledgers.{Ledger, Stage, stage, Balances}
 use Rattle.arena_core.proofs.Balance.{balances_moved}

@@ -1,8 +1,7 @@
 -- The rounds of a search.
-use Rattle.std.proofs.Common.{◌≡◌, ℕ, ◌+◌, ◌≤◌, suc, zero, Bool, true, false, cond, List, [], ◌∷◌, ◌++◌, Option, Some, None, IsTrue, Result, Ok, Err, refl, sym, ap, ◌∙◌, subst, arith}
+use Rattle.std.proofs.Common.{◌≡◌, ℕ, suc, zero, Bool, true, false, List, [], ◌∷◌, ◌++◌, Result, Ok, Err, refl, sym, subst, arith}
 use Rattle.std.specs.Prelude.{if◌then◌else◌}
 use Rattle.std.specs.Result.{IsErr}
-use Rattle.chunk_tags.specs.BinOrder.{once}
 use Rattle.chunk_tags.specs.declared.refusals.NoMemory.{NoMemory}
 use Rattle.chunk_tags.specs.declared.tiles.Chunk.{Chunk}
 use Rattle.chunk_tags.specs.declared.tunables.Tunables.{Tunables}
@@ -14,30 +13,30 @@ use Rattle.mapped_chunks.specs.DialPorts as dial_steps
 use Rattle.mapped_chunks.specs.DialPorts.{Dialled}
 use Rattle.arena_rules.specs.declared.said.Said.{Said}
 use Rattle.arena_rules.specs.declared.said.Said.TheVariants as told
-use Rattle.arena_rules.specs.PlainArena.{Plain, IsSound}
+use Rattle.arena_rules.specs.PlainArena.{Plain}
 use Rattle.arena_rules.specs.Growth as growth
 use Rattle.arena_rules.specs.Growth.{system_asked}
 use Rattle.arena_rules.specs.Release.{consolidated}
 use Rattle.arena_rules.specs.Rules.{Rules, Stop, Need, Flagged, Pops, Owns, Rooms, Deed, Clears, Gathers, Pushes, Stashes, Draws, behind, asks_flag}
 use Rattle.arena_rules.specs.Search as search
 use Rattle.arena_rules.specs.Search.{looked, rounds, searched}
-use Rattle.arena_rules.specs.Walks.{Ways, Walks, here, idled, done, told as walked, Reaches}
-use Rattle.arena_rules.proofs.Walks.{reaches_here, reaches_then, short_here}
+use Rattle.arena_rules.specs.Walks.{Walks, here, idled, done, told as walked}
+use Rattle.arena_rules.proofs.Walks.{short_here}
 use Rattle.consolidate_trim.specs.FastHolds.{fast_hold, fast_ways, Empties, FastAnswers, FastDoes}
-use Rattle.consolidate_trim.specs.Holds.{Chunks, no_chunk, IsBacked}
+use Rattle.consolidate_trim.specs.Holds.{no_chunk}
 use Rattle.consolidate_trim.specs.Outside.{Means, Outside, Apart}
 use Rattle.arena_core.specs.declared.found.Found.{Found}
 use Rattle.arena_core.specs.declared.found.Found.TheVariants as finds
 use Rattle.arena_core.specs.declared.step.Step.{Step}
 use Rattle.arena_core.specs.declared.step.Step.TheVariants as steps
-use Rattle.arena_core.specs.Asking.{IsReady, AllowsMaps, Finds, took, chunks_found, beside_arena}
-use Rattle.arena_core.specs.Ledgers.{Ledger, Stage, stage, Works, Balances, shelf, Near, near, near_ledger, fast_ledger, full, NearGoes, NearDoes}
+use Rattle.arena_core.specs.Asking.{IsReady, AllowsMaps, Finds, beside_arena}
+use Rattle.arena_core.specs.Ledgers.{Stage, stage, Works, shelf, Near, near_ledger, fast_ledger, full, NearGoes, NearDoes}
 use Rattle.arena_core.specs.Steps.{Steps, step_of, chunks_of, begun}
-use Rattle.arena_core.proofs.Balance.{balances_as, works_ok, works_short, loses_from, balances_here}
+use Rattle.arena_core.proofs.Balance.{works_ok, works_short, loses_from, balances_here}
 use Rattle.arena_core.proofs.Lifting.{works_put, works_empties, shelf_part, fast_part, near_part}
 use Rattle.arena_core.proofs.Looks.{flag_reaches, flag_balances}
 use Rattle.arena_core.proofs.MainGrowth.{ready_after}
-use Rattle.arena_core.proofs.Parts.{Passes, passes_here, passes_then, passes_as, passes_behind, works_after, short_behind_works}
+use Rattle.arena_core.proofs.Parts.{Passes, passes_then, passes_as, passes_behind, works_after, short_behind_works}
 
 -- ---- what may be counted stays so
 

@@ -1,35 +1,34 @@
 -- What a scan of the unsorted chunks has gone through.
-use Rattle.std.proofs.Common.{◌≡◌, ℕ, ◌+◌, ◌-◌, ◌<◌, ◌≤◌, suc, zero, Bool, true, false, ◌&&◌, cond, List, [], ◌∷◌, ◌++◌, length, reverse, drop, Option, Some, None, Result, Ok, Err, IfSome, IsTrue, refl, sym, ap, ◌∙◌, subst, arith}
+use Rattle.std.proofs.Common.{◌≡◌, ℕ, ◌+◌, ◌<◌, ◌≤◌, Bool, true, false, ◌&&◌, cond, List, [], ◌∷◌, ◌++◌, length, reverse, drop, Option, Some, None, Result, Ok, IfSome, IsTrue, refl, sym, ap, ◌∙◌, subst, arith}
 use Rattle.std.specs.Prelude.{nat_eq, nat_lt, slice_get, if◌then◌else◌}
 use Rattle.std.specs.Result.{IsErr}
-use Rattle.std.proofs.lemmas.Bool.{ltb-true, eqb-true, eq-eqb, and_parts}
+use Rattle.std.proofs.lemmas.Bool.{ltb-true, eq-eqb, and_parts}
 use Rattle.std.proofs.lemmas.Bool.Decides.{nat_tests}
 use Rattle.std.proofs.lemmas.List.{length-reverse}
-use Rattle.chunk_tags.specs.BinOrder.{oldest_of, times_in, without, once}
+use Rattle.chunk_tags.specs.BinOrder.{oldest_of, without, once}
 use Rattle.chunk_tags.specs.declared.refusals.NoMemory.{NoMemory}
 use Rattle.chunk_tags.specs.declared.tiles.Chunk.{Chunk}
 use Rattle.chunk_tags.specs.declared.tunables.Tunables.{Tunables}
 use Rattle.chunk_tags.specs.Sizes.{IsChunkSize, is_small_size, max_cached, cache_index_of}
-use Rattle.thread_cache.specs.Caches.{CacheValue, has_room, list_of, newest, with_newest, without_newest}
+use Rattle.thread_cache.specs.Caches.{CacheValue, has_room, newest, with_newest}
 use Rattle.thread_cache.specs.Held.{IsSound as IsSoundCache}
-use Rattle.arena_rules.specs.declared.said.Said.{Said}
 use Rattle.arena_rules.specs.declared.said.Said.TheVariants as told
 use Rattle.arena_rules.specs.PlainArena.{Plain, IsSound, times_listed, unsorted_of}
 use Rattle.arena_rules.specs.Moves.{claimed}
 use Rattle.arena_rules.specs.Rules.{Rules, Stop, Does, Stashes, asks_room, block_of}
 use Rattle.arena_rules.specs.Walks.{Reaches}
-use Rattle.arena_rules.specs.Search.{Step, Taken, Onward, carved, carved_chunk, with_remainder, sorted_in, splits_remainder, scan_end, scanned, scanned_all}
+use Rattle.arena_rules.specs.Search.{Step, Taken, carved, carved_chunk, with_remainder, sorted_in, splits_remainder, scan_end, scanned, scanned_all}
 use Rattle.arena_rules.proofs.Beside.{beside_sorted}
 use Rattle.arena_rules.proofs.ChunkMoves.{IsClaimed, claimed_moved}
 use Rattle.arena_rules.proofs.Moved.{none}
-use Rattle.arena_rules.proofs.Sorting.{IsSorted, sorted_moved, IsNext, next_unsorted, unsorted_claimed, oldest_first}
+use Rattle.arena_rules.proofs.Sorting.{sorted_moved, IsNext, next_unsorted, unsorted_claimed, oldest_first}
 use Rattle.arena_rules.proofs.Walks.{reaches_here, reaches_then, short_here, short_then}
 use Rattle.consolidate_trim.specs.Holds.{no_chunk, times_cached}
 use Rattle.arena_core.specs.declared.step.Step as step_type
 use Rattle.arena_core.specs.declared.step.Step.TheVariants as steps
 use Rattle.arena_core.specs.Ledgers.{shelf, Stage, stage, Balances}
-use Rattle.arena_core.specs.Steps.{Steps, step_of, is_remainder, drawn, cache_drawn}
-use Rattle.arena_core.proofs.Balance.{balances_here, balances_moved, balances_then, balances_as, loses_from, restage, works_ok, works_short}
+use Rattle.arena_core.specs.Steps.{Steps, is_remainder, drawn, cache_drawn}
+use Rattle.arena_core.proofs.Balance.{balances_here, balances_moved, balances_then, balances_as, loses_from, works_ok, works_short}
 use Rattle.arena_core.proofs.Remainders.{carve_balances}
 use Rattle.arena_core.proofs.Shelving.{room_reaches, stash_reaches, draw_reaches, IsStashed, is_stashed, is_drawn}
 use Rattle.arena_core.proofs.SmallBins.{stash_balances}

@@ -1,14 +1,14 @@
 -- What goes into the caller's cache and comes out of it in a hold.
-use Rattle.std.proofs.Common.{◌≡◌, ℕ, ◌+◌, ◌<◌, ◌≤◌, Bool, true, false, ◌&&◌, cond, List, [], ◌∷◌, ◌++◌, length, get_or, Option, Some, None, IfSome, IsTrue, refl, sym, ap, ◌∙◌, arith}
-use Rattle.std.specs.Prelude.{nat_eq, sum_by, count_by}
-use Rattle.std.proofs.lemmas.Bool.{and_parts, and_from, eq-eqb}
+use Rattle.std.proofs.Common.{◌≡◌, ℕ, ◌+◌, ◌<◌, Bool, true, false, ◌&&◌, cond, List, [], ◌∷◌, ◌++◌, length, get_or, Some, None, IfSome, IsTrue, refl, arith}
+use Rattle.std.specs.Prelude.{nat_eq}
+use Rattle.std.proofs.lemmas.Bool.{and_from, eq-eqb}
 use Rattle.std.proofs.lemmas.List.{get_or-set_same}
 use Rattle.chunk_tags.specs.Sizes.{IsChunkSize, cache_index_of}
 use Rattle.chunk_tags.specs.BinOrder.{same_chunk, once}
 use Rattle.chunk_tags.specs.declared.tiles.Chunk.{Chunk}
 use Rattle.chunk_tags.specs.declared.block.Block.{Block}
 use Rattle.chunk_tags.specs.declared.tunables.Tunables.{Tunables}
-use Rattle.thread_cache.specs.Caches.{CacheValue, Opened, has_room, list_of, newest, with_newest, without_newest, blocks_of}
+use Rattle.thread_cache.specs.Caches.{CacheValue, has_room, list_of, newest, with_newest, without_newest}
 use Rattle.thread_cache.specs.Held.{IsSound as IsSoundCache}
 use Rattle.thread_cache.proofs.CacheLaws.{HasRoomAt, room_at, Took, put, Gave, got}
 use Rattle.arena_rules.specs.declared.said.Said.{Said}

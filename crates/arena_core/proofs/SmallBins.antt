@@ -1,9 +1,9 @@
 -- What the chunks of a small bin go through that are put into the cache.
-use Rattle.std.proofs.Common.{◌≡◌, ℕ, ◌+◌, ◌-◌, ◌*◌, ◌/◌, ◌%◌, ◌<◌, ◌≤◌, suc, zero, Bool, true, false, cond, List, [], ◌∷◌, ◌++◌, length, Option, Some, None, Result, Ok, Err, IfSome, IsTrue, refl, sym, ap, ◌∙◌, subst, arith}
-use Rattle.std.specs.Prelude.{nat_lt, if◌then◌else◌}
+use Rattle.std.proofs.Common.{◌≡◌, ℕ, ◌+◌, ◌-◌, ◌<◌, ◌≤◌, suc, zero, Bool, true, false, List, [], ◌∷◌, ◌++◌, length, Option, Some, None, Result, Ok, Err, IfSome, IsTrue, refl, sym, ap, subst, arith}
+use Rattle.std.specs.Prelude.{if◌then◌else◌}
 use Rattle.std.specs.Result.{IsErr}
 use Rattle.std.proofs.lemmas.Bool.Decides.{nat_tests}
-use Rattle.chunk_tags.specs.Sizes.{IsChunkSize, cache_index_of, small_index_of, large_index_of, bin_of, is_small_size}
+use Rattle.chunk_tags.specs.Sizes.{IsChunkSize, cache_index_of, small_index_of, bin_of, is_small_size}
 use Rattle.chunk_tags.specs.BinOrder.{oldest_of, once}
 use Rattle.chunk_tags.specs.declared.refusals.NoMemory.{NoMemory}
 use Rattle.chunk_tags.specs.declared.tiles.Chunk.{Chunk}
@@ -14,15 +14,15 @@ use Rattle.arena_rules.specs.declared.said.Said.{Said}
 use Rattle.arena_rules.specs.declared.said.Said.TheVariants as told
 use Rattle.arena_rules.specs.PlainArena.{Plain, IsSound, bin_at, times_listed, BelongsIn}
 use Rattle.arena_rules.specs.Moves.{claimed}
-use Rattle.arena_rules.specs.Rules.{Rules, Stop, Misfit, Does, Stashes, asks_room, block_of}
+use Rattle.arena_rules.specs.Rules.{Rules, Stop, Does, Stashes, block_of}
 use Rattle.arena_rules.specs.Walks.{Reaches}
 use Rattle.arena_rules.specs.Search.{Step, Taken, Onward, small_taken, stashing_small, most_stashed}
 use Rattle.arena_rules.proofs.Moved.{Moved, none, nothing}
 use Rattle.arena_rules.proofs.MainPlaces.{placed_still}
-use Rattle.arena_rules.proofs.ChunkMoves.{IsClaimed, claimed_moved}
+use Rattle.arena_rules.proofs.ChunkMoves.{claimed_moved}
 use Rattle.arena_rules.proofs.Carving.{oldest_in_bin}
 use Rattle.arena_rules.proofs.Walks.{reaches_here, reaches_then, short_here, short_then}
-use Rattle.consolidate_trim.specs.Holds.{no_chunk, times_cached}
+use Rattle.consolidate_trim.specs.Holds.{no_chunk}
 use Rattle.arena_core.specs.Ledgers.{shelf, Stage, stage, Balances}
 use Rattle.arena_core.specs.declared.step.Step as steps_type
 use Rattle.arena_core.specs.declared.step.Step.TheVariants as steps

@@ -1,8 +1,7 @@
 -- The system is asked: for a mapping, or the arena grows.
-use Rattle.std.proofs.Common.{◌≡◌, ℕ, ◌+◌, ◌≤◌, Bool, true, false, cond, List, Option, Some, None, IsTrue, Result, Ok, Err, refl, sym, ap, ◌∙◌, subst, arith}
+use Rattle.std.proofs.Common.{ℕ, Bool, true, false, List, Option, Some, None, Result, Ok, Err, refl}
 use Rattle.std.specs.Prelude.{if◌then◌else◌}
 use Rattle.std.specs.Result.{IsErr}
-use Rattle.chunk_tags.specs.BinOrder.{once}
 use Rattle.chunk_tags.specs.declared.refusals.NoMemory.{NoMemory}
 use Rattle.chunk_tags.specs.declared.tiles.Chunk.{Chunk}
 use Rattle.chunk_tags.specs.declared.tunables.Tunables.{Tunables}
@@ -12,14 +11,14 @@ use Rattle.arena_rules.specs.declared.said.Said.{Said}
 use Rattle.arena_rules.specs.PlainArena.{Plain, IsSound}
 use Rattle.arena_rules.specs.Growth as growth
 use Rattle.arena_rules.specs.Growth.{mapping, maps_first, maps_else, grown, system_asked}
-use Rattle.arena_rules.specs.Rules.{Rules, Stop, behind}
-use Rattle.consolidate_trim.specs.Holds.{Chunks, no_chunk}
+use Rattle.arena_rules.specs.Rules.{Rules, Stop}
+use Rattle.consolidate_trim.specs.Holds.{no_chunk}
 use Rattle.consolidate_trim.specs.Outside.{Means, Outside}
 use Rattle.arena_core.specs.declared.found.Found.{Found}
 use Rattle.arena_core.specs.declared.found.Found.TheVariants as finds
 use Rattle.arena_core.specs.Asking.{IsReady, AsksMapping, AsksWhether, Finds, AllowsMaps, beside_arena}
-use Rattle.arena_core.specs.Ledgers.{Stage, stage, Works, full, word_ledger}
-use Rattle.arena_core.proofs.Balance.{balances_as, works_ok, works_short}
+use Rattle.arena_core.specs.Ledgers.{Stage, stage, full}
+use Rattle.arena_core.proofs.Balance.{works_ok}
 use Rattle.arena_core.proofs.Lifting.{works_put}
 use Rattle.arena_core.proofs.MainGrowth.{ready_after}
 use Rattle.arena_core.proofs.Mappings.{word_part}

@@ -1,5 +1,5 @@
 -- What a hold of an arena is recorded as (this project's own).
-use Rattle.std.specs.Prelude.{◌≡◌, ℕ, Bool, true, false, List, [], ◌∷◌, ◌++◌, Option, Some, None, ◌⊎◌}
+use Rattle.std.specs.Prelude.{◌≡◌, ℕ, List, [], ◌∷◌, ◌++◌, Option, Some, None, ◌⊎◌}
 use Rattle.chunk_tags.specs.declared.block.Block.{Block}
 use Rattle.chunk_tags.specs.declared.tiles.Chunk.{Chunk}
 use Rattle.chunk_tags.specs.declared.tunables.Tunables.{Tunables}
@@ -7,7 +7,6 @@ use Rattle.thread_cache.specs.Caches.{CacheValue}
 use Rattle.address_space.specs.declared.space.Space.{Space}
 use Rattle.arena_rules.specs.declared.said.Said.{Said}
 use Rattle.arena_rules.specs.PlainArena.{Plain}
-use Rattle.arena_rules.specs.Growth as growth
 use Rattle.arena_rules.specs.Rules.{Stop, block_of}
 use Rattle.arena_rules.specs.Walks.{Reaches, StopsShort}
 use Rattle.consolidate_trim.specs.Holds.{Chunks, no_chunk, one_chunk}
@@ -23,7 +22,7 @@ use Rattle.arena_core.specs.declared.take.Take.{Take}
 use Rattle.arena_core.specs.declared.take.Take.TheVariants as takes
 use Rattle.arena_core.specs.Asking.{found_of, chunks_found, beside_arena}
 use Rattle.arena_core.specs.Journal.{Recorded}
-use Rattle.arena_core.specs.Ledgers.{Stage, stage, Balances, Loses, full}
+use Rattle.arena_core.specs.Ledgers.{stage, Balances, Loses, full}
 use Rattle.arena_core.specs.Replay.{rules_of, ended_of, chunk_at}
 
 abbrev pub recorded : Who → Act → List Said → Ended → Recorded

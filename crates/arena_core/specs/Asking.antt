@@ -1,5 +1,5 @@
 -- What a search meets that asks the system, and what its parts promise (this project's own).
-use Rattle.std.specs.Prelude.{◌≡◌, ℕ, ◌^◌, ◌<◌, ◌≤◌, Bool, true, false, IsTrue, Option, Some, None, List, Result, IfOk, OnErr, [], ◌∷◌, ◌++◌, if◌then◌else◌}
+use Rattle.std.specs.Prelude.{◌≡◌, ℕ, ◌^◌, ◌<◌, ◌≤◌, Bool, true, false, IsTrue, Option, List, Result, IfOk, OnErr, [], ◌∷◌, ◌++◌}
 use Rattle.chunk_tags.specs.BinOrder.{once}
 use Rattle.chunk_tags.specs.declared.refusals.NoMemory.{NoMemory}
 use Rattle.chunk_tags.specs.declared.tiles.Chunk.{Chunk}

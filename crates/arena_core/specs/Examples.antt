@@ -1,9 +1,8 @@
 -- Words for worked examples (this project's own).
-use Rattle.std.specs.Prelude.{ℕ, false, List, [], ◌∷◌, Option, Some, None}
+use Rattle.std.specs.Prelude.{ℕ, false, List, Option, Some, None}
 use Rattle.chunk_tags.specs.Tunables.{serial_values}
-use Rattle.arena_rules.specs.PlainArena.{Plain, empty_main, unsorted_of}
+use Rattle.arena_rules.specs.PlainArena.{Plain, empty_main}
 use Rattle.arena_rules.specs.declared.said.Said.{Said}
-use Rattle.arena_core.specs.declared.journal.Act.{Act}
 use Rattle.arena_core.specs.declared.journal.Act.TheVariants.{Take, Give}
 use Rattle.arena_core.specs.declared.journal.Ended.TheVariants.{Got, Done}
 use Rattle.arena_core.specs.Journal.{Recorded}

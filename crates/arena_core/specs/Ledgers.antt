@@ -1,7 +1,7 @@
 -- What a body of the rules promises, whatever stands beside its arena: it goes through the rules, and the chunks are
 -- accounted for (this project's own). A body that needs the caller's cache alone promises it over the cache, one that
 -- needs the fast bins too over both; what holds there holds beside all the rest of a hold.
-use Rattle.std.specs.Prelude.{◌≡◌, ℕ, ◌+◌, ◌≤◌, Bool, List, Option, Some, None, Result, IfOk, OnErr}
+use Rattle.std.specs.Prelude.{◌≡◌, ℕ, ◌+◌, ◌≤◌, Bool, List, None, Result, IfOk, OnErr}
 use Rattle.chunk_tags.specs.Sizes.{cache_index_of}
 use Rattle.chunk_tags.specs.declared.tiles.Chunk.{Chunk}
 use Rattle.chunk_tags.specs.declared.tunables.Tunables.{Tunables}

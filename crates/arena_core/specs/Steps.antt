@@ -1,5 +1,5 @@
 -- What a step of the search promises (this project's own).
-use Rattle.std.specs.Prelude.{◌≡◌, ℕ, ◌+◌, Bool, false, ◌&&◌, nat_eq, nat_lt, length, Result, Option, Some, None, List, drop, if◌then◌else◌}
+use Rattle.std.specs.Prelude.{ℕ, ◌+◌, Bool, false, ◌&&◌, nat_eq, nat_lt, length, Result, Option, Some, None, drop, if◌then◌else◌}
 use Rattle.chunk_tags.specs.BinOrder.{best_of, once}
 use Rattle.chunk_tags.specs.Sizes.{is_small_size, large_index_of, bin_of, cache_index_of, fast_index_of}
 use Rattle.chunk_tags.specs.declared.refusals.NoMemory.{NoMemory}

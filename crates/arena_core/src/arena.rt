@@ -2,6 +2,8 @@
 
 ghost use Rattle.std.specs.Prelude.{◌≡◌, ℕ, ◌<◌, [], ◌∷◌, ◌++◌, IsTrue, IfOk, IfErr, OnOk, OnErr, None, Some, vec_len, vec_capacity};
 ghost use Rattle.chunk_tags.specs.Sizes.{IsRequestSize};
+ghost use Rattle.address_space.specs.Ports.{Rose};
+ghost use Rattle.address_space.specs.Spaces.{space_refusals};
 ghost use Rattle.thread_cache.specs.Caches.{CacheValue};
 ghost use Rattle.arena_rules.specs.PlainArena.{Plain, is_main};
 ghost use Rattle.consolidate_trim.specs.Holds.{IsBacked, no_chunk, one_chunk};
@@ -117,6 +119,10 @@ impl<M: Moves> Arena<M> {
             (FailsShort (means P.fast P.dials K.port) t.now who (acts.Take nb)
             (held (M.plain self.old.ground) port.old cache.old space.old self.old.journal.items)
             no_chunk (held (M.plain self.new.ground) port.new cache.new space.new self.new.journal.items)) }
+
+        // Nothing is taken only where the system refused an ask.
+        ensures refused { IfOk result (λ take. take ≡ Take.Refused
+            → Rose (space_refusals K.port space.old) (space_refusals K.port space.new)) }
 
         // The arena is still what the replay of its journal gives.
         ensures replay { (start : Plain) → IsReplay t.now start self.old.journal.items (M.plain self.old.ground)

@@ -1,7 +1,9 @@
 //! The search for a chunk in an arena.
 
-ghost use Rattle.std.specs.Prelude.{◌≡◌};
+ghost use Rattle.std.specs.Prelude.{◌≡◌, IfOk};
 ghost use Rattle.chunk_tags.specs.Sizes.{IsRequestSize};
+ghost use Rattle.address_space.specs.Ports.{Rose};
+ghost use Rattle.address_space.specs.Spaces.{space_refusals};
 ghost use Rattle.arena_rules.specs.Search.{rounds, searched};
 ghost use Rattle.consolidate_trim.specs.Outside.{Apart, means};
 ghost use Rattle.arena_core.specs.Ledgers.{stage};
@@ -41,9 +43,11 @@ fn go_round<M: Moves, K: Kernel, P: FastPort + Dials>(
     requires apart { Apart P.fast P.dials }
     requires tuned { IsSearchable t.now }
     requires size { IsRequestSize nb }
-    ensures { Finds (means P.fast P.dials K.port) t.now (rounds again t.now nb (M.plain g.old))
+    ensures finds { Finds (means P.fast P.dials K.port) t.now (rounds again t.now nb (M.plain g.old))
         (stage (M.plain g.old) (beside_arena port.old cache.old space.old) said.old.items)
         result (stage (M.plain g.new) (beside_arena port.new cache.new space.new) said.new.items) }
+    ensures refused { IfOk result (λ found. found ≡ Found.Nowhere
+        → Rose (space_refusals K.port space.old) (space_refusals K.port space.new)) }
 {
     match look(g, nb, cache, said)? {
         Step::Taken(c) => Ok(Found::InArena(c)),
@@ -60,7 +64,7 @@ fn go_round<M: Moves, K: Kernel, P: FastPort + Dials>(
     }
 }
 
-/// Searches an arena for a chunk of `nb` bytes (glibc's `_int_malloc`).
+/// Searches an arena for a chunk of `nb` bytes (glibc's `_int_malloc`). Nothing is found only where an ask was refused.
 pub fn search<M: Moves, K: Kernel, P: FastPort + Dials>(
     g: &mut M,
     nb: Size,
@@ -76,9 +80,11 @@ pub fn search<M: Moves, K: Kernel, P: FastPort + Dials>(
     requires apart { Apart P.fast P.dials }
     requires tuned { IsSearchable t.now }
     requires size { IsRequestSize nb }
-    ensures { Finds (means P.fast P.dials K.port) t.now (searched t.now nb (M.plain g.old))
+    ensures finds { Finds (means P.fast P.dials K.port) t.now (searched t.now nb (M.plain g.old))
         (stage (M.plain g.old) (beside_arena port.old cache.old space.old) said.old.items)
         result (stage (M.plain g.new) (beside_arena port.new cache.new space.new) said.new.items) }
+    ensures refused { IfOk result (λ found. found ≡ Found.Nowhere
+        → Rose (space_refusals K.port space.old) (space_refusals K.port space.new)) }
 {
     match begin(g, nb, cache, port, t, said)? {
         Step::Taken(c) => Ok(Found::InArena(c)),

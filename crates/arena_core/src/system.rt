@@ -1,7 +1,9 @@
 //! The system is asked.
 
-ghost use Rattle.std.specs.Prelude.{◌≡◌, true, false};
+ghost use Rattle.std.specs.Prelude.{◌≡◌, true, false, IfOk};
 ghost use Rattle.chunk_tags.specs.Sizes.{IsRequestSize};
+ghost use Rattle.address_space.specs.Ports.{Rose};
+ghost use Rattle.address_space.specs.Spaces.{space_refusals};
 ghost use Rattle.arena_rules.specs.Growth.{has_top_for, grown, maps_else, system_asked};
 ghost use Rattle.consolidate_trim.specs.Outside.{Apart, means};
 ghost use Rattle.arena_core.specs.Ledgers.{stage};
@@ -46,7 +48,7 @@ fn map_or_grow<M: Moves, K: Kernel, P: FastPort + Dials>(
 }
 
 /// Asks the system for `nb` bytes: for a mapping first, where the size reaches the threshold and there aren't too many; else,
-/// and where that is refused, main grows (glibc's `sysmalloc`).
+/// and where that is refused, main grows (glibc's `sysmalloc`). Nothing is found only where an ask was refused.
 pub fn ask_system<M: Moves, K: Kernel, P: FastPort + Dials>(
     g: &mut M,
     nb: Size,
@@ -63,9 +65,11 @@ pub fn ask_system<M: Moves, K: Kernel, P: FastPort + Dials>(
     requires tuned { IsSearchable t.now }
     requires size { IsRequestSize nb }
     requires short { has_top_for (M.plain g.old) nb ≡ false }
-    ensures { Finds (means P.fast P.dials K.port) t.now (system_asked t.now nb (M.plain g.old))
+    ensures finds { Finds (means P.fast P.dials K.port) t.now (system_asked t.now nb (M.plain g.old))
         (stage (M.plain g.old) (beside_arena port.old cache.old space.old) said.old.items)
         result (stage (M.plain g.new) (beside_arena port.new cache.new space.new) said.new.items) }
+    ensures refused { IfOk result (λ found. found ≡ Found.Nowhere
+        → Rose (space_refusals K.port space.old) (space_refusals K.port space.new)) }
 {
     if maps_first(nb, port, t, said)? {
         return map_or_grow(g, nb, cache, port, space, t, said);

@@ -1,4 +1,4 @@
-use Rattle.std.proofs.Common.{◌≡◌, true, false, rules, arith}
+use Rattle.std.proofs.Common.{◌≡◌, true, false, rules}
 use Rattle.chunk_tags.specs.Sizes.{is_small_size}
 use Rattle.arena_core.proofs.Looks.{sweep_small, sweep_short, sweep_none, sweep_all}
 use Rattle.arena_core.proofs.begin.consolidate_first.Goals as goal

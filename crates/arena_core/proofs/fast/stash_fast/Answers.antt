@@ -1,5 +1,4 @@
-use Rattle.std.proofs.Common.{◌≡◌, true, false, sym, ◌∙◌, arith, rules}
-use Rattle.arena_core.specs.Ledgers.{near}
+use Rattle.std.proofs.Common.{◌≡◌, true, false, sym, ◌∙◌, rules}
 use Rattle.arena_core.proofs.FastBins.{stashing_starts, stashing_more, more_short, stashing_short, stashing_short_of_pop, stashing_full, stashing_empty}
 use Rattle.arena_core.proofs.fast.stash_fast.Goals as goal
 

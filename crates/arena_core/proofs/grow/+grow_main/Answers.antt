@@ -1,4 +1,4 @@
-use Rattle.std.proofs.Common.{◌≡◌, ◌-◌, suc, true, false, refl, sym, ◌∙◌, arith, rules}
+use Rattle.std.proofs.Common.{◌≡◌, ◌-◌, suc, true, false, sym, ◌∙◌, arith, rules}
 use Rattle.arena_core.proofs.BreakTurns.{at_turns, turns_out, break_short, break_refused, refused_ready, break_ready, close_short, closed_enough, closed_again, again_ready}
 use Rattle.arena_core.proofs.grow.+grow_main.Goals as goal
 

@@ -1,4 +1,4 @@
-use Rattle.std.proofs.Common.{◌≡◌, true, false, refl, sym, ◌∙◌, arith, rules}
+use Rattle.std.proofs.Common.{◌≡◌, false, rules}
 use Rattle.arena_core.proofs.MainGrowth.{piece_short, piece_refused, piece_ready, piece_closed}
 use Rattle.arena_core.proofs.grow.grow_piece.Goals as goal
 

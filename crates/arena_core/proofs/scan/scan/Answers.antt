@@ -1,11 +1,10 @@
-use Rattle.std.proofs.Common.{◌≡◌, ◌+◌, true, false, sym, ◌∙◌, refl, ap, arith, rules, Some, None}
+use Rattle.std.proofs.Common.{◌≡◌, ◌+◌, true, false, sym, ◌∙◌, arith, rules}
 use Rattle.std.specs.Prelude.{nat_eq}
 use Rattle.std.proofs.lemmas.Bool.Decides.{nat_tests}
 use Rattle.arena_rules.proofs.Sorting.{sorted_moved, unsorted_claimed}
 use Rattle.arena_rules.specs.Moves.{claimed}
 use Rattle.arena_rules.specs.Search.{sorted_in}
-use Rattle.arena_core.specs.Steps.{is_remainder}
-use Rattle.arena_core.proofs.Scanning.{IsOldest, is_oldest, fewer_unsorted, remainder_fits, scanning_starts, scan_splits, scan_short, scan_takes, scan_stashes, scan_sorts, scan_ends, scan_enough, last_cached}
+use Rattle.arena_core.proofs.Scanning.{IsOldest, is_oldest, fewer_unsorted, scanning_starts, scan_splits, scan_short, scan_takes, scan_stashes, scan_sorts, scan_ends, scan_enough, last_cached}
 use Rattle.arena_core.proofs.scan.scan.Goals as goal
 
 pub scanning-init : goal.scanning-init

@@ -1,5 +1,5 @@
 use Rattle.std.proofs.Common.{sym, ◌∙◌}
-use Rattle.arena_core.proofs.SmallBins.{IsOldestSmall, oldest_small, stashing_starts, stashing_more, more_short, stashing_short, stashing_full, stashing_empty}
+use Rattle.arena_core.proofs.SmallBins.{oldest_small, stashing_starts, stashing_more, more_short, stashing_short, stashing_full, stashing_empty}
 use Rattle.arena_core.proofs.small.stash_small.Goals as goal
 
 pub stashing-init : goal.stashing-init

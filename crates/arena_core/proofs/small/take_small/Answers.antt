@@ -1,4 +1,4 @@
-use Rattle.std.proofs.Common.{◌≡◌, true, false, refl, sym, ◌∙◌, arith, IsTrue}
+use Rattle.std.proofs.Common.{◌≡◌, false, sym, ◌∙◌, arith, IsTrue}
 use Rattle.chunk_tags.specs.Sizes.{is_small_size, small_index_of}
 use Rattle.arena_rules.proofs.Carving.{oldest_in_bin}
 use Rattle.arena_rules.proofs.ChunkMoves.{claimed_moved}

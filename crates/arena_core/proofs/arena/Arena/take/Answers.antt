@@ -1,28 +1,23 @@
-use Rattle.std.proofs.Common.{◌≡◌, ◌∙◌, ◌∷◌, ◌++◌, [], inr, ap, sym}
-use Rattle.arena_core.specs.declared.journal.Act.TheVariants as acts
-use Rattle.arena_core.specs.declared.journal.Ended.TheVariants.{Short}
-use Rattle.arena_core.specs.Arenas.{recorded, take_of}
-use Rattle.arena_core.specs.Asking.{found_of}
-use Rattle.arena_core.specs.Replay.{ended_of}
+use Rattle.std.proofs.Common.{inr}
 use Rattle.arena_core.proofs.Recording.{takes, takes_short, records_replay, short_replay, request_size}
 use Rattle.arena_core.proofs.arena.Arena.take.Goals as goal
 
 pub returns-in-Ok-clause-taken : goal.returns-in-Ok-clause-taken
 returns-in-Ok-clause-taken g c =
-    let found = rw c.new-said.ensures.items at c.in-Ok.ensures in
+    let found = rw c.new-said.ensures.items at c.in-Ok.ensures.finds in
     let added = rw (c.in_ok-make_room.ensures.answers, c.ended_by.ensures c.args.nb) at c.append.ensures in
     let is = rw c.number.ensures at c.take_found.ensures in
     takes _ c.args.t.now c.args.who c.args.nb _ _ _ _ _ _ _ _ _ _ _ c.in-Ok.found c.take_found.result found added is
 
 pub returns-in-Ok-clause-replay : goal.returns-in-Ok-clause-replay
 returns-in-Ok-clause-replay g c = λ start old.
-    let found = rw c.new-said.ensures.items at c.in-Ok.ensures in
+    let found = rw c.new-said.ensures.items at c.in-Ok.ensures.finds in
     let added = rw (c.in_ok-make_room.ensures.answers, c.ended_by.ensures c.args.nb) at c.append.ensures in
     let is = rw c.number.ensures at c.take_found.ensures in
     records_replay start (request_size c.args.nb c.requires.size) (takes _ c.args.t.now c.args.who c.args.nb _ _ _ _ _ _ _ _ _ _ _ c.in-Ok.found c.take_found.result found added is).records old
 
 pub returns-in-Err-clause-replay : goal.returns-in-Err-clause-replay
 returns-in-Err-clause-replay g c = λ start old.
-    let found = rw c.new-said.ensures.items at c.in-Err.ensures in
+    let found = rw c.new-said.ensures.items at c.in-Err.ensures.finds in
     let added = rw c.in_ok-make_room.ensures.answers at c.append-in-Err.ensures in
     short_replay start (request_size c.args.nb c.requires.size) (inr (takes_short _ c.args.t.now c.args.who c.args.nb _ _ _ _ _ _ _ _ _ _ _ c.in-Err.field-0 found added)) old
