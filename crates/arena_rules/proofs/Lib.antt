@@ -9,6 +9,7 @@ pub mod Entries
 pub mod Heaps
 pub mod Lookups
 pub mod MainPlaces
+pub mod Mapped
 pub mod Merging
 pub mod Moved
 pub mod Own

@@ -12,3 +12,4 @@ pub mod Release
 pub mod Growth
 pub mod Examples
 pub mod Search
+pub mod Mapped
