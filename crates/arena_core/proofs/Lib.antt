@@ -8,6 +8,7 @@ pub mod Lifting
 pub mod Looks
 pub mod BreakTurns
 pub mod MainGrowth
+pub mod Mapped
 pub mod Mappings
 pub mod Parts
 pub mod BinnedLaws

@@ -8,3 +8,4 @@ pub mod Steps
 pub mod Asking
 pub mod Arenas
 pub mod Examples
+pub mod Shown

@@ -1,0 +1,336 @@
+-- What a hold leaves of its outside, and what it does to the mapped chunks that the port shows (public for the crates
+-- above).
+use Rattle.std.proofs.Common.{◌≡◌, ℕ, ◌+◌, ◌≤◌, Bool, true, false, List, Some, None, IsTrue, inl, inr, refl, sym, ap, ◌∙◌, subst, arith}
+use Rattle.std.specs.Prelude.{◌⊎◌}
+use Rattle.chunk_tags.specs.Pages.{mapping_length}
+use Rattle.chunk_tags.specs.declared.block.Block.{Block}
+use Rattle.chunk_tags.specs.declared.tiles.Chunk.{Chunk}
+use Rattle.chunk_tags.specs.declared.tunables.Tunables.{Tunables}
+use Rattle.address_space.specs.Ports.{Port}
+use Rattle.address_space.specs.Spaces.{space_tells, AsksWithin, MapsWithin, map_passes, map_limit}
+use Rattle.address_space.specs.declared.asks.Ask.{Ask}
+use Rattle.address_space.specs.declared.asks.Answer.{Answer}
+use Rattle.address_space.specs.declared.asks.Answer.TheVariants.{Granted, Refused}
+use Rattle.address_space.specs.declared.space.Space.{Space}
+use Rattle.address_space.specs.declared.space.Windows.{Windows}
+use Rattle.thread_cache.specs.Caches.{CacheValue, with_list, structure_of}
+use Rattle.fast_bins.specs.FastPorts as fasts
+use Rattle.arena_rules.specs.declared.said.Said.{Said}
+use Rattle.arena_rules.specs.declared.said.Said.TheVariants as told
+use Rattle.arena_rules.specs.PlainArena.{Plain}
+use Rattle.arena_rules.specs.Growth.{Found, InArena, InMapping, Nowhere, Took}
+use Rattle.arena_rules.specs.Rules.{Rules, Stop, Misfit, Does, Needs, Need, Flagged, Pops, Owns, Rooms, Asks, Maps, Reads, Deed, Clears, Gathers, Pushes, Stashes, Draws, Gives, Counts, map_place, place_told}
+use Rattle.arena_rules.specs.Mapped.{MapsOnce, EndsMapped}
+use Rattle.arena_rules.specs.Walks as walks
+use Rattle.arena_rules.specs.Walks.{Walks}
+use Rattle.arena_rules.proofs.Mapped.{maps_once_behind, searched_maps_once, given_never_maps}
+use Rattle.consolidate_trim.specs.Outside as outside
+use Rattle.consolidate_trim.specs.Outside.{Means, Outside, Goes, ways}
+use Rattle.arena_core.specs.declared.journal.Act.{Act}
+use Rattle.arena_core.specs.declared.journal.Act.TheVariants.{Take, Give}
+use Rattle.arena_core.specs.Replay.{rules_of, found_nothing, chunk_at}
+use Rattle.arena_core.specs.Shown.{Shown, ShowsMapped, EndsCounted, StopsCounted, counted_in}
+use Rattle.arena_rules.specs.Release.{given}
+
+-- ---- what an ask leaves of an address space
+
+-- what isn't the kernel's, nor the count of the asks that passed
+abbrev rest_of : {K : Type 0} → Space K → ℕ × Windows × ℕ
+rest_of s = (s.thread, s.windows, s.mapped)
+
+asks_rest : {K : Type 0} (port : Port K) (before now : Space K) (passes : Bool) (ask : Ask) (answer : Answer) → AsksWithin port before passes ask answer now → rest_of now ≡ rest_of before
+asks_rest port before now true ask answer h = ap rest_of (h.passed refl).1
+asks_rest port before now false ask answer h = ap rest_of (h.put refl).1
+
+refused_rest : {K : Type 0} (port : Port K) (before now : Space K) (len : ℕ) → MapsWithin port before len None now → rest_of now ≡ rest_of before
+refused_rest port before now len h =
+    let cases : (b : Bool) → map_passes before len ≡ b → rest_of now ≡ rest_of before = elim [
+      | true ↦ λ is. ap rest_of (h.passed is).1
+      | false ↦ λ is. ap rest_of (h.put is).1
+    ] in
+    cases (map_passes before len) refl
+
+granted_rest : {K : Type 0} (port : Port K) (before now : Space K) (len at : ℕ) → MapsWithin port before len (Some at) now → rest_of now ≡ (before.thread, before.windows, before.mapped + len)
+granted_rest port before now len at h =
+    let cases : (b : Bool) → map_passes before len ≡ b → rest_of now ≡ (before.thread, before.windows, before.mapped + len) = elim [
+      | true ↦ λ is. let none : Some at ≡ None = (h.passed is).0 in absurd (cc none)
+      | false ↦ λ is. ap rest_of (h.put is).1
+    ] in
+    cases (map_passes before len) refl
+
+-- ---- what a hold leaves of its outside
+
+-- The thread and its windows stay, its mappings only grow, a kernel that tells goes on telling, and an open cache stays
+-- open, with its structure.
+pub record IsFramed {P K : Type 0} (m : Means P K) (o z : Outside P K) : Type 0 where
+  pub thread : z.space.thread ≡ o.space.thread
+  pub windows : z.space.windows ≡ o.space.windows
+  pub mapped : o.space.mapped ≤ z.space.mapped
+  pub tells : IsTrue (space_tells m.kernel o.space) → IsTrue (space_tells m.kernel z.space)
+  pub structure : structure_of z.cache ≡ structure_of o.cache
+
+framed_beside : {P K : Type 0} (m : Means P K) (o z : Outside P K) → z.space ≡ o.space → structure_of z.cache ≡ structure_of o.cache → IsFramed m o z
+framed_beside {K = K} m o z space structure = record {
+  thread = ap (λ (s : Space K). s.thread) space;
+  windows = ap (λ (s : Space K). s.windows) space;
+  mapped = omega (arith, ap (λ (s : Space K). s.mapped) space);
+  tells = subst (λ (s : Space K). IsTrue (space_tells m.kernel s)) (sym space);
+  structure = structure;
+}
+
+framed_asked : {P K : Type 0} (m : Means P K) (o z : Outside P K) (mapped : ℕ) → rest_of z.space ≡ (o.space.thread, o.space.windows, mapped) → o.space.mapped ≤ mapped → (IsTrue (space_tells m.kernel o.space) → IsTrue (space_tells m.kernel z.space)) → z ≡ record o { space = z.space } → IsFramed m o z
+framed_asked {P = P} {K = K} m o z mapped rest more tells others = record {
+  thread = ap (λ (r : ℕ × Windows × ℕ). r.0) rest;
+  windows = ap (λ (r : ℕ × Windows × ℕ). r.1) rest;
+  mapped = omega (arith, more, ap (λ (r : ℕ × Windows × ℕ). r.2) rest);
+  tells = tells;
+  structure = ap (λ (x : Outside P K). structure_of x.cache) others;
+}
+
+framed_port : {P K : Type 0} (m : Means P K) (o z : Outside P K) → z ≡ record o { port = z.port } → IsFramed m o z
+framed_port {P = P} {K = K} m o z others = framed_beside m o z (ap (λ (x : Outside P K). x.space) others) (ap (λ (x : Outside P K). structure_of x.cache) others)
+
+framed_then : {P K : Type 0} (m : Means P K) (o p z : Outside P K) → IsFramed m o p → IsFramed m p z → IsFramed m o z
+framed_then m o p z a b = record {
+  thread = b.thread ∙ a.thread;
+  windows = b.windows ∙ a.windows;
+  mapped = omega (arith, a.mapped, b.mapped);
+  tells = λ h. b.tells (a.tells h);
+  structure = b.structure ∙ a.structure;
+}
+
+list_structure : (c : CacheValue) (i : ℕ) (blocks : List Block) → structure_of (with_list c i blocks) ≡ structure_of c
+list_structure None i blocks = refl
+list_structure (Some c) i blocks = refl
+
+goes_framed : {P K : Type 0} (m : Means P K) (o p : Outside P K) (n : Need) (s : Said) → Goes m o n s p → IsFramed m o p
+goes_framed m o p Flagged (told.Flag b) h = framed_port m o p h.others
+goes_framed m o p (Pops bin) (told.Popped at) h = framed_port m o p h.others
+goes_framed m o p (Owns bin) (told.Own at) h = framed_port m o p h.others
+goes_framed {P = P} {K = K} m o p (Rooms size) (told.Room b) h = framed_beside m o p (ap (λ (x : Outside P K). x.space) h.others) (ap (λ (x : Outside P K). structure_of x.cache) h.others)
+goes_framed m o p (Asks ask) (told.Asked asked answer) h =
+    framed_asked m o p o.space.mapped (asks_rest m.kernel o.space p.space _ asked answer h.asks) (omega arith) h.asks.tells h.others
+goes_framed m o p (Maps len) (told.Asked asked Granted) h =
+    framed_asked m o p (o.space.mapped + len) (granted_rest m.kernel o.space p.space len _ h.maps) (omega arith) h.maps.tells h.others
+goes_framed m o p (Maps len) (told.Asked asked Refused) h =
+    framed_asked m o p o.space.mapped (refused_rest m.kernel o.space p.space len h.maps) (omega arith) h.maps.tells h.others
+goes_framed m o p (Reads which) (told.Dial n) h = framed_port m o p h.others
+goes_framed m o p n s h = absurd h
+
+does_framed : {P K : Type 0} (m : Means P K) (number : ℕ) (o p : Outside P K) (d : Deed) → outside.Does m number o d p → IsFramed m o p
+does_framed m number o p Clears h = framed_port m o p h.others
+does_framed m number o p (Gathers bin) h = framed_port m o p h.others
+does_framed m number o p (Pushes bin at) h = framed_port m o p h.others
+does_framed {P = P} {K = K} m number o p (Stashes c) h =
+    framed_beside m o p (ap (λ (x : Outside P K). x.space) h) (ap (λ (x : Outside P K). structure_of x.cache) h ∙ list_structure o.cache _ _)
+does_framed {P = P} {K = K} m number o p (Draws size) h =
+    framed_beside m o p (ap (λ (x : Outside P K). x.space) h) (ap (λ (x : Outside P K). structure_of x.cache) h ∙ list_structure o.cache _ _)
+does_framed m number o p (Gives back) h = framed_asked m o p o.space.mapped (ap rest_of h.gives.others) (omega arith) h.gives.kernel.tells h.others
+does_framed m number o p (Counts len) h = framed_port m o p h.others
+
+pub walked_frame : {P K A : Type 0} {m : Means P K} {number : ℕ} {t : Tunables} {r q : Rules A} {o z : Outside P K} {ss : List Said} →
+    Walks t (ways m number) r o ss q z → IsFramed m o z
+walked_frame {m = m} {z = z} walks.here = framed_beside m z z refl refl
+walked_frame {m = m} {z = z} (walks.idled {o = o} {p = p} i a) = framed_then m o p z (framed_port m o p i.others) (walked_frame {m = m} a)
+walked_frame {m = m} {number = number} {z = z} (walks.done {d = d} {o = o} {p = p} h a) = framed_then m o p z (does_framed m number o p d h) (walked_frame {m = m} a)
+walked_frame {m = m} {z = z} (walks.told {n = n} {s = s} {o = o} {p = p} f h a) = framed_then m o p z (goes_framed m o p n s h) (walked_frame {m = m} a)
+
+-- ---- what a step of rules that map once does
+
+-- nothing was counted, and nothing mapped
+record Same {P K : Type 0} (shown : P → Shown) (o p : Outside P K) : Type 0 where
+  port : shown p.port ≡ shown o.port
+  mapped : p.space.mapped ≡ o.space.mapped
+
+-- a mapping was granted, which the rules then count
+record IsGrant {P K : Type 0} (shown : P → Shown) (nb : ℕ) (o p : Outside P K) (s : Said) (r : Rules Took) : Type 0 where
+  len : ℕ
+  length : len ≡ mapping_length nb
+  ends : EndsMapped len s r
+  port : shown p.port ≡ shown o.port
+  mapped : p.space.mapped ≡ o.space.mapped + len
+  limit : place_told s + len ≤ map_limit
+
+same_port : {P K : Type 0} (shown : P → Shown) (o p : Outside P K) → shown p.port ≡ shown o.port → p ≡ record o { port = p.port } → Same shown o p
+same_port {P = P} {K = K} shown o p port others = record { port = port; mapped = ap (λ (x : Outside P K). x.space.mapped) others }
+
+same_asked : {P K : Type 0} (shown : P → Shown) (o p : Outside P K) → rest_of p.space ≡ rest_of o.space → p ≡ record o { space = p.space } → Same shown o p
+same_asked {P = P} {K = K} shown o p rest others =
+    record { port = ap (λ (x : Outside P K). shown x.port) others; mapped = ap (λ (r : ℕ × Windows × ℕ). r.2) rest }
+
+same_space : {P K : Type 0} (shown : P → Shown) (o p : Outside P K) (cache : CacheValue) → p ≡ record o { cache = cache } → Same shown o p
+same_space {P = P} {K = K} shown o p cache is =
+    record { port = ap (λ (x : Outside P K). shown x.port) is; mapped = ap (λ (x : Outside P K). x.space.mapped) is }
+
+does_same : {P K : Type 0} (m : Means P K) (number : ℕ) (shown : P → Shown) → ShowsMapped m.fast m.dials shown → (nb : ℕ) (o p : Outside P K) (d : Deed) (r : Rules Took) → MapsOnce nb (Does d r) → outside.Does m number o d p → MapsOnce nb r × Same shown o p
+does_same m number shown shows nb o p Clears r once h = (once, same_port shown o p (shows.steps o.port p.port fasts.Clears h.did.step) h.others)
+does_same m number shown shows nb o p (Gathers bin) r once h = (once, same_port shown o p (shows.steps o.port p.port (fasts.Gathers bin) h.did.step) h.others)
+does_same m number shown shows nb o p (Pushes bin at) r once h = (once, same_port shown o p (shows.steps o.port p.port (fasts.Pushes bin at) h.did.step) h.others)
+does_same m number shown shows nb o p (Stashes c) r once h = (once, same_space shown o p _ h)
+does_same m number shown shows nb o p (Draws size) r once h = (once, same_space shown o p _ h)
+does_same m number shown shows nb o p (Gives back) r once h = (once, same_asked shown o p (ap rest_of h.gives.others) h.others)
+does_same m number shown shows nb o p (Counts len) r once h = absurd once
+
+goes_same : {P K : Type 0} (m : Means P K) (shown : P → Shown) → ShowsMapped m.fast m.dials shown → (nb : ℕ) (o p : Outside P K) (a : Plain) (n : Need) (f : Said → Rules Took) (s : Said) → MapsOnce nb (Needs a n f) → Goes m o n s p → (MapsOnce nb (f s) × Same shown o p) ⊎ (IsGrant shown nb o p s (f s))
+goes_same m shown shows nb o p a Flagged f (told.Flag b) once h = inl (once (told.Flag b), same_port shown o p (shows.steps o.port p.port (fasts.Flags b) h.did.step) h.others)
+goes_same m shown shows nb o p a (Pops bin) f (told.Popped at) once h = inl (once (told.Popped at), same_port shown o p (shows.steps o.port p.port (fasts.Pops bin at) h.did.step) h.others)
+goes_same m shown shows nb o p a (Owns bin) f (told.Own at) once h = inl (once (told.Own at), same_port shown o p (shows.steps o.port p.port (fasts.Owns bin at) h.did.step) h.others)
+goes_same m shown shows nb o p a (Rooms size) f (told.Room b) once h = inl (once (told.Room b), same_space shown o p o.cache h.others)
+goes_same m shown shows nb o p a (Asks ask) f (told.Asked asked answer) once h =
+    inl (once (told.Asked asked answer), same_asked shown o p (asks_rest m.kernel o.space p.space _ asked answer h.asks) h.others)
+goes_same {P = P} {K = K} m shown shows nb o p a (Maps len) f (told.Asked asked Granted) once h = inr (record {
+  len = len;
+  length = once.0;
+  ends = (once.1 (told.Asked asked Granted)).0 refl;
+  port = ap (λ (x : Outside P K). shown x.port) h.others;
+  mapped = ap (λ (r : ℕ × Windows × ℕ). r.2) (granted_rest m.kernel o.space p.space len _ h.maps);
+  limit = omega (arith, ap map_place h.place, h.maps.fresh.limit);
+})
+goes_same m shown shows nb o p a (Maps len) f (told.Asked asked Refused) once h =
+    inl ((once.1 (told.Asked asked Refused)).1 refl, same_asked shown o p (refused_rest m.kernel o.space p.space len h.maps) h.others)
+goes_same m shown shows nb o p a (Reads which) f (told.Dial n) once h = inl (once (told.Dial n), same_port shown o p (shows.reads o.port p.port which n h.step) h.others)
+goes_same m shown shows nb o p a n f s once h = absurd h
+
+-- ---- how far a walk has got
+
+abbrev found_at_end : Rules Took → Found
+found_at_end (Stop x) = x.found
+found_at_end Misfit = Nowhere
+found_at_end (Does d r) = Nowhere
+found_at_end (Needs a n f) = Nowhere
+
+abbrev chunk_found : Found → Chunk
+chunk_found (InArena c) = c
+chunk_found (InMapping c) = c
+chunk_found Nowhere = record { at = 0; size = 0 }
+
+-- rules that have ended: only room is made
+stopped_walk : {P K : Type 0} (m : Means P K) (number : ℕ) (shown : P → Shown) → ShowsMapped m.fast m.dials shown → {t : Tunables} {x : Took} {q : Rules Took} {o z : Outside P K} {ss : List Said} →
+    Walks t (ways m number) (Stop x) o ss q z → (q ≡ Stop x) × Same shown o z
+stopped_walk m number shown shows walks.here = (refl, record { port = refl; mapped = refl })
+stopped_walk m number shown shows {z = z} (walks.idled {o = o} {p = p} i a) =
+    let k = stopped_walk m number shown shows a in
+    let s : Same shown o p = same_port shown o p (shows.idles o.port p.port i.idles.idle) i.others in
+    (k.0, record { port = k.1.port ∙ s.port; mapped = k.1.mapped ∙ s.mapped })
+
+-- rules that count a mapping and end: they do so, or the count is still to come
+counted_walk : {P K : Type 0} (m : Means P K) (number : ℕ) (shown : P → Shown) → ShowsMapped m.fast m.dials shown → {t : Tunables} {len : ℕ} {x : Took} {q : Rules Took} {o z : Outside P K} {ss : List Said} →
+    Walks t (ways m number) (Does (Counts len) (Stop x)) o ss q z →
+    (q ≡ Does (Counts len) (Stop x)) ⊎ ((q ≡ Stop x) × (shown z.port ≡ counted_in len (shown o.port)) × (z.space.mapped ≡ o.space.mapped))
+counted_walk m number shown shows walks.here = inl refl
+counted_walk m number shown shows {len = len} {z = z} (walks.idled {o = o} {p = p} i a) =
+    let s : Same shown o p = same_port shown o p (shows.idles o.port p.port i.idles.idle) i.others in
+    elim (counted_walk m number shown shows a) [
+      | inl k ↦ inl k
+      | inr k ↦ inr (k.0, k.1 ∙ ap (counted_in len) s.port, k.2 ∙ s.mapped)
+    ]
+counted_walk {P = P} {K = K} m number shown shows {len = len} (walks.done {o = o} {p = p} h a) =
+    let k = stopped_walk m number shown shows a in
+    inr (k.0, k.1.port ∙ shows.maps o.port p.port len h.step, k.1.mapped ∙ ap (λ (x : Outside P K). x.space.mapped) h.others)
+
+-- a mapping was counted, and the rules have ended with its chunk
+record IsCounted {P K : Type 0} (shown : P → Shown) (nb : ℕ) (o z : Outside P K) (q : Rules Took) : Type 0 where
+  chunk : Chunk
+  arena : Plain
+  is : q ≡ Stop (record { found = InMapping chunk; arena = arena })
+  port : shown z.port ≡ counted_in chunk.size (shown o.port)
+  mapped : z.space.mapped ≡ o.space.mapped + chunk.size
+  length : chunk.size ≡ mapping_length nb
+  limit : chunk.at + chunk.size ≤ map_limit
+
+-- nothing was counted yet; or a granted mapping is about to be; or one was
+data Progress {P K : Type 0} (shown : P → Shown) (nb : ℕ) (o z : Outside P K) (q : Rules Took) : Type 0 where
+  uncounted : MapsOnce nb q → Same shown o z → Progress shown nb o z q
+  granted : (d : Deed) (r : Rules Took) → q ≡ Does d r → Progress shown nb o z q
+  counted : IsCounted shown nb o z q → Progress shown nb o z q
+
+progress_from : {P K : Type 0} (shown : P → Shown) (nb : ℕ) (o p z : Outside P K) (q : Rules Took) → Same shown o p → Progress shown nb p z q → Progress shown nb o z q
+progress_from shown nb o p z q s (uncounted once k) = uncounted once (record { port = k.port ∙ s.port; mapped = k.mapped ∙ s.mapped })
+progress_from shown nb o p z q s (granted d r is) = granted d r is
+progress_from shown nb o p z q s (counted k) = counted (record {
+  chunk = k.chunk;
+  arena = k.arena;
+  is = k.is;
+  port = k.port ∙ ap (counted_in k.chunk.size) s.port;
+  mapped = omega (arith, k.mapped, s.mapped);
+  length = k.length;
+  limit = k.limit;
+})
+
+progress_granted : {P K : Type 0} (m : Means P K) (number : ℕ) (shown : P → Shown) → ShowsMapped m.fast m.dials shown → (nb : ℕ) {t : Tunables} {r q : Rules Took} {o p z : Outside P K} {s : Said} {ss : List Said} →
+    IsGrant shown nb o p s r → Walks t (ways m number) r p ss q z → Progress shown nb o z q
+progress_granted m number shown shows nb {t = t} {q = q} {p = p} {z = z} {s = s} {ss = ss} g a =
+    let c : Chunk = record { at = place_told s; size = g.len } in
+    let x : Took = record { found = InMapping c; arena = g.ends.arena } in
+    elim (counted_walk m number shown shows (subst (λ r. Walks t (ways m number) r p ss q z) g.ends.is a)) [
+      | inl is ↦ granted (Counts g.len) (Stop x) is
+      | inr k ↦ counted (record {
+        chunk = c;
+        arena = g.ends.arena;
+        is = k.0;
+        port = k.1 ∙ ap (counted_in g.len) g.port;
+        mapped = k.2 ∙ g.mapped;
+        length = g.length;
+        limit = g.limit;
+      })
+    ]
+
+walked_progress : {P K : Type 0} (m : Means P K) (number : ℕ) (shown : P → Shown) → ShowsMapped m.fast m.dials shown → (nb : ℕ) {t : Tunables} {r q : Rules Took} {o z : Outside P K} {ss : List Said} →
+    MapsOnce nb r → Walks t (ways m number) r o ss q z → Progress shown nb o z q
+walked_progress m number shown shows nb once walks.here = uncounted once (record { port = refl; mapped = refl })
+walked_progress m number shown shows nb {q = q} {z = z} once (walks.idled {o = o} {p = p} i a) =
+    progress_from shown nb o p z q (same_port shown o p (shows.idles o.port p.port i.idles.idle) i.others) (walked_progress m number shown shows nb once a)
+walked_progress m number shown shows nb {q = q} {z = z} once (walks.done {d = d} {r = r} {o = o} {p = p} h a) =
+    let k = does_same m number shown shows nb o p d r once h in
+    progress_from shown nb o p z q k.1 (walked_progress m number shown shows nb k.0 a)
+walked_progress m number shown shows nb {q = q} {z = z} once (walks.told {a = a} {n = n} {f = f} {s = s} {o = o} {p = p} fit h w) =
+    elim (goes_same m shown shows nb o p a n f s once h) [
+      | inl k ↦ progress_from shown nb o p z q k.1 (walked_progress m number shown shows nb k.0 w)
+      | inr g ↦ progress_granted m number shown shows nb g w
+    ]
+
+-- ---- where a hold ended, and where it was left
+
+pub walked_to_end : {P K : Type 0} (m : Means P K) (number : ℕ) (shown : P → Shown) → ShowsMapped m.fast m.dials shown → (nb : ℕ) {t : Tunables} {r : Rules Took} {o z : Outside P K} {ss : List Said} {x : Took} →
+    MapsOnce nb r → Walks t (ways m number) r o ss (Stop x) z → EndsCounted shown nb o z x
+walked_to_end {P = P} {K = K} m number shown shows nb {o = o} {z = z} {x = x} once a =
+    let ends : Progress shown nb o z (Stop x) → EndsCounted shown nb o z x = elim [
+      | uncounted still same ↦ record {
+        none = λ _. same.port;
+        one = λ c is. absurd (still c is);
+        bytes = omega (arith, ap (λ (s : Shown). s.bytes) same.port, same.mapped);
+      }
+      | granted d r is ↦ absurd cc
+      | counted k ↦
+          let found : x.found ≡ InMapping k.chunk = ap found_at_end k.is in
+          record {
+            none = λ none. absurd (none k.chunk found);
+            one = λ c is.
+                let same : k.chunk ≡ c = ap chunk_found (sym found ∙ is) in
+                subst (λ (e : Chunk). (shown z.port ≡ counted_in e.size (shown o.port)) × (e.size ≡ mapping_length nb) × (e.at + e.size ≤ map_limit)) same (k.port, k.length, k.limit);
+            bytes = omega (arith, ap (λ (s : Shown). s.bytes) k.port, k.mapped);
+          }
+    ] in
+    ends (walked_progress m number shown shows nb once a)
+
+pub walked_short : {P K : Type 0} (m : Means P K) (number : ℕ) (shown : P → Shown) → ShowsMapped m.fast m.dials shown → (nb : ℕ) {t : Tunables} {r : Rules Took} {o z : Outside P K} {ss : List Said} {left : Plain} {need : Need} {next : Said → Rules Took} →
+    MapsOnce nb r → Walks t (ways m number) r o ss (Needs left need next) z → StopsCounted shown o z
+walked_short m number shown shows nb {o = o} {z = z} {left = left} {need = need} {next = next} once a =
+    let stops : Progress shown nb o z (Needs left need next) → StopsCounted shown o z = elim [
+      | uncounted still same ↦ record { same = same.port; bytes = omega (arith, ap (λ (s : Shown). s.bytes) same.port, same.mapped) }
+      | granted d r is ↦ absurd cc
+      | counted k ↦ let is = k.is in absurd (cc is)
+    ] in
+    stops (walked_progress m number shown shows nb once a)
+
+-- ---- the rules of an act
+
+-- the bytes that an act asks for; one that gives a chunk asks for none
+abbrev pub request_of : Act → ℕ
+request_of (Take nb) = nb
+request_of (Give at size) = 0
+
+pub rules_map_once : (t : Tunables) (act : Act) (a : Plain) → MapsOnce (request_of act) (rules_of t act a)
+rules_map_once t (Take nb) a = searched_maps_once t nb a
+rules_map_once t (Give at size) a =
+    maps_once_behind 0 (given t a (chunk_at at size)) (λ b. Stop (found_nothing b)) (given_never_maps t a (chunk_at at size)) (λ b c is. absurd cc)
