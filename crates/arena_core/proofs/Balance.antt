@@ -14,7 +14,7 @@ use Rattle.arena_core.specs.Ledgers.{Ledger, Stage, stage, elsewhere, Balances, 
 
 -- nothing happened
 pub balances_here : {O : Type 0} (l : Ledger O) (x : Stage O) (said : List Said) → IsSound x.arena → Balances l x no_chunk no_chunk (stage x.arena x.outside said)
-balances_here l x said s = record { sound = s; number = refl; placed = λ p. p; cached = λ e. omega arith; kept = λ e. refl }
+balances_here l x said s = record { sound = s; number = refl; placed = λ p. p; cached = λ e. omega arith; others = λ n other e. refl; kept = λ e. refl }
 
 -- a move of the arena alone
 pub balances_moved : {O : Type 0} (l : Ledger O) (x : Stage O) (b : Plain) (came : Chunks) (said : List Said) →
@@ -24,6 +24,7 @@ balances_moved l x b came said m same = record {
   number = ap (λ (p : Plain). p.number) same;
   placed = placed_still x.arena b none came m same;
   cached = λ e. omega arith;
+  others = λ n other e. refl;
   kept = λ e. omega (arith, m.used e);
 }
 
@@ -37,6 +38,7 @@ balances_then {l = l} {x = x} {y = y} {z = z} {given = given} {got = got} {given
   cached = λ e.
       let f : (k : ℕ) → y.arena.number ≡ k → times_cached k (l.cache y.outside) e ≤ times_cached k (l.cache z.outside) e = λ k same. subst (λ k. times_cached k (l.cache y.outside) e ≤ times_cached k (l.cache z.outside) e) same (n.cached e) in
       omega (arith, m.cached e, f x.arena.number m.number);
+  others = λ k other e. m.others k other e ∙ n.others k (λ same. other (same ∙ m.number)) e;
   kept = λ e.
       let f : (k : ℕ) → y.arena.number ≡ k → times_used e z.arena + (elsewhere l k y.outside e + given' e) ≡ times_used e y.arena + (elsewhere l k z.outside e + got' e) = λ k same. subst (λ k. times_used e z.arena + (elsewhere l k y.outside e + given' e) ≡ times_used e y.arena + (elsewhere l k z.outside e + got' e)) same (n.kept e) in
       omega (arith, m.kept e, f x.arena.number m.number);
@@ -45,15 +47,15 @@ balances_then {l = l} {x = x} {y = y} {z = z} {given = given} {got = got} {given
 -- the same accounts, with what is in hand all the time
 pub balances_as : {O : Type 0} {l : Ledger O} {x y : Stage O} {given got given' got' : Chunks} →
     Balances l x given got y → ((e : Chunk) → given e + got' e ≡ given' e + got e) → Balances l x given' got' y
-balances_as m same = record { sound = m.sound; number = m.number; placed = m.placed; cached = m.cached; kept = λ e. omega (arith, m.kept e, same e) }
+balances_as m same = record { sound = m.sound; number = m.number; placed = m.placed; cached = m.cached; others = m.others; kept = λ e. omega (arith, m.kept e, same e) }
 
 -- the same accounts, with other answers
 pub restage : {O : Type 0} {l : Ledger O} {x : Stage O} {a : Plain} {o : O} {said said' : List Said} {given got : Chunks} → Balances l x given got (stage a o said) → Balances l x given got (stage a o said')
-restage m = record { sound = m.sound; number = m.number; placed = m.placed; cached = m.cached; kept = m.kept }
+restage m = record { sound = m.sound; number = m.number; placed = m.placed; cached = m.cached; others = m.others; kept = m.kept }
 
 -- what was got is lost
 pub loses_from : {O : Type 0} {l : Ledger O} {x y : Stage O} {given got : Chunks} → Balances l x given got y → Loses l x given y
-loses_from m = record { sound = m.sound; number = m.number; placed = m.placed; cached = m.cached; kept = λ e. omega (arith, m.kept e) }
+loses_from m = record { sound = m.sound; number = m.number; placed = m.placed; cached = m.cached; others = m.others; kept = λ e. omega (arith, m.kept e) }
 
 -- accounts, and then a loss
 pub loses_then : {O : Type 0} {l : Ledger O} {x y z : Stage O} {given got given' : Chunks} →
@@ -65,6 +67,7 @@ loses_then {l = l} {x = x} {y = y} {z = z} {given = given} {got = got} {given' =
   cached = λ e.
       let f : (k : ℕ) → y.arena.number ≡ k → times_cached k (l.cache y.outside) e ≤ times_cached k (l.cache z.outside) e = λ k same. subst (λ k. times_cached k (l.cache y.outside) e ≤ times_cached k (l.cache z.outside) e) same (n.cached e) in
       omega (arith, m.cached e, f x.arena.number m.number);
+  others = λ k other e. m.others k other e ∙ n.others k (λ same. other (same ∙ m.number)) e;
   kept = λ e.
       let f : (k : ℕ) → y.arena.number ≡ k → times_used e y.arena + elsewhere l k z.outside e ≤ times_used e z.arena + (elsewhere l k y.outside e + given' e) = λ k same. subst (λ k. times_used e y.arena + elsewhere l k z.outside e ≤ times_used e z.arena + (elsewhere l k y.outside e + given' e)) same (n.kept e) in
       omega (arith, m.kept e, f x.arena.number m.number, le e);

@@ -99,7 +99,7 @@ asked_passes m t a ask granted port cache space space' said said' f s same windo
     let flagged = subst (λ b. Reaches t ((full m).ways a.number) (asks_for a ask f) (beside_arena port cache space) said (f b) (said ++ answer ∷ []) (beside_arena port cache space')) (answer_flag ask granted) reaches in
     record {
       reaches = subst (λ ss. Reaches t ((full m).ways a.number) (asks_for a ask f) (beside_arena port cache space) said (f granted) ss (beside_arena port cache space')) (sym asked.told) flagged;
-      balances = record { sound = s; number = refl; placed = λ p. p; cached = λ e. omega arith; kept = λ e. refl };
+      balances = record { sound = s; number = refl; placed = λ p. p; cached = λ e. omega arith; others = λ n other e. refl; kept = λ e. refl };
     }
 
 pub asked_short : {P K A X E : Type 0} (m : Means P K) (t : Tunables) (a : Plain) (ask : Ask) (d : NoMemory) (port : P) (cache : CacheValue) (space space' : Space K) (said said' : List Said) (f : Bool → Rules A) (made : X → A) (out : X → Chunks) (r : Result X E) → let err : Result Bool NoMemory = Err d in

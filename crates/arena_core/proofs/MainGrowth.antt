@@ -63,7 +63,7 @@ pub record IsTaken {P K : Type 0} (m : Means P K) (rest : Option Chunk) (x : Sta
 
 range_taken : {P K : Type 0} (m : Means P K) (t : Tunables) (rest : Option Chunk) (x : Stage (Outside P K)) (b : Plain) (at size : ℕ) → IsReady m t x → IsGrowth x.arena b (λ e. once_of e rest) at size → b.number ≡ x.arena.number → IsTaken m rest x b
 range_taken m t rest x b at size ready g number =
-    let balances : Balances (full m) x no_chunk (λ e. once_of e rest) (stage b x.outside x.said) = record { sound = g.moved.sound; number = number; placed = λ p main. g.placed; cached = λ e. omega arith; kept = λ e. omega (arith, g.moved.used e) } in
+    let balances : Balances (full m) x no_chunk (λ e. once_of e rest) (stage b x.outside x.said) = record { sound = g.moved.sound; number = number; placed = λ p main. g.placed; cached = λ e. omega arith; others = λ n other e. refl; kept = λ e. omega (arith, g.moved.used e) } in
     record {
       balances = balances;
       backed = backed_balances m.fast (full m) x (stage b x.outside x.said) x.outside.port x.outside.port (λ e. once_of e rest) (λ e. refl) (λ e. refl) ready.backed balances;

@@ -51,7 +51,7 @@ pub reads_passes : {P A : Type 0} (fast : Fast P) (dials : Dialled P) (u : Tunab
     Passes (word_ledger fast dials) u (reads a which f) (stage a p old) no_chunk (f n) (stage a q (old ++ told.Dial n ∷ []))
 reads_passes fast dials u a which n p q old f apart s step = record {
   reaches = reaches_told {t = u} {w = (word_ledger fast dials).ways a.number} {a = a} {n = Reads which} {f = λ s. f (number_told s)} {o = p} {z = q} (told.Dial n) refl step;
-  balances = record { sound = s; number = refl; placed = λ p. p; cached = λ e. omega arith; kept = λ e. omega (arith, apart.stock p q (dial_steps.Reads which n) step e) };
+  balances = record { sound = s; number = refl; placed = λ p. p; cached = λ e. omega arith; others = λ n other e. refl; kept = λ e. omega (arith, apart.stock p q (dial_steps.Reads which n) step e) };
 }
 
 abbrev after_threshold : Tunables → ℕ → Plain → ℕ → Rules Bool
@@ -130,7 +130,7 @@ mapping_refused m nb len p space now old is maps = record {
       let fit : fits t (Maps (mapping_length nb)) ask ≡ true = eq-eqb (mapping_length nb) len (sym is) in
       works_ok (reaches_told {w = (full m).ways a.number} {o = beside_arena p cache space} {z = beside_arena p cache now} ask fit
       (record { place = ap (λ l. asks.Map (map_place space) l) is; maps = subst (λ l. MapsWithin m.kernel space l None now) is maps; others = refl }))
-      (record { sound = s; number = refl; placed = λ p. p; cached = λ e. omega arith; kept = λ e. omega arith });
+      (record { sound = s; number = refl; placed = λ p. p; cached = λ e. omega arith; others = λ n other e. refl; kept = λ e. omega arith });
 }
 
 pub mapping_granted : {P K : Type 0} (m : Means P K) (nb len place : ℕ) (p q : P) (space now : Space K) (old : List Said) → Apart m.fast m.dials → len ≡ mapping_length nb → MapsWithin m.kernel space len (Some place) now → m.dials.step p (dial_steps.Maps len) q →
@@ -147,5 +147,5 @@ mapping_granted m nb len place p q space now old apart is maps step = record {
       reaches_done {w = (full m).ways a.number} (record { step = subst (λ l. m.dials.step p (dial_steps.Maps l) q) is step; others = refl }) in
       let whole = reaches_then asked counted in
       works_ok (subst (λ l. Reaches t ((full m).ways a.number) (mapping nb a) (beside_arena p cache space) old (Stop (Some (chunk_of_length (map_place space) l))) (old ++ ask ∷ []) (beside_arena q cache now)) (sym is) whole)
-      (record { sound = s; number = refl; placed = λ p. p; cached = λ e. omega arith; kept = λ e. omega (arith, apart.stock p q (dial_steps.Maps len) step e) });
+      (record { sound = s; number = refl; placed = λ p. p; cached = λ e. omega arith; others = λ n other e. refl; kept = λ e. omega (arith, apart.stock p q (dial_steps.Maps len) step e) });
 }

@@ -26,6 +26,7 @@ last_balances {a = a} last m = record {
       let q : IsMainPlaced a = m.placed p main in
       record { outside = λ n out. q.outside n (record { break = out.break; pieces = out.pieces }); start = q.start; limit = q.limit; pieces = q.pieces; piece_limit = q.piece_limit; break_page = q.break_page; piece_page = q.piece_page; system = q.system };
   cached = m.cached;
+  others = m.others;
   kept = m.kept;
 }
 

@@ -10,7 +10,7 @@ use Rattle.chunk_tags.specs.declared.refusals.NoMemory.{NoMemory}
 use Rattle.chunk_tags.specs.declared.tiles.Chunk.{Chunk}
 use Rattle.chunk_tags.specs.declared.tunables.Tunables.{Tunables}
 use Rattle.chunk_tags.specs.Sizes.{IsChunkSize, is_small_size, max_cached, cache_index_of}
-use Rattle.thread_cache.specs.Caches.{CacheValue, has_room, newest, with_newest}
+use Rattle.thread_cache.specs.Caches.{CacheValue, has_room, newest, with_newest, without_newest}
 use Rattle.thread_cache.specs.Held.{IsSound as IsSoundCache}
 use Rattle.arena_rules.specs.declared.said.Said.TheVariants as told
 use Rattle.arena_rules.specs.PlainArena.{Plain, IsSound, times_listed, unsorted_of}
@@ -30,7 +30,7 @@ use Rattle.arena_core.specs.Ledgers.{shelf, Stage, stage, Balances}
 use Rattle.arena_core.specs.Steps.{Steps, is_remainder, drawn, cache_drawn}
 use Rattle.arena_core.proofs.Balance.{balances_here, balances_moved, balances_then, balances_as, loses_from, works_ok, works_short}
 use Rattle.arena_core.proofs.Remainders.{carve_balances}
-use Rattle.arena_core.proofs.Shelving.{room_reaches, stash_reaches, draw_reaches, IsStashed, is_stashed, is_drawn}
+use Rattle.arena_core.proofs.Shelving.{room_reaches, stash_reaches, draw_reaches, IsStashed, is_stashed, IsDrawn, is_drawn}
 use Rattle.arena_core.proofs.SmallBins.{stash_balances}
 
 -- ---- the oldest chunk, and those behind it
@@ -235,10 +235,10 @@ scan_drawn nb None x y chunk b last reaches = record { works = λ t. works_ok (r
 scan_drawn nb (Some c) x y chunk b last reaches =
     let n : ℕ = x.arena.number in
     let lt : cache_index_of nb < 64 = omega (arith, last.cached) in
-    let times = is_drawn n y.outside c (cache_index_of nb) last.sound lt last.newest in
+    let gone : IsDrawn n y.outside c (without_newest y.outside (cache_index_of nb)) = is_drawn n y.outside c (cache_index_of nb) last.sound lt last.newest in
     record {
       works = λ t. works_ok (reaches_then (reaches t) draw_reaches)
-          (record { sound = b.sound; number = b.number; placed = b.placed; cached = λ e. omega (arith, last.more e, times e); kept = λ e. omega (arith, b.kept e, times e) });
+          (record { sound = b.sound; number = b.number; placed = b.placed; cached = λ e. omega (arith, last.more e, gone.times e); others = λ k other e. b.others k other e ∙ gone.others k other e; kept = λ e. omega (arith, b.kept e, gone.times e) });
     }
 
 pub scan_ends : (nb sorted : ℕ) (stashed : Option Chunk) (x y : Stage CacheValue) → IsChunkSize nb → Scanning nb sorted stashed x y → oldest_of (unsorted_of y.arena) ≡ None →

@@ -1,10 +1,9 @@
 -- What goes into the caller's cache and comes out of it in a hold.
-use Rattle.std.proofs.Common.{◌≡◌, ℕ, ◌+◌, ◌<◌, Bool, true, false, ◌&&◌, cond, List, [], ◌∷◌, ◌++◌, length, get_or, Some, None, IfSome, IsTrue, refl, arith}
-use Rattle.std.specs.Prelude.{nat_eq}
-use Rattle.std.proofs.lemmas.Bool.{and_from, eq-eqb}
+use Rattle.std.proofs.Common.{◌≡◌, ℕ, ◌+◌, ◌<◌, Bool, true, cond, List, [], ◌∷◌, ◌++◌, length, get_or, Some, None, IfSome, IsTrue, refl, arith}
+use Rattle.std.proofs.lemmas.Bool.{and_from}
 use Rattle.std.proofs.lemmas.List.{get_or-set_same}
 use Rattle.chunk_tags.specs.Sizes.{IsChunkSize, cache_index_of}
-use Rattle.chunk_tags.specs.BinOrder.{same_chunk, once}
+use Rattle.chunk_tags.specs.BinOrder.{once}
 use Rattle.chunk_tags.specs.declared.tiles.Chunk.{Chunk}
 use Rattle.chunk_tags.specs.declared.block.Block.{Block}
 use Rattle.chunk_tags.specs.declared.tunables.Tunables.{Tunables}
@@ -17,7 +16,8 @@ use Rattle.arena_rules.specs.PlainArena.{Plain}
 use Rattle.arena_rules.specs.Rules.{Rules, Does, Stashes, Draws, asks_room, block_of, Rooms, flag_of}
 use Rattle.arena_rules.specs.Walks.{Reaches}
 use Rattle.arena_rules.proofs.Walks.{reaches_told, reaches_done}
-use Rattle.consolidate_trim.specs.Holds.{is_block_of, times_cached}
+use Rattle.consolidate_trim.specs.Holds.{is_block_of, times_cached, KeepsOthers}
+use Rattle.consolidate_trim.proofs.HoldSteps.{block_is, block_other}
 use Rattle.arena_core.specs.Ledgers.{shelf}
 
 -- ---- steps
@@ -40,20 +40,11 @@ draw_reaches = reaches_done refl
 abbrev block_weight : ℕ → Chunk → Block → ℕ
 block_weight n e b = cond (is_block_of n e b) 1 0
 
--- a chunk's own block counts once
-weight_own : (n : ℕ) (e k : Chunk) → block_weight n e (block_of n k) ≡ once e k
-weight_own n e k =
-    let same : nat_eq n n ≡ true = eq-eqb n n refl in
-    let cases : (b : Bool) → same_chunk e k ≡ b → cond {A = ℕ} (b && nat_eq n n) 1 0 ≡ cond b 1 0 = elim [
-      | true ↦ λ is. rw same refl
-      | false ↦ λ is. refl
-    ] in
-    cases (same_chunk e k) refl
-
 -- a chunk that was put into a cache
 pub record IsStashed (n : ℕ) (c : CacheValue) (k : Chunk) (d : CacheValue) : Type 0 where
   pub sound : IfSome d IsSoundCache
   pub times : (e : Chunk) → times_cached n d e ≡ once e k + times_cached n c e
+  pub others : KeepsOthers n c d
   pub list : list_of d (cache_index_of k.size) ≡ block_of n k ∷ list_of c (cache_index_of k.size)
   pub short : length (list_of c (cache_index_of k.size)) < 127
 
@@ -65,13 +56,21 @@ is_stashed n (Some c) k sound chunk room =
     let lt : cache_index_of k.size < length c.lists = omega (arith, at.used, sound.bins, sound.width) in
     record {
       sound = took.sound;
-      times = λ e. omega (arith, took.same (block_weight n e), weight_own n e k);
+      times = λ e. omega (arith, took.same (block_weight n e), block_is n e k);
+      others = λ m other e. omega (arith, took.same (block_weight m e), block_other n m e k other);
       list = get_or-set_same c.lists (cache_index_of k.size) (block_of n k ∷ get_or c.lists (cache_index_of k.size) []) [] lt;
       short = omega (arith, at.short, sound.count);
     }
 
 -- the newest chunk of a list, taken out of it
-pub is_drawn : (n : ℕ) (c : CacheValue) (k : Chunk) (i : ℕ) → IfSome c IsSoundCache → i < 64 → newest c i ≡ Some (block_of n k) → (e : Chunk) → once e k + times_cached n (without_newest c i) e ≡ times_cached n c e
-is_drawn n c k i sound lt is e =
+pub record IsDrawn (n : ℕ) (c : CacheValue) (k : Chunk) (d : CacheValue) : Type 0 where
+  pub times : (e : Chunk) → once e k + times_cached n d e ≡ times_cached n c e
+  pub others : KeepsOthers n c d
+
+pub is_drawn : (n : ℕ) (c : CacheValue) (k : Chunk) (i : ℕ) → IfSome c IsSoundCache → i < 64 → newest c i ≡ Some (block_of n k) → IsDrawn n c k (without_newest c i)
+is_drawn n c k i sound lt is =
     let gave : Gave c i (block_of n k) (without_newest c i) = got c i (block_of n k) sound lt is in
-    omega (arith, gave.same (block_weight n e), weight_own n e k)
+    record {
+      times = λ e. omega (arith, gave.same (block_weight n e), block_is n e k);
+      others = λ m other e. omega (arith, gave.same (block_weight m e), block_other n m e k other);
+    }

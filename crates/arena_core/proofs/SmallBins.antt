@@ -77,6 +77,7 @@ stash_balances a c cache said said' s some stashed =
       number = refl;
       placed = placed_still a (claimed a c) none (λ e. once e c) m refl;
       cached = λ e. omega (arith, stashed.times e);
+      others = stashed.others;
       kept = λ e. omega (arith, stashed.times e, m.used e);
     }
 

@@ -17,7 +17,7 @@ use Rattle.arena_rules.specs.Walks.{Ways, Performs}
 use Rattle.arena_rules.specs.declared.said.Said.{Said}
 use Rattle.arena_rules.specs.declared.said.Said.TheVariants as told
 use Rattle.consolidate_trim.specs.FastHolds.{fast_ways}
-use Rattle.consolidate_trim.specs.Holds.{Chunks, no_chunk, times_cached}
+use Rattle.consolidate_trim.specs.Holds.{Chunks, no_chunk, times_cached, KeepsOthers}
 use Rattle.consolidate_trim.specs.Outside.{Means, Outside, ways}
 
 -- What stands beside an arena: how it goes on in a hold of the arena with a number, and which chunks are there.
@@ -49,6 +49,7 @@ pub record Balances {O : Type 0} (l : Ledger O) (before : Stage O) (given got : 
   pub number : after.arena.number ≡ before.arena.number
   pub placed : IsPlaced before.arena → IsPlaced after.arena
   pub cached : KeepsCached l before.arena.number before.outside after.outside
+  pub others : KeepsOthers before.arena.number (l.cache before.outside) (l.cache after.outside)
   pub kept : (e : Chunk) → times_used e after.arena + (elsewhere l before.arena.number before.outside e + given e)
       ≡ times_used e before.arena + (elsewhere l before.arena.number after.outside e + got e)
 
@@ -58,6 +59,7 @@ pub record Loses {O : Type 0} (l : Ledger O) (before : Stage O) (given : Chunks)
   pub number : after.arena.number ≡ before.arena.number
   pub placed : IsPlaced before.arena → IsPlaced after.arena
   pub cached : KeepsCached l before.arena.number before.outside after.outside
+  pub others : KeepsOthers before.arena.number (l.cache before.outside) (l.cache after.outside)
   pub kept : (e : Chunk) → times_used e before.arena + elsewhere l before.arena.number after.outside e
       ≤ times_used e after.arena + (elsewhere l before.arena.number before.outside e + given e)
 

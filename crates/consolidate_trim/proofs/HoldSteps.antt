@@ -1,9 +1,9 @@
 -- Laws of the steps of a body, for this crate and those above it: what each step of a hold passes, and the rules by which
 -- a chunk is given up.
 use Rattle.std.proofs.Common.{◌≡◌, ℕ, ◌+◌, ◌<◌, ◌≤◌, Bool, true, false, ◌&&◌, cond, List, [], ◌∷◌, ◌++◌, IfSome, IsTrue, refl, sym, ap, ◌∙◌, subst, arith}
-use Rattle.std.specs.Prelude.{if◌then◌else◌, nat_lt, nat_le}
-use Rattle.std.proofs.lemmas.Bool.{cond-true, cond-false, and_from, lt-ltb, le-ltb, le-leb, lt-leb, eq-eqb}
-use Rattle.std.proofs.Math.Bool.{and-true}
+use Rattle.std.specs.Prelude.{if◌then◌else◌, nat_eq, nat_lt, nat_le}
+use Rattle.std.proofs.lemmas.Bool.{cond-true, cond-false, and_from, lt-ltb, le-ltb, le-leb, lt-leb, eq-eqb, ne_eqb}
+use Rattle.std.proofs.Math.Bool.{and-true, and-false}
 use Rattle.chunk_tags.specs.BinOrder.{fast_chunk, once, same_chunk}
 use Rattle.chunk_tags.specs.Dials.{TrimThreshold}
 use Rattle.chunk_tags.specs.Sizes.{IsChunkSize, fast_index_of, fast_size_at}
@@ -30,7 +30,7 @@ use Rattle.consolidate_trim.specs.declared.merging.Merged.{Merged}
 use Rattle.consolidate_trim.specs.declared.merging.Merged.TheVariants as ends
 use Rattle.consolidate_trim.specs.Merges.{size_merged, merging_of}
 use Rattle.consolidate_trim.specs.Outside.{Means, Goes, Apart, ways}
-use Rattle.consolidate_trim.specs.Holds.{Hold, hold, outside, Chunks, no_chunk, one_chunk, is_block_of, times_cached, IsBacked, Keeps}
+use Rattle.consolidate_trim.specs.Holds.{Hold, hold, outside, Chunks, no_chunk, one_chunk, is_block_of, times_cached, KeepsOthers, IsBacked, Keeps}
 use Rattle.consolidate_trim.proofs.Carried.{Passes, passes_here, passes_then}
 use Rattle.consolidate_trim.proofs.Emptying.{IsMerged, merge_left}
 
@@ -56,7 +56,7 @@ pub passes_idled : {P K A : Type 0} {m : Means P K} {t : Tunables} {r : Rules A}
     Passes m t r chunks h r chunks (hold h.arena q h.cache h.space h.said)
 passes_idled sound idles = record {
   reaches = reaches_idled (record { idles = idles; others = refl });
-  keeps = record { sound = sound; number = refl; placed = λ p. p; cached = λ e. omega arith; kept = λ e. omega (arith, idles.stock e) };
+  keeps = record { sound = sound; number = refl; placed = λ p. p; cached = λ e. omega arith; others = λ n other e. refl; kept = λ e. omega (arith, idles.stock e) };
 }
 
 -- an answer was told, which changes no chunk
@@ -72,14 +72,14 @@ pub passes_flag : {P K A : Type 0} {m : Means P K} {t : Tunables} {chunks : Chun
     Did m.fast h.port (fasts.Flags b) q → said ≡ h.said ++ told.Flag b ∷ [] → Passes m t (asks_flag h.arena f) chunks h (f b) chunks (hold h.arena q h.cache h.space said)
 passes_flag {b = b} f sound did told_so =
     passes_told (λ s. f (flag_of s)) (told.Flag b) refl (record { did = did; others = refl })
-    (record { sound = sound; number = refl; placed = λ p. p; cached = λ e. omega arith; kept = λ e. omega (arith, did.stock e) }) told_so
+    (record { sound = sound; number = refl; placed = λ p. p; cached = λ e. omega arith; others = λ n other e. refl; kept = λ e. omega (arith, did.stock e) }) told_so
 
 -- whether the cache has room
 pub passes_has_room : {P K A : Type 0} {m : Means P K} {t : Tunables} {chunks : Chunks} {h : Hold P K} {size : ℕ} {b : Bool} {said : List Said} (f : Bool → Rules A) → IsSound h.arena →
     b ≡ has_room h.cache size → said ≡ h.said ++ told.Room b ∷ [] → Passes m t (asks_room h.arena size f) chunks h (f b) chunks (hold h.arena h.port h.cache h.space said)
 passes_has_room {b = b} f sound is told_so =
     passes_told (λ s. f (flag_of s)) (told.Room b) refl (record { told = is; others = refl })
-    (record { sound = sound; number = refl; placed = λ p. p; cached = λ e. omega arith; kept = λ e. refl }) told_so
+    (record { sound = sound; number = refl; placed = λ p. p; cached = λ e. omega arith; others = λ n other e. refl; kept = λ e. refl }) told_so
 
 -- the threshold
 pub passes_threshold : {P K : Type 0} {m : Means P K} {t : Tunables} {h : Hold P K} {q : P} {said : List Said} (n : ℕ) → Apart m.fast m.dials → IsSound h.arena →
@@ -87,7 +87,7 @@ pub passes_threshold : {P K : Type 0} {m : Means P K} {t : Tunables} {h : Hold P
     Passes m t (trimmed_by_threshold t h.arena) no_chunk h (trimmed t h.arena n) no_chunk (hold h.arena q h.cache h.space said)
 passes_threshold {t = t} {h = h} {q = q} n apart sound step told_so =
     passes_told (λ s. trimmed t h.arena (number_told s)) (told.Dial n) refl (record { step = step; others = refl })
-    (record { sound = sound; number = refl; placed = λ p. p; cached = λ e. omega arith; kept = λ e. omega (arith, apart.stock h.port q (dial_steps.Reads TrimThreshold n) step e) }) told_so
+    (record { sound = sound; number = refl; placed = λ p. p; cached = λ e. omega arith; others = λ n other e. refl; kept = λ e. omega (arith, apart.stock h.port q (dial_steps.Reads TrimThreshold n) step e) }) told_so
 
 -- the rules are the same, read otherwise
 pub passes_as : {P K A : Type 0} {m : Means P K} {t : Tunables} {r q : Rules A} {chunks : Chunks} {h : Hold P K} → IsSound h.arena → r ≡ q → Passes m t r chunks h q chunks h
@@ -125,13 +125,19 @@ passes_merge {m = m} {t = t} {h = h} b r c backed e =
     let left : IsMerged h.arena c b = merge_left h.arena b c r backed.sound (hand_own c backed) e in
     record {
       reaches = subst (λ (x : Merging). Reaches t (ways m h.arena.number) (given t h.arena c) (outside h) h.said (settled t x) h.said (outside h)) (sym e) reaches_here;
-      keeps = record { sound = left.sound; number = left.number; placed = left.placed; cached = λ x. omega arith; kept = λ x. omega (arith, left.used x) };
+      keeps = record { sound = left.sound; number = left.number; placed = left.placed; cached = λ x. omega arith; others = λ n other x. refl; kept = λ x. omega (arith, left.used x) };
     }
 
 -- ---- a chunk goes into the cache
 
-block_is : (number : ℕ) (e c : Chunk) → cond (is_block_of number e (block_of number c)) 1 0 ≡ once e c
+pub block_is : (number : ℕ) (e c : Chunk) → cond (is_block_of number e (block_of number c)) 1 0 ≡ once e c
 block_is number e c = ap {B = ℕ} (λ (b : Bool). cond b 1 0) (ap (λ (b : Bool). same_chunk e c && b) (eq-eqb number number refl) ∙ and-true (same_chunk e c))
+
+-- and counts for no other arena
+pub block_other : (number n : ℕ) (e c : Chunk) → (n ≡ number → ⊥) → cond {A = ℕ} (is_block_of n e (block_of number c)) 1 0 ≡ 0
+block_other number n e c other =
+    let differ : nat_eq number n ≡ false = ne_eqb number n (λ same. other (sym same)) in
+    ap {B = ℕ} (λ (b : Bool). cond b 1 0) (ap (λ (b : Bool). same_chunk e c && b) differ ∙ and-false (same_chunk e c))
 
 stashed_cached : (number : ℕ) (cache : CacheValue) (c : Chunk) → IfSome cache held.IsSound → IsChunkSize c.size → IsTrue (has_room cache c.size) → (e : Chunk) →
     times_cached number (with_newest cache (block_of number c)) e ≡ once e c + times_cached number cache e
@@ -139,15 +145,22 @@ stashed_cached number cache c sound chunk room e =
     let took : Took cache (block_of number c) (with_newest cache (block_of number c)) = put cache (block_of number c) sound chunk (and_from (has_room cache c.size) true room refl) in
     omega (arith, took.same (λ b. cond (is_block_of number e b) 1 0), block_is number e c)
 
+stashed_others : (number : ℕ) (cache : CacheValue) (c : Chunk) → IfSome cache held.IsSound → IsChunkSize c.size → IsTrue (has_room cache c.size) →
+    KeepsOthers number cache (with_newest cache (block_of number c))
+stashed_others number cache c sound chunk room n other e =
+    let took : Took cache (block_of number c) (with_newest cache (block_of number c)) = put cache (block_of number c) sound chunk (and_from (has_room cache c.size) true room refl) in
+    omega (arith, took.same (λ b. cond (is_block_of n e b) 1 0), block_other number n e c other)
+
 pub passes_stash : {P K : Type 0} {m : Means P K} {t : Tunables} {h : Hold P K} {cache : CacheValue} {number : ℕ} (c : Chunk) → IsSound h.arena → IfSome h.cache held.IsSound → IsChunkSize c.size → IsTrue (has_room h.cache c.size) →
     number ≡ h.arena.number → cache ≡ with_newest h.cache (block_of number c) → Passes m t (Does (Stashes c) (Stop h.arena)) (one_chunk c) h (Stop h.arena) no_chunk (hold h.arena h.port cache h.space h.said)
 passes_stash {h = h} {cache = cache} c sound cached chunk room same stashed =
     let is : cache ≡ with_newest h.cache (block_of h.arena.number c) = stashed ∙ ap (λ (n : ℕ). with_newest h.cache (block_of n c)) same in
     let now : (e : Chunk) → times_cached h.arena.number cache e ≡ once e c + times_cached h.arena.number h.cache e = λ e.
     ap (λ (x : CacheValue). times_cached h.arena.number x e) is ∙ stashed_cached h.arena.number h.cache c cached chunk room e in
+    let others : KeepsOthers h.arena.number h.cache cache = subst (KeepsOthers h.arena.number h.cache) (sym is) (stashed_others h.arena.number h.cache c cached chunk room) in
     record {
       reaches = reaches_done (ap (λ (x : CacheValue). record (outside h) { cache = x }) is);
-      keeps = record { sound = sound; number = refl; placed = λ p. p; cached = λ e. omega (arith, now e); kept = λ e. omega (arith, now e) };
+      keeps = record { sound = sound; number = refl; placed = λ p. p; cached = λ e. omega (arith, now e); others = others; kept = λ e. omega (arith, now e) };
     }
 
 -- ---- a chunk goes into its fast bin
@@ -168,6 +181,7 @@ passes_push {m = m} {h = h} {q = q} c sound chunk is did =
         number = refl;
         placed = λ p. p;
         cached = λ e. omega arith;
+        others = λ n other e. refl;
         kept = λ e. omega (arith, here.stock e, ap (once e) (fast_chunk_is c chunk));
       };
     }

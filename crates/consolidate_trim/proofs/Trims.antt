@@ -101,7 +101,7 @@ trims_some {m = m} {t = t} {bytes = bytes} {h = h} {space = space} threshold s m
     record {
       reaches = subst (λ (r : Rules Plain). Reaches t (ways m a.number) r (outside h) h.said (Stop (main_cut a bytes)) h.said (record (outside h) { space = space })) rules
           (reaches_done (record { gives = gives; others = refl }));
-      keeps = record { sound = k.sound; number = k.number; placed = k.placed; cached = λ e. omega arith; kept = λ e. omega (arith, k.used e) };
+      keeps = record { sound = k.sound; number = k.number; placed = k.placed; cached = λ e. omega arith; others = λ n other e. refl; kept = λ e. omega (arith, k.used e) };
     }
 
 pub trims_main : {P K : Type 0} {m : Means P K} {t : Tunables} {threshold bytes : ℕ} {h : Hold P K} {b : Plain} {space : Space K} → IsSound h.arena → IsTrue (is_main h.arena) →

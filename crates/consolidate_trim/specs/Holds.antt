@@ -47,6 +47,10 @@ is_block_of number c b =
 abbrev pub times_cached : ℕ → CacheValue → Chunks
 times_cached number cache c = count_by (is_block_of number c) (blocks_of cache)
 
+-- a cache has of other arenas than the one with this number what it had
+abbrev pub KeepsOthers : ℕ → CacheValue → CacheValue → Type 0
+KeepsOthers number c d = (n : ℕ) → (n ≡ number → ⊥) → (e : Chunk) → times_cached n c e ≡ times_cached n d e
+
 -- An arena is sound, and the chunks that its port may give, with those in hand, are used ones, as often.
 pub record IsBacked {P : Type 0} (fast : Fast P) (a : Plain) (port : P) (hand : Chunks) : Type 0 where
   pub sound : IsSound a
@@ -59,6 +63,7 @@ pub record Keeps {P K : Type 0} (fast : Fast P) (before : Hold P K) (given : Chu
   pub number : after.arena.number ≡ before.arena.number
   pub placed : IsPlaced before.arena → IsPlaced after.arena
   pub cached : (e : Chunk) → times_cached before.arena.number before.cache e ≤ times_cached before.arena.number after.cache e
+  pub others : KeepsOthers before.arena.number before.cache after.cache
   pub kept : (e : Chunk) →
       times_used e after.arena + (fast.stock before.port e + times_cached before.arena.number before.cache e + given e)
       ≡ times_used e before.arena + (fast.stock after.port e + times_cached before.arena.number after.cache e + got e)
@@ -70,6 +75,7 @@ pub record Spares {P K : Type 0} (fast : Fast P) (before : Hold P K) (given : Ch
   pub number : after.arena.number ≡ before.arena.number
   pub placed : IsPlaced before.arena → IsPlaced after.arena
   pub cached : (e : Chunk) → times_cached before.arena.number before.cache e ≤ times_cached before.arena.number after.cache e
+  pub others : KeepsOthers before.arena.number before.cache after.cache
   pub kept : (e : Chunk) →
       times_used e before.arena + (fast.stock after.port e + times_cached before.arena.number after.cache e)
       ≤ times_used e after.arena + (fast.stock before.port e + times_cached before.arena.number before.cache e + given e)
