@@ -2,6 +2,7 @@ pub mod Balance
 pub mod Carved
 pub mod Chosen
 pub mod Endings
+pub mod Enough
 pub mod FastBins
 pub mod Growing
 pub mod Lifting

@@ -27,8 +27,9 @@ use Rattle.consolidate_trim.specs.Holds.{no_chunk, times_cached}
 use Rattle.arena_core.specs.declared.step.Step as step_type
 use Rattle.arena_core.specs.declared.step.Step.TheVariants as steps
 use Rattle.arena_core.specs.Ledgers.{shelf, Stage, stage, Balances}
-use Rattle.arena_core.specs.Steps.{Steps, is_remainder, drawn, cache_drawn}
+use Rattle.arena_core.specs.Steps.{Steps, IsEnough, FitsStep, is_remainder, drawn, cache_drawn}
 use Rattle.arena_core.proofs.Balance.{balances_here, balances_moved, balances_then, balances_as, loses_from, works_ok, works_short}
+use Rattle.arena_core.proofs.Enough.{enough_same}
 use Rattle.arena_core.proofs.Remainders.{carve_balances}
 use Rattle.arena_core.proofs.Shelving.{room_reaches, stash_reaches, draw_reaches, IsStashed, is_stashed, IsDrawn, is_drawn}
 use Rattle.arena_core.proofs.SmallBins.{stash_balances}
@@ -126,6 +127,7 @@ pub record IsNewest (number nb : ℕ) (first cache : CacheValue) (c : Chunk) : T
   pub sound : IfSome cache IsSoundCache
   pub newest : newest cache (cache_index_of nb) ≡ Some (block_of number c)
   pub cached : nb ≤ max_cached
+  pub enough : IsEnough nb c.size
   pub more : (e : Chunk) → once e c + times_cached number first e ≤ times_cached number cache e
 
 -- so far: from the first to now
@@ -196,6 +198,7 @@ scan_stashes nb sorted stashed x y c so chunk e is same sound room =
         sound = stashing.sound;
         newest = subst (λ k. newest z.outside (cache_index_of nb) ≡ Some (block_of k c)) so.balances.number newest_is;
         cached = room_cached y.outside nb (sym room);
+        enough = enough_same nb c.size chunk same;
         more = λ e.
             let times : times_cached x.arena.number z.outside e ≡ once e c + times_cached x.arena.number y.outside e = subst (λ k. times_cached k z.outside e ≡ once e c + times_cached k y.outside e) so.balances.number (stashing.times e) in
             omega (arith, so.balances.cached e, times);
@@ -257,3 +260,8 @@ scan_enough nb sorted stashed x y c chunk so e is other end =
 pub last_cached : (nb sorted : ℕ) (stashed : Option Chunk) (x y : Stage CacheValue) → Scanning nb sorted stashed x y → IfSome stashed (λ c. nb ≤ max_cached)
 last_cached nb sorted None x y so = tt
 last_cached nb sorted (Some c) x y so = so.last.cached
+
+-- and enough
+pub last_fits : (nb sorted : ℕ) (stashed : Option Chunk) (x y : Stage CacheValue) → Scanning nb sorted stashed x y → FitsStep nb (drawn stashed)
+last_fits nb sorted None x y so = tt
+last_fits nb sorted (Some c) x y so = so.last.enough

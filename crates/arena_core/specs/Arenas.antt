@@ -1,5 +1,5 @@
 -- What a hold of an arena is recorded as (this project's own).
-use Rattle.std.specs.Prelude.{◌≡◌, ℕ, List, [], ◌∷◌, ◌++◌, Option, Some, None, ◌⊎◌}
+use Rattle.std.specs.Prelude.{◌≡◌, ℕ, ◌+◌, List, [], ◌∷◌, ◌++◌, Option, Some, None, ◌⊎◌}
 use Rattle.chunk_tags.specs.declared.block.Block.{Block}
 use Rattle.chunk_tags.specs.declared.tiles.Chunk.{Chunk}
 use Rattle.chunk_tags.specs.declared.tunables.Tunables.{Tunables}
@@ -24,6 +24,7 @@ use Rattle.arena_core.specs.Asking.{found_of, chunks_found, beside_arena}
 use Rattle.arena_core.specs.Journal.{Recorded}
 use Rattle.arena_core.specs.Ledgers.{stage, Balances, Loses, full}
 use Rattle.arena_core.specs.Replay.{rules_of, ended_of, chunk_at}
+use Rattle.arena_core.specs.Steps.{IsEnough}
 
 abbrev pub recorded : Who → Act → List Said → Ended → Recorded
 recorded who act said ended = record { who = who; act = act; said = said; ended = ended }
@@ -37,6 +38,16 @@ abbrev pub take_of : ℕ → Found → Take
 take_of number (finds.InArena c) = takes.Got (block_of number c)
 take_of number (finds.InMapping c) = takes.Got (mapped_block c)
 take_of number finds.Nowhere = takes.Refused
+
+-- what a block needs for a request of nb bytes: 8 more where it is mapped
+abbrev pub need_of : Option ℕ → ℕ → ℕ
+need_of None nb = nb + 8
+need_of (Some number) nb = nb
+
+-- the block that was taken is enough
+abbrev pub FitsRequest : ℕ → Take → Type 0
+FitsRequest nb (takes.Got b) = IsEnough (need_of b.arena nb) b.size
+FitsRequest nb takes.Refused = Unit {0}
 
 -- a hold: its arena and what is beside it, and the journal
 pub record Held (P K : Type 0) : Type 0 where

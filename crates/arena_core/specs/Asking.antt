@@ -1,5 +1,5 @@
 -- What a search meets that asks the system, and what its parts promise (this project's own).
-use Rattle.std.specs.Prelude.{◌≡◌, ℕ, ◌^◌, ◌<◌, ◌≤◌, Bool, true, false, IsTrue, Option, List, Result, IfOk, OnErr, [], ◌∷◌, ◌++◌}
+use Rattle.std.specs.Prelude.{◌≡◌, ℕ, ◌+◌, ◌^◌, ◌<◌, ◌≤◌, Bool, true, false, IsTrue, Option, List, Result, IfOk, OnErr, [], ◌∷◌, ◌++◌}
 use Rattle.chunk_tags.specs.BinOrder.{once}
 use Rattle.chunk_tags.specs.declared.refusals.NoMemory.{NoMemory}
 use Rattle.chunk_tags.specs.declared.tiles.Chunk.{Chunk}
@@ -27,6 +27,7 @@ use Rattle.consolidate_trim.specs.Outside.{Means, Outside}
 use Rattle.arena_core.specs.declared.found.Found.{Found}
 use Rattle.arena_core.specs.declared.found.Found.TheVariants.{InArena, InMapping, Nowhere}
 use Rattle.arena_core.specs.Ledgers.{Stage, stage, Works, full, word_ledger}
+use Rattle.arena_core.specs.Steps.{IsEnough}
 
 abbrev pub beside_arena : {P K : Type 0} → P → CacheValue → Space K → Outside P K
 beside_arena port cache space = record { port = port; cache = cache; space = space }
@@ -98,6 +99,12 @@ abbrev pub chunks_found : Found → Chunks
 chunks_found (InArena c) e = once e c
 chunks_found (InMapping c) e = 0
 chunks_found Nowhere e = 0
+
+-- the chunk that was found is enough; one that is a mapping has 8 bytes more
+abbrev pub FitsFound : ℕ → Found → Type 0
+FitsFound nb (InArena c) = IsEnough nb c.size
+FitsFound nb (InMapping c) = IsEnough (nb + 8) c.size
+FitsFound nb Nowhere = Unit {0}
 
 -- A chunk is found by these rules, or nothing.
 abbrev pub Finds : {P K : Type 0} → Means P K → Tunables → Rules growth.Took → Stage (Outside P K) → Result Found NoMemory → Stage (Outside P K) → Type 0

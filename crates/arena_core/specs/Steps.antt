@@ -1,7 +1,7 @@
 -- What a step of the search promises (this project's own).
-use Rattle.std.specs.Prelude.{ℕ, ◌+◌, Bool, false, ◌&&◌, nat_eq, nat_lt, length, Result, Option, Some, None, drop, if◌then◌else◌}
+use Rattle.std.specs.Prelude.{ℕ, ◌+◌, ◌≤◌, Bool, false, ◌&&◌, nat_eq, nat_lt, length, Result, Option, Some, None, drop, if◌then◌else◌}
 use Rattle.chunk_tags.specs.BinOrder.{best_of, once}
-use Rattle.chunk_tags.specs.Sizes.{is_small_size, large_index_of, bin_of, cache_index_of, fast_index_of}
+use Rattle.chunk_tags.specs.Sizes.{IsChunkSize, is_small_size, large_index_of, bin_of, cache_index_of, fast_index_of}
 use Rattle.chunk_tags.specs.declared.refusals.NoMemory.{NoMemory}
 use Rattle.chunk_tags.specs.declared.tiles.Chunk.{Chunk}
 use Rattle.chunk_tags.specs.declared.tunables.Tunables.{Tunables}
@@ -27,6 +27,16 @@ step_of Onward a = search.Onward a
 abbrev pub chunks_of : Step → Chunks
 chunks_of (Taken c) e = once e c
 chunks_of Onward e = 0
+
+-- a size of chunks that is enough for a need
+pub record IsEnough (need size : ℕ) : Type 0 where
+  pub chunk : IsChunkSize size
+  pub room : need ≤ size
+
+-- the chunk that a step took is enough
+abbrev pub FitsStep : ℕ → Step → Type 0
+FitsStep nb (Taken c) = IsEnough nb c.size
+FitsStep nb Onward = Unit {0}
 
 -- a step of the search, whatever the tunables
 pub record Steps {O : Type 0} (l : Ledger O) (rules : Rules search.Step) (before : Stage O) (result : Result Step NoMemory) (after : Stage O) : Type 0 where

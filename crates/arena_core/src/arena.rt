@@ -11,7 +11,7 @@ ghost use Rattle.consolidate_trim.specs.Outside.{Apart, means};
 ghost use Rattle.arena_core.specs.Ledgers.{stage};
 ghost use Rattle.arena_core.specs.Asking.{IsSearchable, IsReady, AllowsMaps, beside_arena, found_of};
 ghost use Rattle.arena_core.specs.Replay.{IsReplay, chunk_at, ended_of};
-ghost use Rattle.arena_core.specs.Arenas.{Takes, FailsShort, GivesShort, Records, held, take_of, recorded};
+ghost use Rattle.arena_core.specs.Arenas.{Takes, FitsRequest, FailsShort, GivesShort, Records, held, take_of, recorded};
 ghost use Rattle.arena_core.specs.declared.journal.Act.TheVariants as acts;
 ghost use Rattle.arena_core.specs.declared.found.Found.TheVariants as finds;
 
@@ -119,6 +119,7 @@ impl<M: Moves> Arena<M> {
             (FailsShort (means P.fast P.dials K.port) t.now who (acts.Take nb)
             (held (M.plain self.old.ground) port.old cache.old space.old self.old.journal.items)
             no_chunk (held (M.plain self.new.ground) port.new cache.new space.new self.new.journal.items)) }
+        ensures fits { IfOk result (FitsRequest nb) }
 
         // Nothing is taken only where the system refused an ask.
         ensures refused { IfOk result (λ take. take ≡ Take.Refused

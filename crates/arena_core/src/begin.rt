@@ -6,7 +6,7 @@ ghost use Rattle.fast_bins.specs.FastPorts as fasts;
 ghost use Rattle.arena_rules.specs.Search.{consolidated_first};
 ghost use Rattle.consolidate_trim.specs.Holds.{IsBacked, no_chunk};
 ghost use Rattle.arena_core.specs.Ledgers.{near_ledger, near, stage};
-ghost use Rattle.arena_core.specs.Steps.{Steps, Sweeps, begun, begun_small};
+ghost use Rattle.arena_core.specs.Steps.{Steps, Sweeps, FitsStep, begun, begun_small};
 
 use crate::fast::take_fast;
 use crate::room::{make_room, tell};
@@ -61,9 +61,10 @@ fn begin_small<M: Moves, P: FastPort>(
 ) -> Result<Step, NoMemory>
     requires backed { IsBacked P.fast (M.plain g.old) port.old no_chunk }
     requires chunk { IsChunkSize nb }
-    ensures { Steps (near_ledger P.fast) (begun_small nb (M.plain g.old))
+    ensures steps { Steps (near_ledger P.fast) (begun_small nb (M.plain g.old))
         (stage (M.plain g.old) (near port.old cache.old) said.old.items)
         result (stage (M.plain g.new) (near port.new cache.new) said.new.items) }
+    ensures fits { IfOk result (FitsStep nb) }
 {
     match take_small(g, nb, cache, said)? {
         Step::Taken(c) => Ok(Step::Taken(c)),
@@ -87,9 +88,10 @@ pub fn begin<M: Moves, P: FastPort>(
     requires backed { IsBacked P.fast (M.plain g.old) port.old no_chunk }
     requires chunk { IsChunkSize nb }
     requires fast { t.now.max_fast ≤ 160 }
-    ensures { Steps (near_ledger P.fast) (begun t.now nb (M.plain g.old))
+    ensures steps { Steps (near_ledger P.fast) (begun t.now nb (M.plain g.old))
         (stage (M.plain g.old) (near port.old cache.old) said.old.items)
         result (stage (M.plain g.new) (near port.new cache.new) said.new.items) }
+    ensures fits { IfOk result (FitsStep nb) }
 {
     match take_fast(g, nb, cache, port, t, said)? {
         Step::Taken(c) => Ok(Step::Taken(c)),

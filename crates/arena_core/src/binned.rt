@@ -4,7 +4,7 @@ ghost use Rattle.std.specs.Prelude.{◌≡◌, ◌+◌, nat_le};
 ghost use Rattle.chunk_tags.specs.Sizes.{IsChunkSize};
 ghost use Rattle.arena_rules.specs.PlainArena.{IsSound};
 ghost use Rattle.arena_rules.specs.Growth.{has_top_for};
-ghost use Rattle.arena_core.specs.Steps.{step_of, chosen, topped, binned};
+ghost use Rattle.arena_core.specs.Steps.{FitsStep, step_of, chosen, topped, binned};
 
 use crate::carve::{MIN_CHUNK, carve};
 use crate::step::Step;
@@ -45,7 +45,8 @@ pub fn has_top_for<M: Moves>(g: &M, nb: Size) -> bool
 pub fn take_top<M: Moves>(g: &mut M, nb: Size) -> Step
     requires sound { IsSound (M.plain g.old) }
     requires chunk { IsChunkSize nb }
-    ensures { step_of result (M.plain g.new) ≡ topped nb (M.plain g.old) }
+    ensures step { step_of result (M.plain g.new) ≡ topped nb (M.plain g.old) }
+    ensures fits { FitsStep nb result }
 {
     if has_top_for(g, nb) {
         Step::Taken(Chunk {
@@ -61,7 +62,8 @@ pub fn take_top<M: Moves>(g: &mut M, nb: Size) -> Step
 pub fn take_binned<M: Moves>(g: &mut M, nb: Size) -> Step
     requires sound { IsSound (M.plain g.old) }
     requires chunk { IsChunkSize nb }
-    ensures { step_of result (M.plain g.new) ≡ binned nb (M.plain g.old) }
+    ensures step { step_of result (M.plain g.new) ≡ binned nb (M.plain g.old) }
+    ensures fits { FitsStep nb result }
 {
     match choose(g, nb) {
         Some(c) => Step::Taken(carve(g, &c, nb)),

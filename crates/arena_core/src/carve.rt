@@ -4,6 +4,7 @@ ghost use Rattle.std.specs.Prelude.{◌≡◌, ◌-◌, ◌<◌, ◌≤◌, IsTr
 ghost use Rattle.chunk_tags.specs.Sizes.{IsChunkSize};
 ghost use Rattle.arena_rules.specs.PlainArena.{IsSound, times_listed};
 ghost use Rattle.arena_rules.specs.Search.{carved, carved_chunk, with_remainder};
+ghost use Rattle.arena_core.specs.Steps.{IsEnough};
 
 use arena_rules::Moves;
 use chunk_tags::{Chunk, Size, is_small};
@@ -28,6 +29,7 @@ pub fn carve<M: Moves>(g: &mut M, c: &Chunk, nb: Size) -> Chunk
     requires chunk { IsChunkSize nb }
     requires fits { nb ≤ c.now.size }
     ensures chunk { result ≡ carved_chunk c.now nb }
+    ensures fits { IsEnough nb result.size }
     ensures arena { M.plain g.new ≡ with_remainder (carved (M.plain g.old) c.now nb) c.now nb }
 {
     g.claim(*c);

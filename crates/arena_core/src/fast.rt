@@ -6,7 +6,7 @@ ghost use Rattle.fast_bins.specs.FastPorts as fasts;
 ghost use Rattle.arena_rules.specs.Search.{fast_taken};
 ghost use Rattle.consolidate_trim.specs.Holds.{IsBacked, no_chunk};
 ghost use Rattle.arena_core.specs.Ledgers.{near_ledger, near, stage};
-ghost use Rattle.arena_core.specs.Steps.{Steps, StashesFast};
+ghost use Rattle.arena_core.specs.Steps.{Steps, StashesFast, FitsStep};
 
 use crate::room::{ask_room, make_room, stash, tell};
 use crate::step::Step;
@@ -64,9 +64,10 @@ pub fn take_fast<M: Moves, P: FastPort>(
     requires backed { IsBacked P.fast (M.plain g.now) port.old no_chunk }
     requires chunk { IsChunkSize nb }
     requires fast { t.now.max_fast ≤ 160 }
-    ensures { Steps (near_ledger P.fast) (fast_taken t.now nb (M.plain g.now))
+    ensures steps { Steps (near_ledger P.fast) (fast_taken t.now nb (M.plain g.now))
         (stage (M.plain g.now) (near port.old cache.old) said.old.items)
         result (stage (M.plain g.now) (near port.new cache.new) said.new.items) }
+    ensures fits { IfOk result (FitsStep nb) }
 {
     if nb.0 > t.max_fast {
         return Ok(Step::Onward);

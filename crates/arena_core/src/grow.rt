@@ -1,13 +1,13 @@
 //! Main grows, and a chunk is cut from its top.
 
-ghost use Rattle.std.specs.Prelude.{◌≡◌, ◌≤◌, false, Bool, IsTrue};
+ghost use Rattle.std.specs.Prelude.{◌≡◌, ◌≤◌, false, Bool, IsTrue, IfOk};
 ghost use Rattle.chunk_tags.specs.Sizes.{IsRequestSize};
 ghost use Rattle.arena_rules.specs.PlainArena.{is_main};
 ghost use Rattle.arena_rules.specs.Growth.{has_top_for, piece_grown, main_grown, grown};
 ghost use Rattle.consolidate_trim.specs.Holds.{IsBacked};
 ghost use Rattle.consolidate_trim.specs.Outside.{Apart, means};
 ghost use Rattle.arena_core.specs.Ledgers.{stage};
-ghost use Rattle.arena_core.specs.Asking.{IsSearchable, IsReady, Closes, Grows, Finds, beside_arena, chunks_in};
+ghost use Rattle.arena_core.specs.Asking.{IsSearchable, IsReady, Closes, Grows, Finds, FitsFound, beside_arena, chunks_in};
 
 use crate::binned::{has_top_for, take_top};
 use crate::found::Found;
@@ -126,9 +126,10 @@ pub fn grow<M: Moves, K: Kernel, P: FastPort + Dials>(
     requires tuned { IsSearchable t.now }
     requires size { IsRequestSize nb }
     requires short { has_top_for (M.plain g.old) nb ≡ false }
-    ensures { (tried : Bool) → Finds (means P.fast P.dials K.port) t.now (grown t.now nb tried (M.plain g.old))
+    ensures finds { (tried : Bool) → Finds (means P.fast P.dials K.port) t.now (grown t.now nb tried (M.plain g.old))
         (stage (M.plain g.old) (beside_arena port.old cache.old space.old) said.old.items)
         result (stage (M.plain g.new) (beside_arena port.new cache.new space.new) said.new.items) }
+    ensures fits { IfOk result (FitsFound nb) }
 {
     grow_main(g, nb, cache, port, space, t, said, 2)?;
     g.note_most();

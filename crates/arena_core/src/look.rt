@@ -6,7 +6,7 @@ ghost use Rattle.arena_rules.specs.PlainArena.{IsSound};
 ghost use Rattle.arena_rules.specs.Growth.{has_top_for};
 ghost use Rattle.arena_rules.specs.Search.{looked};
 ghost use Rattle.arena_core.specs.Ledgers.{shelf, stage};
-ghost use Rattle.arena_core.specs.Steps.{Steps};
+ghost use Rattle.arena_core.specs.Steps.{Steps, FitsStep};
 
 use crate::binned::take_binned;
 use crate::scan::scan;
@@ -26,6 +26,7 @@ pub fn look<M: Moves>(
     requires chunk { IsChunkSize nb }
     ensures steps { Steps shelf (looked nb (M.plain g.old)) (stage (M.plain g.old) cache.old said.old.items)
         result (stage (M.plain g.new) cache.new said.new.items) }
+    ensures fits { IfOk result (FitsStep nb) }
 
     // Where it goes on, top can't give so much.
     ensures top { IfOk result (λ s. s ≡ Step.Onward → has_top_for (M.plain g.new) nb ≡ false) }

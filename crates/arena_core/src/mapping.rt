@@ -1,10 +1,11 @@
 //! A mapping is asked for.
 
-ghost use Rattle.std.specs.Prelude.{◌≡◌, ◌+◌, ◌≤◌, ◌^◌, [], ◌∷◌, ◌++◌, IfOk, OnErr};
+ghost use Rattle.std.specs.Prelude.{◌≡◌, ◌+◌, ◌≤◌, ◌^◌, [], ◌∷◌, ◌++◌, IfOk, IfSome, OnErr};
 ghost use Rattle.chunk_tags.specs.Dials as words;
 ghost use Rattle.mapped_chunks.specs.DialPorts as steps;
 ghost use Rattle.consolidate_trim.specs.Outside.{Apart, means};
 ghost use Rattle.arena_core.specs.Asking.{AllowsMaps, AsksMapping, AsksWhether};
+ghost use Rattle.arena_core.specs.Steps.{IsEnough};
 
 use crate::room::{make_room, tell};
 use address_space::{Answer, Ask, Kernel, Space};
@@ -23,8 +24,9 @@ pub fn ask_mapping<K: Kernel, P: FastPort + Dials>(
     requires size { nb ≤ 2 ^ 63 + 16 }
     requires apart { Apart P.fast P.dials }
     requires allows { AllowsMaps P.dials port.old space.old }
-    ensures { AsksMapping (means P.fast P.dials K.port) nb port.old space.old said.old.items
+    ensures asks { AsksMapping (means P.fast P.dials K.port) nb port.old space.old said.old.items
         result port.new space.new said.new.items }
+    ensures fits { IfOk result (λ mapped. IfSome mapped (λ c. IsEnough (nb + 8) c.size)) }
 {
     make_room(said)?;
     let len = page_up(nb.0 + 8);

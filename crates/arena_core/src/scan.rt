@@ -1,11 +1,11 @@
 //! The scan of the unsorted chunks.
 
-ghost use Rattle.std.specs.Prelude.{◌≡◌, ◌+◌, ◌≤◌, nat_lt, IfSome};
+ghost use Rattle.std.specs.Prelude.{◌≡◌, ◌+◌, ◌≤◌, nat_lt, IfOk, IfSome};
 ghost use Rattle.chunk_tags.specs.Sizes.{IsChunkSize, max_cached};
 ghost use Rattle.arena_rules.specs.PlainArena.{IsSound};
 ghost use Rattle.arena_rules.specs.Search.{scanned_all};
 ghost use Rattle.arena_core.specs.Ledgers.{shelf, stage};
-ghost use Rattle.arena_core.specs.Steps.{Steps, is_remainder, drawn, cache_drawn};
+ghost use Rattle.arena_core.specs.Steps.{Steps, FitsStep, is_remainder, drawn, cache_drawn};
 
 use crate::carve::carve;
 use crate::room::{ask_room, stash_free};
@@ -58,8 +58,9 @@ pub fn scan<M: Moves>(
 ) -> Result<Step, NoMemory>
     requires sound { IsSound (M.plain g.old) }
     requires chunk { IsChunkSize nb }
-    ensures { Steps shelf (scanned_all nb (M.plain g.old)) (stage (M.plain g.old) cache.old said.old.items)
+    ensures steps { Steps shelf (scanned_all nb (M.plain g.old)) (stage (M.plain g.old) cache.old said.old.items)
         result (stage (M.plain g.new) cache.new said.new.items) }
+    ensures fits { IfOk result (FitsStep nb) }
 {
     let mut sorted = 0;
     let mut stashed = None;

@@ -7,7 +7,7 @@ ghost use Rattle.address_space.specs.Spaces.{space_refusals};
 ghost use Rattle.arena_rules.specs.Search.{rounds, searched};
 ghost use Rattle.consolidate_trim.specs.Outside.{Apart, means};
 ghost use Rattle.arena_core.specs.Ledgers.{stage};
-ghost use Rattle.arena_core.specs.Asking.{IsSearchable, IsReady, AllowsMaps, Finds, beside_arena};
+ghost use Rattle.arena_core.specs.Asking.{IsSearchable, IsReady, AllowsMaps, Finds, FitsFound, beside_arena};
 
 use crate::begin::{ask_flag, begin};
 use crate::found::Found;
@@ -46,6 +46,7 @@ fn go_round<M: Moves, K: Kernel, P: FastPort + Dials>(
     ensures finds { Finds (means P.fast P.dials K.port) t.now (rounds again t.now nb (M.plain g.old))
         (stage (M.plain g.old) (beside_arena port.old cache.old space.old) said.old.items)
         result (stage (M.plain g.new) (beside_arena port.new cache.new space.new) said.new.items) }
+    ensures fits { IfOk result (FitsFound nb) }
     ensures refused { IfOk result (λ found. found ≡ Found.Nowhere
         → Rose (space_refusals K.port space.old) (space_refusals K.port space.new)) }
 {
@@ -83,6 +84,7 @@ pub fn search<M: Moves, K: Kernel, P: FastPort + Dials>(
     ensures finds { Finds (means P.fast P.dials K.port) t.now (searched t.now nb (M.plain g.old))
         (stage (M.plain g.old) (beside_arena port.old cache.old space.old) said.old.items)
         result (stage (M.plain g.new) (beside_arena port.new cache.new space.new) said.new.items) }
+    ensures fits { IfOk result (FitsFound nb) }
     ensures refused { IfOk result (λ found. found ≡ Found.Nowhere
         → Rose (space_refusals K.port space.old) (space_refusals K.port space.new)) }
 {

@@ -1,11 +1,11 @@
 //! A small size is taken from its own bin.
 
-ghost use Rattle.std.specs.Prelude.{IsTrue};
+ghost use Rattle.std.specs.Prelude.{IsTrue, IfOk};
 ghost use Rattle.chunk_tags.specs.Sizes.{IsChunkSize, is_small_size};
 ghost use Rattle.arena_rules.specs.PlainArena.{IsSound};
 ghost use Rattle.arena_rules.specs.Search.{small_taken};
 ghost use Rattle.arena_core.specs.Ledgers.{shelf, stage};
-ghost use Rattle.arena_core.specs.Steps.{Steps, StashesSmall};
+ghost use Rattle.arena_core.specs.Steps.{Steps, StashesSmall, FitsStep};
 
 use crate::room::{ask_room, stash_free};
 use crate::step::Step;
@@ -44,8 +44,9 @@ pub fn take_small<M: Moves>(
 ) -> Result<Step, NoMemory>
     requires sound { IsSound (M.plain g.old) }
     requires chunk { IsChunkSize nb }
-    ensures { Steps shelf (small_taken nb (M.plain g.old)) (stage (M.plain g.old) cache.old said.old.items)
+    ensures steps { Steps shelf (small_taken nb (M.plain g.old)) (stage (M.plain g.old) cache.old said.old.items)
         result (stage (M.plain g.new) cache.new said.new.items) }
+    ensures fits { IfOk result (FitsStep nb) }
 {
     if !is_small(nb) {
         return Ok(Step::Onward);

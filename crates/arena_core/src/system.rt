@@ -7,7 +7,7 @@ ghost use Rattle.address_space.specs.Spaces.{space_refusals};
 ghost use Rattle.arena_rules.specs.Growth.{has_top_for, grown, maps_else, system_asked};
 ghost use Rattle.consolidate_trim.specs.Outside.{Apart, means};
 ghost use Rattle.arena_core.specs.Ledgers.{stage};
-ghost use Rattle.arena_core.specs.Asking.{IsSearchable, IsReady, AllowsMaps, Finds, beside_arena};
+ghost use Rattle.arena_core.specs.Asking.{IsSearchable, IsReady, AllowsMaps, Finds, FitsFound, beside_arena};
 
 use crate::found::Found;
 use crate::grow::grow;
@@ -36,10 +36,11 @@ fn map_or_grow<M: Moves, K: Kernel, P: FastPort + Dials>(
     requires tuned { IsSearchable t.now }
     requires size { IsRequestSize nb }
     requires short { has_top_for (M.plain g.old) nb ≡ false }
-    ensures { let a = M.plain g.old in
+    ensures finds { let a = M.plain g.old in
         Finds (means P.fast P.dials K.port) t.now (maps_else nb a (grown t.now nb true a))
         (stage a (beside_arena port.old cache.old space.old) said.old.items)
         result (stage (M.plain g.new) (beside_arena port.new cache.new space.new) said.new.items) }
+    ensures fits { IfOk result (FitsFound nb) }
 {
     match ask_mapping(nb, port, space, said)? {
         Some(c) => Ok(Found::InMapping(c)),
@@ -68,6 +69,7 @@ pub fn ask_system<M: Moves, K: Kernel, P: FastPort + Dials>(
     ensures finds { Finds (means P.fast P.dials K.port) t.now (system_asked t.now nb (M.plain g.old))
         (stage (M.plain g.old) (beside_arena port.old cache.old space.old) said.old.items)
         result (stage (M.plain g.new) (beside_arena port.new cache.new space.new) said.new.items) }
+    ensures fits { IfOk result (FitsFound nb) }
     ensures refused { IfOk result (λ found. found ≡ Found.Nowhere
         → Rose (space_refusals K.port space.old) (space_refusals K.port space.new)) }
 {

@@ -1,5 +1,6 @@
 use Rattle.std.proofs.Common.{arith}
 use Rattle.arena_core.proofs.Carved.{can_part, can_shelve}
+use Rattle.arena_core.proofs.Enough.{enough_listed}
 use Rattle.arena_core.proofs.carve.carve.Goals as goal
 
 pub part-requires-clause-sound : goal.part-requires-clause-sound
@@ -28,3 +29,6 @@ pub shelve-requires-clause-alone : goal.shelve-requires-clause-alone
 shelve-requires-clause-alone g c =
     rw (c.part.ensures.arena, c.part.ensures.rest, c.claim.ensures)
     (can_shelve _ c.args.c.now c.args.nb c.requires.sound c.requires.listed c.requires.chunk (omega arith)).alone
+
+pub returns-then-beyond-lt-MIN_CHUNK-clause-fits : goal.returns-then-beyond-lt-MIN_CHUNK-clause-fits
+returns-then-beyond-lt-MIN_CHUNK-clause-fits g c = enough_listed (g.M.Moves.plain c.args.g.now) c.args.c.now c.args.nb c.requires.sound c.requires.listed c.requires.fits
