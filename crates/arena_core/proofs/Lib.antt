@@ -23,3 +23,4 @@ pub mod Scanning
 pub mod Shelving
 pub mod SmallBins
 pub mod Systems
+pub mod Tellings

@@ -8,7 +8,7 @@ use Rattle.fast_bins.specs.FastPorts.{Fast}
 use Rattle.arena_rules.specs.declared.said.Said.{Said}
 use Rattle.arena_rules.specs.declared.said.Said.TheVariants as told
 use Rattle.arena_rules.specs.PlainArena.{Plain}
-use Rattle.arena_rules.specs.Rules.{Rules, Need, Flagged, Pops, Owns, Rooms, Deed, Clears, Gathers, Pushes, Stashes, Draws, block_of}
+use Rattle.arena_rules.specs.Rules.{Rules, Need, Flagged, Pops, Owns, Rooms, Deed, Clears, Gathers, Stashes, Draws, block_of}
 use Rattle.chunk_tags.specs.Sizes.{cache_index_of}
 use Rattle.arena_rules.specs.Walks.{Ways, Walks, here, idled, done, told, Reaches, StopsShort}
 use Rattle.consolidate_trim.specs.FastHolds.{FastHold, FastAnswers, FastDoes, Empties}
@@ -100,7 +100,6 @@ near_goes m space o p n s h = absurd h
 near_does : {P K : Type 0} (m : Means P K) (n : ℕ) (space : Space K) (o p : Near P) (d : Deed) → NearDoes m.fast n o d p → Does m n (far space o) d (far space p)
 near_does m n space o p Clears h = record { did = h.did; others = ap (λ c. far space (near p.port c)) h.cache }
 near_does m n space o p (Gathers bin) h = record { did = h.did; others = ap (λ c. far space (near p.port c)) h.cache }
-near_does m n space o p (Pushes bin at) h = record { did = h.did; others = ap (λ c. far space (near p.port c)) h.cache }
 near_does m n space o p (Stashes k) h = ap (λ c. far space (near p.port c)) h.step ∙ ap (λ q. far space (near q (with_newest o.cache (block_of n k)))) h.port
 near_does m n space o p (Draws size) h = ap (λ c. far space (near p.port c)) h.step ∙ ap (λ q. far space (near q (without_newest o.cache (cache_index_of size)))) h.port
 near_does m n space o p d h = absurd h
@@ -126,7 +125,6 @@ fast_goes fast c o p n s h = absurd h
 fast_does : {P : Type 0} (fast : Fast P) (n : ℕ) (c : CacheValue) (o p : P) (d : Deed) → FastDoes fast o d p → NearDoes fast n (near o c) d (near p c)
 fast_does fast n c o p Clears h = record { did = h; cache = refl }
 fast_does fast n c o p (Gathers bin) h = record { did = h; cache = refl }
-fast_does fast n c o p (Pushes bin at) h = record { did = h; cache = refl }
 fast_does fast n c o p d h = absurd h
 
 -- the fast bins alone, beside any cache

@@ -1,7 +1,11 @@
 -- Laws of recorded holds, for this crate and those above it: the arena is still what its journal gives.
-use Rattle.std.proofs.Common.{◌≡◌, ℕ, true, List, [], ◌∷◌, ◌++◌, Result, Ok, Err, sym, subst, inl, inr, arith}
+use Rattle.std.proofs.Common.{◌≡◌, ℕ, true, ◌&&◌, List, [], ◌∷◌, ◌++◌, Result, Ok, Err, sym, subst, inl, inr, arith}
+use Rattle.std.proofs.lemmas.Bool.{and_from}
 use Rattle.std.proofs.lemmas.Bool.Decides.{nat_tests}
+use Rattle.std.proofs.lemmas.List.Sums.{sum_by-cons}
+use Rattle.chunk_tags.specs.BinOrder.{once}
 use Rattle.chunk_tags.specs.Sizes.{IsRequestSize}
+use Rattle.chunk_tags.specs.declared.tiles.Chunk.{Chunk}
 use Rattle.chunk_tags.specs.declared.refusals.NoMemory.{NoMemory}
 use Rattle.chunk_tags.specs.declared.tunables.Tunables.{Tunables}
 use Rattle.address_space.specs.declared.space.Space.{Space}
@@ -14,8 +18,9 @@ use Rattle.arena_rules.specs.Release.{given}
 use Rattle.arena_rules.specs.Search.{searched}
 use Rattle.arena_rules.specs.Walks.{Ways, Walks, Reaches}
 use Rattle.arena_rules.proofs.Walks.{ends_as_walked, left_as_walked, reaches_behind, short_behind}
-use Rattle.consolidate_trim.specs.Holds.{Chunks, no_chunk, one_chunk, GivesUp, hold}
-use Rattle.consolidate_trim.specs.Outside.{Means}
+use Rattle.consolidate_trim.specs.Holds.{Chunks, no_chunk, one_chunk, IsBacked, GivesUp, hold}
+use Rattle.consolidate_trim.proofs.HoldSteps.{hand_own}
+use Rattle.consolidate_trim.specs.Outside.{Means, Outside, Apart, ways}
 use Rattle.arena_core.specs.declared.found.Found.{Found}
 use Rattle.arena_core.specs.declared.found.Found.TheVariants as finds
 use Rattle.arena_core.specs.declared.journal.Act.{Act}
@@ -27,27 +32,50 @@ use Rattle.arena_core.specs.Arenas.{Held, Records, RecordsShort, Takes, FailsSho
 use Rattle.arena_core.specs.Asking.{Finds, found_of, beside_arena}
 use Rattle.arena_core.specs.Journal.{Recorded}
 use Rattle.arena_core.specs.Ledgers.{stage}
-use Rattle.arena_core.specs.Replay.{IsReplay, may_act, ended_of, is_request_size, chunk_at, found_nothing}
+use Rattle.arena_core.specs.Replay.{IsReplay, rules_of, may_act, hand_of, ended_of, is_request_size, chunk_at, found_nothing}
 use Rattle.arena_core.proofs.Lifting.{works_carries}
+use Rattle.arena_core.specs.Tellings.{tells_others}
+use Rattle.arena_core.proofs.Tellings.{IsApart, tells_walked, apart_backed}
 use Rattle.arena_core.proofs.Replays.{replay_more, next_done, next_short}
 
 -- answers put behind none are all the answers
 only_said : {O A : Type 0} {t : Tunables} {w : Ways O} {r q : Rules A} {o z : O} {said : List Said} → Reaches t w r o [] q said z → Walks t w r o said q z
 only_said {t = t} {w = w} {r = r} {q = q} {o = o} {z = z} a = subst (λ ss. Walks t w r o ss q z) (sym a.added) a.walks
 
-pub records_replay : {P K : Type 0} {m : Means P K} {t : Tunables} {who : Who} {act : Act} {x y : Held P K} {given : Chunks} {found : Found} (start : Plain) → may_act act x.arena ≡ true → Records m t who act x given found y → IsReplay t start x.journal x.arena → IsReplay t start y.journal y.arena
-records_replay {t = t} {who = who} {act = act} {x = x} {y = y} {found = found} start may r old =
-    subst (λ es. IsReplay t start es y.arena) (sym r.added)
-    (replay_more t start x.journal x.arena y.arena (recorded who act r.said (ended_of act (found_of found))) old (next_done t who act r.said (found_of found) x.arena y.arena may (ends_as_walked (only_said r.walks))))
+-- what an act of a hold meets
+pub record CanAct {P K : Type 0} (m : Means P K) (act : Act) (x : Held P K) : Type 0 where
+  pub may : may_act act x.arena ≡ true
+  pub words : Apart m.fast m.dials
+  pub apart : IsApart (m.fast.stock x.outside.port) (hand_of act)
 
-pub short_replay : {P K : Type 0} {m : Means P K} {t : Tunables} {who : Who} {act : Act} {x y : Held P K} {given : Chunks} (start : Plain) → may_act act x.arena ≡ true → FailsShort m t who act x given y → IsReplay t start x.journal x.arena → IsReplay t start y.journal y.arena
-short_replay {t = t} {x = x} {y = y} start may (inl same) old = subst (λ (h : Held _ _). IsReplay t start h.journal h.arena) (sym same) old
-short_replay {t = t} {who = who} {act = act} {x = x} {y = y} start may (inr r) old =
-    subst (λ es. IsReplay t start es y.arena) (sym r.added)
-    (replay_more t start x.journal x.arena y.arena (recorded who act r.said Short) old (next_short t who act r.said x.arena y.arena may (left_as_walked (only_said r.stops.reaches))))
+-- and then its entry is a possible one
+possible : {P K : Type 0} {m : Means P K} {number : ℕ} {q : Rules Took} {z : Outside P K} {said : List Said} (t : Tunables) (act : Act) (x : Held P K) → CanAct m act x →
+    Walks t (ways m number) (rules_of t act x.arena) x.outside said q z → may_act act x.arena && tells_others (hand_of act) (rules_of t act x.arena) said ≡ true
+possible t act x can walks = and_from (may_act act x.arena) _ can.may (tells_walked (hand_of act) can.words can.apart walks)
 
-pub request_size : (nb : ℕ) → IsRequestSize nb → is_request_size nb ≡ true
+pub records_replay : {P K : Type 0} {m : Means P K} {t : Tunables} {who : Who} {act : Act} {x y : Held P K} {given : Chunks} {found : Found} (start : Plain) → CanAct m act x → Records m t who act x given found y → IsReplay t start x.journal x.arena → IsReplay t start y.journal y.arena
+records_replay {t = t} {who = who} {act = act} {x = x} {y = y} {found = found} start can r old =
+    let walks = only_said r.walks in
+    subst (λ es. IsReplay t start es y.arena) (sym r.added)
+    (replay_more t start x.journal x.arena y.arena (recorded who act r.said (ended_of act (found_of found))) old (next_done t who act r.said (found_of found) x.arena y.arena (possible t act x can walks) (ends_as_walked walks)))
+
+pub short_replay : {P K : Type 0} {m : Means P K} {t : Tunables} {who : Who} {act : Act} {x y : Held P K} {given : Chunks} (start : Plain) → CanAct m act x → FailsShort m t who act x given y → IsReplay t start x.journal x.arena → IsReplay t start y.journal y.arena
+short_replay {t = t} {x = x} {y = y} start can (inl same) old = subst (λ (h : Held _ _). IsReplay t start h.journal h.arena) (sym same) old
+short_replay {t = t} {who = who} {act = act} {x = x} {y = y} start can (inr r) old =
+    let walks = only_said r.stops.reaches in
+    subst (λ es. IsReplay t start es y.arena) (sym r.added)
+    (replay_more t start x.journal x.arena y.arena (recorded who act r.said Short) old (next_short t who act r.said x.arena y.arena (possible t act x can walks) (left_as_walked walks)))
+
+request_size : (nb : ℕ) → IsRequestSize nb → is_request_size nb ≡ true
 request_size nb size = grind (arith, nat_tests, size.chunk.0, size.chunk.1, size.largest)
+
+pub can_take : {P K : Type 0} (m : Means P K) (nb : ℕ) (x : Held P K) → IsRequestSize nb → Apart m.fast m.dials → IsBacked m.fast x.arena x.outside.port no_chunk → CanAct m (acts.Take nb) x
+can_take m nb x size words backed = record { may = request_size nb size; words = words; apart = apart_backed [] backed (λ e. omega arith) }
+
+pub can_give : {P K : Type 0} (m : Means P K) (at size : ℕ) (x : Held P K) → Apart m.fast m.dials → IsBacked m.fast x.arena x.outside.port (one_chunk (chunk_at at size)) → CanAct m (acts.Give at size) x
+can_give m at size x words backed =
+    let c : Chunk = chunk_at at size in
+    record { may = hand_own c backed; words = words; apart = apart_backed (c ∷ []) backed (λ e. omega (arith, sum_by-cons (once e) c [])) }
 
 -- ---- what a search gives, recorded
 

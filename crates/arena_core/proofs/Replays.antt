@@ -12,7 +12,7 @@ use Rattle.arena_core.specs.declared.journal.Act.{Act}
 use Rattle.arena_core.specs.declared.journal.Act.TheVariants.{Take, Give}
 use Rattle.arena_core.specs.declared.journal.Ended.TheVariants.{Got, Done, Refused, Short}
 use Rattle.arena_core.specs.Journal.{Recorded}
-use Rattle.arena_core.specs.Replay.{rules_of, may_act, ended_of, same_end, arena_ended, arena_after, next_arena, replayed, IsReplay}
+use Rattle.arena_core.specs.Replay.{rules_of, is_possible, ended_of, same_end, arena_ended, arena_after, next_arena, replayed, IsReplay}
 
 replayed_more : (t : Tunables) (a : Option Plain) (es : List Recorded) (e : Recorded) → replayed t a (es ++ e ∷ []) ≡ option_and_then (next_arena t e) (replayed t a es)
 replayed_more t None [] e = refl
@@ -51,12 +51,12 @@ after_ended t (Take nb) Nowhere a b said = refl
 after_ended t (Give at size) found a b said = refl
 
 -- a hold that its rules ended
-pub next_done : (t : Tunables) (who : Who) (act : Act) (said : List Said) (found : Found) (a b : Plain) → may_act act a ≡ true → end_of_rules t (rules_of t act a) said ≡ Some (record { found = found; arena = b }) →
+pub next_done : (t : Tunables) (who : Who) (act : Act) (said : List Said) (found : Found) (a b : Plain) → is_possible t (record { who = who; act = act; said = said; ended = ended_of act found }) a ≡ true → end_of_rules t (rules_of t act a) said ≡ Some (record { found = found; arena = b }) →
     next_arena t (record { who = who; act = act; said = said; ended = ended_of act found }) a ≡ Some b
 next_done t who act said found a b may end =
     ap (λ (q : Bool). cond q (arena_after t act (ended_of act found) (rules_of t act a) said) None) may ∙ (after_ended t act found a b said ∙ took_after t act found b (end_of_rules t (rules_of t act a) said) end)
 
 -- a hold that was left for want of memory
-pub next_short : (t : Tunables) (who : Who) (act : Act) (said : List Said) (a b : Plain) → may_act act a ≡ true → left_by_rules t (rules_of t act a) said ≡ Some b →
+pub next_short : (t : Tunables) (who : Who) (act : Act) (said : List Said) (a b : Plain) → is_possible t (record { who = who; act = act; said = said; ended = Short }) a ≡ true → left_by_rules t (rules_of t act a) said ≡ Some b →
     next_arena t (record { who = who; act = act; said = said; ended = Short }) a ≡ Some b
 next_short t who act said a b may left = ap (λ (q : Bool). cond q (left_by_rules t (rules_of t act a) said) None) may ∙ left

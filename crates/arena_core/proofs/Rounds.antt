@@ -17,7 +17,7 @@ use Rattle.arena_rules.specs.PlainArena.{Plain}
 use Rattle.arena_rules.specs.Growth as growth
 use Rattle.arena_rules.specs.Growth.{system_asked}
 use Rattle.arena_rules.specs.Release.{consolidated}
-use Rattle.arena_rules.specs.Rules.{Rules, Stop, Need, Flagged, Pops, Owns, Rooms, Deed, Clears, Gathers, Pushes, Stashes, Draws, behind, asks_flag}
+use Rattle.arena_rules.specs.Rules.{Rules, Stop, Need, Flagged, Pops, Owns, Rooms, Deed, Clears, Gathers, Stashes, Draws, behind, asks_flag}
 use Rattle.arena_rules.specs.Search as search
 use Rattle.arena_rules.specs.Search.{looked, rounds, searched}
 use Rattle.arena_rules.specs.Walks.{Walks, here, idled, done, told as walked}
@@ -49,7 +49,6 @@ fast_goes_allow apart o p n s d h a = absurd h
 fast_does_allow : {P : Type 0} {fast : Fast P} {dials : Dialled P} (apart : Apart fast dials) (o p : P) (deed : Deed) (d : dial_steps.DialStep) → FastDoes fast o deed p → dials.allows o d → dials.allows p d
 fast_does_allow apart o p Clears d h a = apart.steps o p fasts.Clears d h.step a
 fast_does_allow apart o p (Gathers bin) d h a = apart.steps o p (fasts.Gathers bin) d h.step a
-fast_does_allow apart o p (Pushes bin at) d h a = apart.steps o p (fasts.Pushes bin at) d h.step a
 fast_does_allow apart o p deed d h a = absurd h
 
 fast_walks_allow : {P A : Type 0} {fast : Fast P} {dials : Dialled P} (apart : Apart fast dials) {t : Tunables} {r q : Rules A} {o z : P} {ss : List Said} (d : dial_steps.DialStep) → Walks t (fast_ways fast) r o ss q z → dials.allows o d → dials.allows z d
@@ -68,7 +67,6 @@ near_goes_allow apart o p n s d h a = absurd h
 near_does_allow : {P : Type 0} {fast : Fast P} {dials : Dialled P} (apart : Apart fast dials) (k : ℕ) (o p : Near P) (deed : Deed) (d : dial_steps.DialStep) → NearDoes fast k o deed p → dials.allows o.port d → dials.allows p.port d
 near_does_allow apart k o p Clears d h a = apart.steps o.port p.port fasts.Clears d h.did.step a
 near_does_allow apart k o p (Gathers bin) d h a = apart.steps o.port p.port (fasts.Gathers bin) d h.did.step a
-near_does_allow apart k o p (Pushes bin at) d h a = apart.steps o.port p.port (fasts.Pushes bin at) d h.did.step a
 near_does_allow {dials = dials} apart k o p (Stashes c) d h a = subst (λ q. dials.allows q d) (sym h.port) a
 near_does_allow {dials = dials} apart k o p (Draws size) d h a = subst (λ q. dials.allows q d) (sym h.port) a
 near_does_allow apart k o p deed d h a = absurd h

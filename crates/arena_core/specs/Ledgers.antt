@@ -12,7 +12,7 @@ use Rattle.mapped_chunks.specs.DialPorts as dial_steps
 use Rattle.mapped_chunks.specs.DialPorts.{Dialled}
 use Rattle.arena_rules.specs.PlainArena.{Plain, IsSound, times_used}
 use Rattle.arena_rules.specs.MainPlaces.{IsPlaced}
-use Rattle.arena_rules.specs.Rules.{Rules, Need, Flagged, Pops, Owns, Rooms, Reads, Deed, Clears, Gathers, Pushes, Stashes, Draws, block_of}
+use Rattle.arena_rules.specs.Rules.{Rules, Need, Flagged, Pops, Owns, Rooms, Reads, Deed, Clears, Gathers, Stashes, Draws, block_of}
 use Rattle.arena_rules.specs.Walks.{Ways, Performs}
 use Rattle.arena_rules.specs.declared.said.Said.{Said}
 use Rattle.arena_rules.specs.declared.said.Said.TheVariants as told
@@ -124,7 +124,6 @@ NearGoes fast o need said p = ⊥
 abbrev pub NearDoes : {P : Type 0} → Fast P → ℕ → Near P → Deed → Near P → Type 0
 NearDoes fast number o Clears p = PortGoes fast o fasts.Clears p
 NearDoes fast number o (Gathers bin) p = PortGoes fast o (fasts.Gathers bin) p
-NearDoes fast number o (Pushes bin at) p = PortGoes fast o (fasts.Pushes bin at) p
 NearDoes fast number o (Stashes k) p = CacheStep o (λ c d. d ≡ with_newest c (block_of number k)) p
 NearDoes fast number o (Draws size) p = CacheStep o (λ c d. d ≡ without_newest c (cache_index_of size)) p
 NearDoes fast number o deed p = ⊥

@@ -2,6 +2,7 @@ pub use Rattle.arena_rules.specs.PlainArena
 pub use Rattle.arena_rules.specs.Rules
 pub use Rattle.arena_rules.specs.Search
 pub mod Journal
+pub mod Tellings
 pub mod Replay
 pub mod Ledgers
 pub mod Steps

@@ -13,6 +13,7 @@ use Rattle.arena_core.specs.declared.journal.Ended.{Ended}
 use Rattle.arena_core.specs.declared.journal.Ended.TheVariants.{Got, Done, Refused, Short}
 use Rattle.arena_rules.specs.declared.said.Said.{Said}
 use Rattle.arena_core.specs.Journal.{Recorded}
+use Rattle.arena_core.specs.Tellings.{tells_others}
 
 abbrev pub chunk_at : ℕ → ℕ → Chunk
 chunk_at at size = record { at = at; size = size }
@@ -34,6 +35,11 @@ is_request_size nb = nat_le 32 nb && nat_eq (nb % 16) 0 && nat_le nb (2 ^ 63 + 1
 abbrev pub may_act : Act → Plain → Bool
 may_act (Take nb) a = is_request_size nb
 may_act (Give at size) a = is_own a (chunk_at at size)
+
+-- the chunks in hand when an act begins
+abbrev pub hand_of : Act → List Chunk
+hand_of (Take nb) = []
+hand_of (Give at size) = chunk_at at size ∷ []
 
 -- how an act ends that found this
 abbrev pub ended_of : Act → Found → Ended
@@ -66,9 +72,13 @@ arena_after t act Done r said = arena_ended act Done (end_of_rules t r said)
 arena_after t act Refused r said = arena_ended act Refused (end_of_rules t r said)
 arena_after t act Short r said = left_by_rules t r said
 
+-- whether an entry can be one of a hold of this arena, as far as its act and the chunks that it was told of go
+abbrev pub is_possible : Tunables → Recorded → Plain → Bool
+is_possible t e a = may_act e.act a && tells_others (hand_of e.act) (rules_of t e.act a) e.said
+
 -- one entry
 abbrev pub next_arena : Tunables → Recorded → Plain → Option Plain
-next_arena t e a = if may_act e.act a then arena_after t e.act e.ended (rules_of t e.act a) e.said else None
+next_arena t e a = if is_possible t e a then arena_after t e.act e.ended (rules_of t e.act a) e.said else None
 
 -- the entries of a journal, in order
 abbrev pub replayed : Tunables → Option Plain → List Recorded → Option Plain

@@ -3,8 +3,8 @@
 ghost use Rattle.std.specs.Prelude.{◌≡◌, ℕ, [], ◌∷◌, Some, None, true, false};
 ghost use Rattle.address_space.specs.declared.asks.Ask.TheVariants.{Break};
 ghost use Rattle.address_space.specs.declared.asks.Answer.TheVariants.{Granted};
-ghost use Rattle.arena_rules.specs.declared.said.Said.TheVariants.{Flag, Popped, Own, Asked, Dial};
-ghost use Rattle.arena_core.specs.Examples.{takes_at, gives_at, last_after};
+ghost use Rattle.arena_rules.specs.declared.said.Said.TheVariants.{Flag, Popped, Own, Room, Asked, Dial};
+ghost use Rattle.arena_core.specs.Examples.{takes_at, gives_at, main_after, last_after};
 
 /// A small request is cut from a larger free chunk, and the next one from what is left of it, the last remainder.
 #[tactic(auto, unfolding(arena_rules::specs::PlainArena::empty_bins, arena_rules::specs::Search::most_stashed))]
@@ -53,4 +53,24 @@ fn large_requests_consolidate_first()
         ∷ takes_at 32 (Popped None ∷ []) 0x555555559390
         ∷ takes_at 1120 (Flag true ∷ Own (Some 0x555555559370) ∷ Own None ∷ Own None ∷ Own None ∷ Own None ∷ Own None ∷ Own None ∷ Own None ∷ Own None ∷ Own None ∷ Own None ∷ []) 0x5555555593b0
         ∷ []) ≡ Some None }
+{}
+
+/// Two chunks of a fast bin are popped in one hold: the first is the answer, and the other is put into the cache.
+#[tactic(auto, unfolding(arena_rules::specs::PlainArena::empty_bins, arena_rules::specs::Search::most_stashed))]
+fn two_chunks_are_popped()
+    ensures { last_after (takes_at 656 (Flag false ∷ Dial 131072 ∷ Asked (Break 0x555555559000 0x55555557a000) Granted ∷ []) 0x555555559000
+        ∷ takes_at 32 (Popped None ∷ []) 0x555555559290
+        ∷ takes_at 32 (Popped None ∷ []) 0x5555555592b0
+        ∷ takes_at 32 (Popped (Some 0x555555559290) ∷ Room true ∷ Popped (Some 0x5555555592b0) ∷ Room false ∷ []) 0x555555559290
+        ∷ []) ≡ Some None }
+{}
+
+/// No hold pops the chunk that it has popped already.
+#[tactic(auto, unfolding(arena_rules::specs::PlainArena::empty_bins, arena_rules::specs::Search::most_stashed))]
+fn chunk_is_popped_once()
+    ensures { main_after (takes_at 656 (Flag false ∷ Dial 131072 ∷ Asked (Break 0x555555559000 0x55555557a000) Granted ∷ []) 0x555555559000
+        ∷ takes_at 32 (Popped None ∷ []) 0x555555559290
+        ∷ takes_at 32 (Popped None ∷ []) 0x5555555592b0
+        ∷ takes_at 32 (Popped (Some 0x555555559290) ∷ Room true ∷ Popped (Some 0x555555559290) ∷ Room false ∷ []) 0x555555559290
+        ∷ []) ≡ None }
 {}

@@ -29,7 +29,7 @@ once_self c = ap {B = ℕ} (λ (b : Bool). cond b 1 0) (same_chunk_self c)
 
 -- ---- a list without a chunk
 
-without_same : (c : Chunk) (cs : List Chunk) → times_in c (without c cs) ≡ 0
+pub without_same : (c : Chunk) (cs : List Chunk) → times_in c (without c cs) ≡ 0
 without_same c [] = refl
 without_same c (d ∷ ds) =
     let cases : (b : Bool) → same_chunk c d ≡ b → times_in c (cond (not b) (d ∷ without c ds) (without c ds)) ≡ 0 = elim [
@@ -38,7 +38,7 @@ without_same c (d ∷ ds) =
     ] in
     cases (same_chunk c d) refl
 
-without_other : (e c : Chunk) (cs : List Chunk) → same_chunk e c ≡ false → times_in e (without c cs) ≡ times_in e cs
+pub without_other : (e c : Chunk) (cs : List Chunk) → same_chunk e c ≡ false → times_in e (without c cs) ≡ times_in e cs
 without_other e c [] ne = refl
 without_other e c (d ∷ ds) ne =
     let cases : (b : Bool) → same_chunk c d ≡ b → times_in e (cond (not b) (d ∷ without c ds) (without c ds)) ≡ times_in e (d ∷ ds) = elim [

@@ -7,6 +7,7 @@ use Rattle.std.proofs.Math.Bool.{and-true, and-false}
 use Rattle.chunk_tags.specs.BinOrder.{fast_chunk, once, same_chunk}
 use Rattle.chunk_tags.specs.Dials.{TrimThreshold}
 use Rattle.chunk_tags.specs.Sizes.{IsChunkSize, fast_index_of, fast_size_at}
+use Rattle.chunk_tags.specs.Tiles.{is_used}
 use Rattle.chunk_tags.specs.declared.tiles.Chunk.{Chunk}
 use Rattle.chunk_tags.specs.declared.tunables.Tunables.{Tunables}
 use Rattle.fast_bins.specs.FastPorts as fasts
@@ -24,6 +25,7 @@ use Rattle.arena_rules.specs.Trim.{trimmed}
 use Rattle.arena_rules.specs.Walks.{Reaches}
 use Rattle.arena_rules.proofs.Bins.{once_self}
 use Rattle.arena_rules.proofs.ChunkMoves.{own_from, own_count}
+use Rattle.arena_rules.proofs.Counts.{at_most_once}
 use Rattle.arena_rules.proofs.Own.{own_tile}
 use Rattle.arena_rules.proofs.Walks.{reaches_here, reaches_told, reaches_done, reaches_idled}
 use Rattle.consolidate_trim.specs.declared.merging.Merged.{Merged}
@@ -42,6 +44,14 @@ hand_own {a = a} c backed = own_from a c (omega (arith, backed.used c, once_self
 
 pub hand_size : {P : Type 0} {fast : Fast P} {a : Plain} {port : P} (c : Chunk) → IsBacked fast a port (one_chunk c) → IsChunkSize c.size
 hand_size {a = a} c backed = (own_tile a c backed.sound (own_count a c (hand_own c backed))).size
+
+-- and the port can't give it
+pub hand_new : {P : Type 0} {fast : Fast P} {a : Plain} {port : P} (c : Chunk) → IsBacked fast a port (one_chunk c) → fast.stock port c ≡ 0
+hand_new {fast = fast} {a = a} {port = port} c backed = omega (arith, backed.used c, once_self c, at_most_once is_used c a.tiles backed.sound.row)
+
+-- room made in the port changes nothing of that
+pub idled_backed : {P : Type 0} {fast : Fast P} {a : Plain} {port q : P} {hand : Chunks} → IsBacked fast a port hand → Idles fast port q → IsBacked fast a q hand
+idled_backed backed idles = record { sound = backed.sound; used = λ e. omega (arith, backed.used e, idles.stock e) }
 
 -- ---- steps of any rules
 
@@ -170,14 +180,15 @@ fast_chunk_is c chunk =
     let same : fast_size_at (fast_index_of c.size) ≡ c.size = omega (arith, chunk.0, chunk.1) in
     λ i. record { at = c.at; size = same i }
 
-pub passes_push : {P K : Type 0} {m : Means P K} {t : Tunables} {h : Hold P K} {q : P} {bin : ℕ} (c : Chunk) → IsSound h.arena → IsChunkSize c.size → bin ≡ fast_index_of c.size → Did m.fast h.port (fasts.Pushes bin c.at) q →
+pub passes_push : {P K : Type 0} {m : Means P K} {t : Tunables} {h : Hold P K} {q : P} {bin : ℕ} (c : Chunk) → IsBacked m.fast h.arena h.port (one_chunk c) → IsChunkSize c.size → bin ≡ fast_index_of c.size → Did m.fast h.port (fasts.Pushes bin c.at) q →
     Passes m t (Does (Pushes (fast_index_of c.size) c.at) (Stop h.arena)) (one_chunk c) h (Stop h.arena) no_chunk (hold h.arena q h.cache h.space h.said)
-passes_push {m = m} {h = h} {q = q} c sound chunk is did =
+passes_push {m = m} {h = h} {q = q} c backed chunk is did =
     let here : Did m.fast h.port (fasts.Pushes (fast_index_of c.size) c.at) q = subst (λ (n : ℕ). Did m.fast h.port (fasts.Pushes n c.at) q) is did in
+    let new : m.fast.stock h.port (fast_chunk (fast_index_of c.size) c.at) ≡ 0 = ap (m.fast.stock h.port) (fast_chunk_is c chunk) ∙ hand_new c backed in
     record {
-      reaches = reaches_done (record { did = here; others = refl });
+      reaches = reaches_done (record { did = here; others = refl; new = new });
       keeps = record {
-        sound = sound;
+        sound = backed.sound;
         number = refl;
         placed = λ p. p;
         cached = λ e. omega arith;

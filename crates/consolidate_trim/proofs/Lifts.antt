@@ -7,7 +7,7 @@ use Rattle.thread_cache.specs.Caches.{CacheValue}
 use Rattle.arena_rules.specs.declared.said.Said.{Said}
 use Rattle.arena_rules.specs.declared.said.Said.TheVariants as told
 use Rattle.arena_rules.specs.PlainArena.{Plain}
-use Rattle.arena_rules.specs.Rules.{Rules, Need, Flagged, Pops, Owns, Deed, Clears, Gathers, Pushes}
+use Rattle.arena_rules.specs.Rules.{Rules, Need, Flagged, Pops, Owns, Deed, Clears, Gathers}
 use Rattle.arena_rules.specs.Walks as walks
 use Rattle.arena_rules.specs.Walks.{Walks, Reaches, StopsShort}
 use Rattle.consolidate_trim.specs.Outside.{Means, Outside, Goes, Does, ways}
@@ -26,7 +26,6 @@ goes_lifted m o p q n s h = absurd h
 does_lifted : {P K : Type 0} (m : Means P K) (number : ℕ) (o : Outside P K) (p q : P) (d : Deed) → FastDoes m.fast p d q → Does m number (with_port o p) d (with_port o q)
 does_lifted m number o p q Clears h = record { did = h; others = refl }
 does_lifted m number o p q (Gathers bin) h = record { did = h; others = refl }
-does_lifted m number o p q (Pushes bin at) h = record { did = h; others = refl }
 does_lifted m number o p q d h = absurd h
 
 walks_lifted : {P K A : Type 0} (m : Means P K) (number : ℕ) (o : Outside P K) {t : Tunables} {r q : Rules A} {p z : P} {ss : List Said} →

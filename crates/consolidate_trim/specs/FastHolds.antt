@@ -6,7 +6,7 @@ use Rattle.fast_bins.specs.FastPorts as fasts
 use Rattle.fast_bins.specs.FastPorts.{Fast, Did, Idles}
 use Rattle.arena_rules.specs.PlainArena.{Plain, IsSound, times_used}
 use Rattle.arena_rules.specs.MainPlaces.{IsPlaced}
-use Rattle.arena_rules.specs.Rules.{Rules, Need, Flagged, Pops, Owns, Deed, Clears, Gathers, Pushes}
+use Rattle.arena_rules.specs.Rules.{Rules, Need, Flagged, Pops, Owns, Deed, Clears, Gathers}
 use Rattle.arena_rules.specs.Walks.{Ways, Performs}
 use Rattle.arena_rules.specs.declared.said.Said.{Said}
 use Rattle.arena_rules.specs.declared.said.Said.TheVariants as told
@@ -31,7 +31,6 @@ FastAnswers fast p need said q = ⊥
 abbrev pub FastDoes : {P : Type 0} → Fast P → P → Deed → P → Type 0
 FastDoes fast p Clears q = Did fast p fasts.Clears q
 FastDoes fast p (Gathers bin) q = Did fast p (fasts.Gathers bin) q
-FastDoes fast p (Pushes bin at) q = Did fast p (fasts.Pushes bin at) q
 FastDoes fast p deed q = ⊥
 
 -- the ways of the fast bins alone

@@ -1,5 +1,6 @@
 -- What a hold of an arena has beside the arena, and how that goes on with its answers and deeds (this project's own).
 use Rattle.std.specs.Prelude.{◌≡◌, ℕ, Bool, IsTrue}
+use Rattle.chunk_tags.specs.BinOrder.{fast_chunk}
 use Rattle.chunk_tags.specs.Dials.{Dial}
 use Rattle.chunk_tags.specs.Sizes.{cache_index_of}
 use Rattle.chunk_tags.specs.declared.tiles.Chunk.{Chunk}
@@ -38,6 +39,12 @@ pub record Outside (P K : Type 0) : Type 0 where
 pub record FastGoes {P K : Type 0} (m : Means P K) (o : Outside P K) (s : fasts.FastStep) (p : Outside P K) : Type 0 where
   pub did : Did m.fast o.port s p.port
   pub others : p ≡ record o { port = p.port }
+
+-- a chunk is pushed that the fast bins don't have
+pub record PushGoes {P K : Type 0} (m : Means P K) (o : Outside P K) (bin at : ℕ) (p : Outside P K) : Type 0 where
+  pub did : Did m.fast o.port (fasts.Pushes bin at) p.port
+  pub others : p ≡ record o { port = p.port }
+  pub new : m.fast.stock o.port (fast_chunk bin at) ≡ 0
 
 -- one step of the words, and nothing else
 pub record DialGoes {P K : Type 0} (m : Means P K) (o : Outside P K) (s : dial_steps.DialStep) (p : Outside P K) : Type 0 where
@@ -80,7 +87,7 @@ pub record GiveGoes {P K : Type 0} (m : Means P K) (o : Outside P K) (back : Bac
 abbrev pub Does : {P K : Type 0} → Means P K → ℕ → Outside P K → Deed → Outside P K → Type 0
 Does m number o Clears p = FastGoes m o fasts.Clears p
 Does m number o (Gathers bin) p = FastGoes m o (fasts.Gathers bin) p
-Does m number o (Pushes bin at) p = FastGoes m o (fasts.Pushes bin at) p
+Does m number o (Pushes bin at) p = PushGoes m o bin at p
 Does m number o (Stashes c) p = p ≡ record o { cache = with_newest o.cache (block_of number c) }
 Does m number o (Draws size) p = p ≡ record o { cache = without_newest o.cache (cache_index_of size) }
 Does m number o (Gives back) p = GiveGoes m o back p

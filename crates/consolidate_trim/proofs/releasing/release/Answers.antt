@@ -2,7 +2,7 @@ use Rattle.std.proofs.Common.{ap, sym, arith}
 use Rattle.std.proofs.lemmas.Result.{err_from_is_err_and}
 use Rattle.chunk_tags.specs.declared.tiles.Chunk.{Chunk}
 use Rattle.consolidate_trim.proofs.Carried.{carries_then, carries_short, carries_ends}
-use Rattle.consolidate_trim.proofs.HoldSteps.{hand_size, passes_as, passes_room, passes_idled, passes_release, passes_stash, passes_push, after_room_true, after_room_fast, after_room_given}
+use Rattle.consolidate_trim.proofs.HoldSteps.{hand_size, idled_backed, passes_as, passes_room, passes_idled, passes_release, passes_stash, passes_push, after_room_true, after_room_fast, after_room_given}
 use Rattle.consolidate_trim.proofs.releasing.release.Goals as goal
 
 pub returns-in_err-make_room : goal.returns-in_err-make_room
@@ -33,7 +33,7 @@ pub returns-then-c-t : goal.returns-then-c-t
 returns-then-c-t g c =
     carries_then (passes_release c.args.c c.requires.backed.sound c.make_room.ensures.answers c.make_room-2.ensures.idle c.has_room-room.ensures.room c.tell.ensures)
     (carries_then (passes_as c.requires.backed.sound (after_room_fast c.args.t.now _ c.args.c _ c.if-room.false (omega (arith, ap (λ (x : Chunk). x.size) c.c.view_is))))
-    (carries_ends _ (passes_push c.args.c c.requires.backed.sound (hand_size c.args.c c.requires.backed) c.fast_index.ensures c.push.ensures)))
+    (carries_ends _ (passes_push c.args.c (idled_backed c.requires.backed c.make_room-2.ensures.idle) (hand_size c.args.c c.requires.backed) c.fast_index.ensures c.push.ensures)))
 
 pub returns : goal.returns
 returns g c =

@@ -1,7 +1,5 @@
 use Rattle.std.proofs.Common.{None, inr}
-use Rattle.consolidate_trim.proofs.HoldSteps.{hand_own}
-use Rattle.arena_core.specs.Replay.{chunk_at}
-use Rattle.arena_core.proofs.Recording.{gives, gives_short, records_replay, short_replay}
+use Rattle.arena_core.proofs.Recording.{gives, gives_short, records_replay, short_replay, can_give}
 use Rattle.arena_core.proofs.arena.Arena.give.Goals as goal
 
 pub returns-in-Ok-clause-given : goal.returns-in-Ok-clause-given
@@ -14,7 +12,7 @@ pub returns-in-Ok-clause-replay : goal.returns-in-Ok-clause-replay
 returns-in-Ok-clause-replay g c = λ start old.
     let given = rw c.new-said.ensures.items at (c.in-Ok.ensures None) in
     let added = rw c.make_room.ensures.answers at c.append.ensures in
-    records_replay start (hand_own (chunk_at c.args.b.addr c.args.b.size) c.requires.backed) (gives _ c.args.t.now c.args.who c.args.b.addr c.args.b.size _ _ _ _ None _ _ _ _ _ given added) old
+    records_replay start (can_give _ c.args.b.addr c.args.b.size _ c.requires.apart c.requires.backed) (gives _ c.args.t.now c.args.who c.args.b.addr c.args.b.size _ _ _ _ None _ _ _ _ _ given added) old
 
 pub returns-in-Err-clause-short : goal.returns-in-Err-clause-short
 returns-in-Err-clause-short g c = λ cache.
@@ -26,4 +24,4 @@ pub returns-in-Err-clause-replay : goal.returns-in-Err-clause-replay
 returns-in-Err-clause-replay g c = λ start old.
     let given = rw c.new-said.ensures.items at (c.in-Err.ensures None) in
     let added = rw c.make_room.ensures.answers at c.append-in-Err.ensures in
-    short_replay start (hand_own (chunk_at c.args.b.addr c.args.b.size) c.requires.backed) (inr (gives_short _ c.args.t.now c.args.who c.args.b.addr c.args.b.size _ _ _ _ None _ _ _ _ _ c.in-Err.field-0 given added)) old
+    short_replay start (can_give _ c.args.b.addr c.args.b.size _ c.requires.apart c.requires.backed) (inr (gives_short _ c.args.t.now c.args.who c.args.b.addr c.args.b.size _ _ _ _ None _ _ _ _ _ c.in-Err.field-0 given added)) old

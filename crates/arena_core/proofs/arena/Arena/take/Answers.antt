@@ -1,7 +1,7 @@
 use Rattle.std.proofs.Common.{inr, sym, subst}
 use Rattle.arena_core.specs.Arenas.{FitsRequest}
 use Rattle.arena_core.proofs.Enough.{enough_taken}
-use Rattle.arena_core.proofs.Recording.{takes, takes_short, records_replay, short_replay, request_size}
+use Rattle.arena_core.proofs.Recording.{takes, takes_short, records_replay, short_replay, can_take}
 use Rattle.arena_core.proofs.arena.Arena.take.Goals as goal
 
 pub returns-in-Ok-clause-taken : goal.returns-in-Ok-clause-taken
@@ -16,13 +16,13 @@ returns-in-Ok-clause-replay g c = λ start old.
     let found = rw c.new-said.ensures.items at c.in-Ok.ensures.finds in
     let added = rw (c.in_ok-make_room.ensures.answers, c.ended_by.ensures c.args.nb) at c.append.ensures in
     let is = rw c.number.ensures at c.take_found.ensures in
-    records_replay start (request_size c.args.nb c.requires.size) (takes _ c.args.t.now c.args.who c.args.nb _ _ _ _ _ _ _ _ _ _ _ c.in-Ok.found c.take_found.result found added is).records old
+    records_replay start (can_take _ c.args.nb _ c.requires.size c.requires.apart c.requires.ready.backed) (takes _ c.args.t.now c.args.who c.args.nb _ _ _ _ _ _ _ _ _ _ _ c.in-Ok.found c.take_found.result found added is).records old
 
 pub returns-in-Err-clause-replay : goal.returns-in-Err-clause-replay
 returns-in-Err-clause-replay g c = λ start old.
     let found = rw c.new-said.ensures.items at c.in-Err.ensures.finds in
     let added = rw c.in_ok-make_room.ensures.answers at c.append-in-Err.ensures in
-    short_replay start (request_size c.args.nb c.requires.size) (inr (takes_short _ c.args.t.now c.args.who c.args.nb _ _ _ _ _ _ _ _ _ _ _ c.in-Err.field-0 found added)) old
+    short_replay start (can_take _ c.args.nb _ c.requires.size c.requires.apart c.requires.ready.backed) (inr (takes_short _ c.args.t.now c.args.who c.args.nb _ _ _ _ _ _ _ _ _ _ _ c.in-Err.field-0 found added)) old
 
 pub returns-in-Ok-clause-fits : goal.returns-in-Ok-clause-fits
 returns-in-Ok-clause-fits g c = subst (FitsRequest c.args.nb) (sym c.take_found.ensures) (enough_taken c.args.nb _ c.in-Ok.found c.in-Ok.ensures.fits)
