@@ -1,18 +1,20 @@
 -- What an insertion lists, and what a best fit is. Other crates may cite this file.
-use Rattle.std.proofs.Common.{◌≡◌, ℕ, ◌+◌, ◌<◌, ◌≤◌, List, [], ◌∷◌, cond, eqb, leb, sym, ap, ◌∙◌, subst, inl, inr, arith, refl, map, length, Option, Some, None}
-use Rattle.std.specs.Option.{option_map}
+use Rattle.std.proofs.Common.{◌≡◌, ℕ, ◌+◌, ◌<◌, ◌≤◌, List, [], ◌∷◌, cond, eqb, leb, sym, ap, ◌∙◌, subst, inl, inr, arith, refl, map, set, length, Option, Some, None}
+use Rattle.std.specs.Option.{IsSome, option_map}
 use Rattle.std.proofs.lemmas.Bool.{cases_Bool, leb-true}
 use Rattle.std.proofs.lemmas.Bool.Decides.{eqb_tells}
+use Rattle.std.proofs.lemmas.List.{get_or-set_same}
 use Rattle.std.proofs.lemmas.List.Sums.{sum_by-set}
 use Rattle.chunk_tags.specs.declared.tiles.Tile.{Tile}
 use Rattle.chunk_tags.specs.Sizes.{large_index_of}
+use Rattle.chunk_tags.specs.Tiles.{tile_at}
 use Rattle.chunk_tags.specs.declared.tiles.Chunk.{Chunk}
-use Rattle.bin_links.specs.Lists.{list_at, times_in, times_listed}
-use Rattle.bin_links.proofs.ListLaws.{times_in-cons, in_here, in_more, in_later}
-use Rattle.chunk_tags.specs.BinOrder.{inserted, smallest_fit, lesser, second_of, second_of_size, best_of}
-use Rattle.large_bins.specs.SeenChunks.{size_at, chunks_by, large_chunks, put_large}
+use Rattle.bin_links.specs.Lists.{empty_lists, list_at, times_in, times_listed}
+use Rattle.bin_links.proofs.ListLaws.{times_in-cons, in_here, in_more, in_later, none_listed}
+use Rattle.chunk_tags.specs.BinOrder.{IsFalling, inserted, smallest_fit, lesser, second_of, second_of_size, best_of}
+use Rattle.large_bins.specs.SeenChunks.{size_at, chunks_by, large_chunks, put_large, HaveTiles}
 use Rattle.large_bins.specs.Places.{put_by}
-use Rattle.chunk_tags.proofs.Falling.{compares, below, equal, above}
+use Rattle.chunk_tags.proofs.Falling.{compares, below, equal, above, falling_inserted}
 use Rattle.large_bins.proofs.Insertion.{put_by_is}
 use Rattle.large_bins.proofs.Fitting.{same, of_size_is, second_is}
 
@@ -90,3 +92,35 @@ best_fits f nb xs n h = by_size (smallest_fit nb (chunks_by f xs)) refl h
         let second : second_of (same f s xs) ≡ Some n = sym (second_is f (same f s xs)) ∙ (ap (λ (cs : List Chunk). option_map (λ (c : Chunk). c.at) (second_of cs)) (sym (of_size_is f s xs)) ∙ k) in
         let of = of_size_stands f s xs n (second_stands (same f s xs) n second) in
         record { stands = of.stands; fits = omega (arith, smallest_fits f nb xs s e, of.size) }
+
+-- What an insertion leaves true of the lists.
+
+-- the chunks of an insertion by addresses, where sizes are those of the chunks
+put_by_chunks : (f : ℕ → ℕ) (c : Chunk) (xs : List ℕ) → f c.at ≡ c.size → chunks_by f (put_by f c.size c.at xs) ≡ inserted c (chunks_by f xs)
+put_by_chunks f c [] e = ap (λ (s : ℕ). record { at = c.at; size = s } ∷ []) e
+put_by_chunks f c (x ∷ xs) e = elim (compares (f x) c.size) [
+  | below t lt ↦ rw t (ap (λ (s : ℕ). record { at = c.at; size = s } ∷ chunks_by f (x ∷ xs)) e)
+  | equal t u eq ↦ rw (t, u) (ap (λ (s : ℕ). record { at = x; size = f x } ∷ record { at = c.at; size = s } ∷ chunks_by f xs) e)
+  | above t u gt ↦ rw (t, u) (ap (λ (cs : List Chunk). record { at = x; size = f x } ∷ cs) (put_by_chunks f c xs e))
+]
+
+-- the bin stays in order
+pub put_large_falls : (tiles : List Tile) (c : Chunk) (lists : List (List ℕ)) → size_at tiles c.at ≡ c.size → large_index_of c.size < length lists → IsFalling (large_chunks tiles c.size lists) → IsFalling (large_chunks tiles c.size (put_large tiles c lists))
+put_large_falls tiles c lists e h falls =
+    let bin = large_index_of c.size in
+    let xs = list_at bin lists in
+    let put = map (λ (x : Chunk). x.at) (inserted c (large_chunks tiles c.size lists)) in
+    let is : list_at bin (set lists bin put) ≡ put_by (size_at tiles) c.size c.at xs = get_or-set_same lists bin put [] h ∙ put_by_is (size_at tiles) c.size c.at xs in
+    subst IsFalling (sym (ap (chunks_by (size_at tiles)) is ∙ put_by_chunks (size_at tiles) c xs e)) (falling_inserted c (large_chunks tiles c.size lists) falls)
+
+-- each listed chunk has a tile still, and where none is listed each has
+pub put_large_tiles : (tiles : List Tile) (c : Chunk) (lists : List (List ℕ)) → large_index_of c.size < length lists → IsSome (tile_at c.at tiles) → HaveTiles tiles lists → HaveTiles tiles (put_large tiles c lists)
+put_large_tiles tiles c lists h stands have = record {
+  each = λ n some. elim (eqb_tells n c.at) [
+    | inl t ↦ subst (λ m. IsSome (tile_at m tiles)) (sym t.1) stands
+    | inr t ↦ have.each n (omega (arith, some, put_large_listed n tiles c lists h, ap (λ v. cond {A = ℕ} v 1 0) t.0))
+  ];
+}
+
+pub no_tiles_needed : (tiles : List Tile) → HaveTiles tiles empty_lists
+no_tiles_needed tiles = record { each = λ n some. absurd (omega (arith, some, none_listed n)) }

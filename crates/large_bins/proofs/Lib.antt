@@ -2,3 +2,4 @@ mod Fitting
 mod Insertion
 pub mod LargeLaws
 mod Turns
+mod Scenes

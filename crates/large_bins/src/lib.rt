@@ -7,3 +7,5 @@ pub use bins::{best, insert};
 
 #[cfg(test)]
 mod examples;
+#[cfg(test)]
+mod tests;
