@@ -1,12 +1,12 @@
 -- A ground after a move of top, or of main's ranges.
-use Rattle.std.proofs.Common.{◌≡◌, ℕ, ◌+◌, ◌-◌, Bool, true, false, cond, List, [], ◌∷◌, Option, Some, None, IsTrue, refl, sym, ap, ◌∙◌, subst, arith}
+use Rattle.std.proofs.Common.{◌≡◌, ℕ, ◌+◌, false, List, [], Option, None, IsTrue, refl, sym, ap, ◌∙◌, subst, arith}
 use Rattle.std.specs.Prelude.{sum_by}
 use Rattle.chunk_tags.specs.declared.tiles.Chunk.{Chunk}
 use Rattle.chunk_tags.specs.BinOrder.{times_in}
 use Rattle.chunk_tags.specs.Sizes.{IsChunkSize}
 use Rattle.chunk_tags.specs.Tiles.{tile_before, tile_behind, top_of}
 use Rattle.chunk_tags.specs.declared.tiles.Tile.{Tile}
-use Rattle.chunk_tags.specs.declared.tiles.TileKind.TheVariants.{Used, Top}
+use Rattle.chunk_tags.specs.declared.tiles.TileKind.TheVariants.{Used}
 use Rattle.chunk_tags.specs.Tunables.{main_limit}
 use Rattle.bin_links.specs.Lists.{Linked}
 use Rattle.part_words.specs.Extents.{Covers}
@@ -14,21 +14,19 @@ use Rattle.chunk_image.specs.Rows.{TileRow}
 use Rattle.address_space.specs.Spaces.{main_start, piece_start}
 use Rattle.large_bins.specs.SeenChunks.{size_in}
 use Rattle.arena_rules.specs.PlainArena.{Plain, IsSound, is_own}
-use Rattle.arena_rules.specs.Moves.{tile_of, absorbed, closed_top, cut_from_top, is_before_top, is_free_tile, top_size, with_moved_top, with_new_top, with_tiles, with_top_size}
-use Rattle.arena_rules.specs.Growth.{break_taken, has_top_for, is_top_at_break, noted, piece_taken, with_break, with_piece}
+use Rattle.arena_rules.specs.Moves.{tile_of, absorbed, cut_from_top, is_before_top, is_free_tile}
+use Rattle.arena_rules.specs.Growth.{break_taken, has_top_for, noted, piece_taken}
 use Rattle.arena_rules.specs.Trim.{main_cut, CanCutMain}
 use Rattle.arena_rules.proofs.Changes.{AreNeighbours, neighbours_behind}
 use Rattle.arena_rules.proofs.ChunkMoves.{listed_tile, free_not_found}
-use Rattle.arena_rules.proofs.MainPlaces.{break_grown, piece_grown, main_cut_moved}
 use Rattle.arena_rules.proofs.Merging.{HasTopBehind, has_top_behind, absorbed_moved}
-use Rattle.arena_rules.proofs.Moved.{Moved, nothing}
-use Rattle.arena_rules.proofs.TopMoves.{cut_moved}
 use Rattle.arena_rules.proofs.Tops.{top_at}
 use Rattle.heap_top.specs.declared.regions.Regions.{Regions}
 use Rattle.heap_top.specs.Regions.{arena_of, bare_arena, HasTop, KnowsTop}
 use Rattle.heap_top.specs.MainRanges.{IsMainFilled, IsNewRange}
-use Rattle.heap_top.proofs.Filling.{filled_moved, filled_break, filled_piece, filled_cut}
-use Rattle.heap_top.proofs.TopLaws.{knows_top, has_room, no_room}
+use Rattle.heap_top.proofs.Filling.{filled_moved}
+use Rattle.heap_top.proofs.MainMoves.{IsMainKept, cut_kept, break_kept, piece_kept, trim_kept, filled_beside}
+use Rattle.heap_top.proofs.TopLaws.{knows_top}
 use Rattle.arena_ground.specs.Grounds.{arena_with, bins_at, chunk_at, IsGround}
 use Rattle.arena_ground.proofs.Bridges.{agree, times_all}
 use Rattle.arena_ground.proofs.Keeping.{IsSoundGround, IsDone, kept_words}
@@ -41,10 +39,6 @@ top_bins : (b : Plain) (ts : List Tile) (lists : List (List ℕ)) → IsSound b 
 top_bins b ts lists s same =
     agree ts b.tiles lists (λ n some.
     ap size_in (listed_tile b (chunk_at ts n) s (omega (arith, some, times_all ts n lists, ap (sum_by (times_in (chunk_at ts n))) same))))
-
--- all of an arena but its tiles
-abbrev but_tiles : Plain → Plain
-but_tiles a = record a { tiles = [] }
 
 -- what a move of top did
 pub record IsTopMoved (r s : Regions) (w v : TileRow) (l : Linked) (last : Option ℕ) (new : Plain) : Type 0 where
@@ -65,29 +59,11 @@ top_done r s w v l last new g m sound filled same number =
 
 -- ---- a chunk is cut off
 
-record IsCutOff (a : Plain) (nb : ℕ) : Type 0 where
-  came : Chunk → ℕ
-  moved : Moved a (cut_from_top a nb) (λ e. 0) came nothing nothing
-  same : but_tiles (cut_from_top a nb) ≡ but_tiles a
-
-cut_off : (a : Plain) (nb : ℕ) → IsSound a → IsChunkSize nb → IsTrue (has_top_for a nb) → IsCutOff a nb
-cut_off a nb s chunk room =
-    let cases : (o : Option Tile) → top_of a.tiles ≡ o → IsCutOff a nb = elim [
-      | None ↦ λ e. absurd (no_room a nb e room)
-      | Some t ↦ λ e. record {
-        came = _;
-        moved = cut_moved a t nb s e chunk (has_room a t nb e room);
-        same = ap (λ o. but_tiles (elim o [ None ↦ a | Some t ↦ with_tiles a t.addr (tile_of Used t.addr nb ∷ tile_of Top (t.addr + nb) (t.size - nb) ∷ []) ])) e;
-      }
-    ] in
-    cases (top_of a.tiles) refl
-
 pub cut_done : (r s : Regions) (w v : TileRow) (l : Linked) (last : Option ℕ) (nb : ℕ) → IsSoundGround r w l last → IsChunkSize nb → IsTrue (has_top_for (arena_with r w l last) nb) → IsTopMoved r s w v l last (cut_from_top (arena_with r w l last) nb) → IsDone s v l last (cut_from_top (arena_with r w l last) nb)
 cut_done r s w v l last nb g chunk room m =
     let a : Plain = arena_with r w l last in
-    let c : IsCutOff a nb = cut_off a nb g.sound chunk room in
-    top_done r s w v l last (cut_from_top a nb) g.ground m c.moved.sound
-    (filled_moved a (cut_from_top a nb) _ c.came c.moved (ap (λ (x : Plain). record x { bins = [] }) c.same) g.ground.filled) (ap (λ (x : Plain). x.bins) c.same) (ap (λ (x : Plain). x.number) c.same)
+    let kept : IsMainKept a (cut_from_top a nb) = cut_kept a nb g.sound g.ground.filled chunk room in
+    top_done r s w v l last (cut_from_top a nb) g.ground m kept.sound kept.filled kept.bins kept.number
 
 -- ---- a chunk becomes part of it
 
@@ -106,75 +82,30 @@ absorb_done r s w v l last c g own before top m =
 
 -- ---- main grows
 
-break_same : (a : Plain) (growth : ℕ) → but_tiles (break_taken a growth) ≡ but_tiles (with_break a growth)
-break_same a growth =
-    let b : Plain = with_break a growth in
-    let sized : (size : ℕ) (o : Option Tile) → but_tiles (elim o [ None ↦ b | Some t ↦ with_tiles b t.addr (tile_of Top t.addr size ∷ []) ]) ≡ but_tiles b = λ size. elim [ None ↦ refl | Some t ↦ refl ] in
-    let moved : (o : Option Tile) → but_tiles (elim o [ None ↦ with_new_top b a.break_at growth | Some t ↦ with_new_top (with_tiles b t.addr (closed_top t)) a.break_at growth ]) ≡ but_tiles b = elim [ None ↦ refl | Some t ↦ refl ] in
-    let cases : (is : Bool) → but_tiles (cond is (with_top_size b (top_size a + growth)) (with_moved_top b a.break_at growth)) ≡ but_tiles b = elim [
-      | true ↦ sized (top_size a + growth) (top_of a.tiles)
-      | false ↦ moved (top_of a.tiles)
-    ] in
-    cases (is_top_at_break a)
-
 pub break_done : (r s : Regions) (w v : TileRow) (l : Linked) (last : Option ℕ) (growth : ℕ) → IsSoundGround r w l last → IsNewRange w.extent r.break_at growth (main_start + main_limit) → IsTopMoved r s w v l last (break_taken (arena_with r w l last) growth) → IsDone s v l last (break_taken (arena_with r w l last) growth)
 break_done r s w v l last growth g range m =
     let a : Plain = arena_with r w l last in
-    let new : Plain = break_taken a growth in
-    let same : but_tiles new ≡ but_tiles (with_break a growth) = break_same a growth in
-    let grown = break_grown a growth g.sound g.ground.filled.placed range.some range.pages range.window in
-    top_done r s w v l last new g.ground m grown.moved.sound
-    (filled_break a new _ growth grown (ap (λ (x : Plain). x.break_at) same) (ap (λ (x : Plain). x.next_piece) same) (ap (λ (x : Plain). x.system) same) g.ground.filled)
-    (ap (λ (x : Plain). x.bins) same) (ap (λ (x : Plain). x.number) same)
-
-piece_same : (a : Plain) (len : ℕ) → but_tiles (piece_taken a len) ≡ but_tiles (with_piece a len)
-piece_same a len =
-    let b : Plain = with_piece a len in
-    let moved : (o : Option Tile) → but_tiles (elim o [ None ↦ with_new_top b a.next_piece len | Some t ↦ with_new_top (with_tiles b t.addr (closed_top t)) a.next_piece len ]) ≡ but_tiles b = elim [ None ↦ refl | Some t ↦ refl ] in
-    moved (top_of a.tiles)
+    let kept : IsMainKept a (break_taken a growth) = break_kept a growth g.sound g.ground.filled range.some range.pages range.window in
+    top_done r s w v l last (break_taken a growth) g.ground m kept.sound kept.filled kept.bins kept.number
 
 pub piece_done : (r s : Regions) (w v : TileRow) (l : Linked) (last : Option ℕ) (len : ℕ) → IsSoundGround r w l last → IsNewRange w.extent r.next_piece len (piece_start + main_limit) → IsTopMoved r s w v l last (piece_taken (arena_with r w l last) len) → IsDone s v l last (piece_taken (arena_with r w l last) len)
 piece_done r s w v l last len g range m =
     let a : Plain = arena_with r w l last in
-    let new : Plain = piece_taken a len in
-    let same : but_tiles new ≡ but_tiles (with_piece a len) = piece_same a len in
-    let grown = piece_grown a len g.sound g.ground.filled.placed range.some range.pages range.window in
-    top_done r s w v l last new g.ground m grown.moved.sound
-    (filled_piece a new _ len grown (ap (λ (x : Plain). x.break_at) same) (ap (λ (x : Plain). x.next_piece) same) (ap (λ (x : Plain). x.system) same) g.ground.filled)
-    (ap (λ (x : Plain). x.bins) same) (ap (λ (x : Plain). x.number) same)
+    let kept : IsMainKept a (piece_taken a len) = piece_kept a len g.sound g.ground.filled range.some range.pages range.window in
+    top_done r s w v l last (piece_taken a len) g.ground m kept.sound kept.filled kept.bins kept.number
 
 -- ---- the end of the break is given back
-
-sized_same : (a : Plain) (size : ℕ) → but_tiles (with_top_size a size) ≡ but_tiles a
-sized_same a size =
-    let sized : (o : Option Tile) → but_tiles (elim o [ None ↦ a | Some t ↦ with_tiles a t.addr (tile_of Top t.addr size ∷ []) ]) ≡ but_tiles a = elim [ None ↦ refl | Some t ↦ refl ] in
-    sized (top_of a.tiles)
 
 pub trim_done : (r s : Regions) (w v : TileRow) (l : Linked) (last : Option ℕ) (bytes : ℕ) → IsSoundGround r w l last → CanCutMain (arena_with r w l last) bytes → IsTopMoved r s w v l last (main_cut (arena_with r w l last) bytes) → IsDone s v l last (main_cut (arena_with r w l last) bytes)
 trim_done r s w v l last bytes g can m =
     let a : Plain = arena_with r w l last in
-    let same : but_tiles (with_top_size a (top_size a - bytes)) ≡ but_tiles a = sized_same a (top_size a - bytes) in
-    let cut = main_cut_moved a bytes g.sound g.ground.filled.placed can in
-    top_done r s w v l last (main_cut a bytes) g.ground m cut.moved.sound (filled_cut a bytes cut (ap (λ (x : Plain). x.next_piece) same) g.ground.filled)
-    (ap (λ (x : Plain). x.bins) same) (ap (λ (x : Plain). x.number) same)
+    let kept : IsMainKept a (main_cut a bytes) = trim_kept a bytes g.sound g.ground.filled can in
+    top_done r s w v l last (main_cut a bytes) g.ground m kept.sound kept.filled kept.bins kept.number
 
 -- ---- other numbers, and more words
 
 filled_noted : (a : Plain) → IsMainFilled a → IsMainFilled (noted a)
-filled_noted a f = record {
-  placed = record {
-    outside = λ n out. f.placed.outside n (record { break = out.break; pieces = out.pieces });
-    start = f.placed.start;
-    limit = f.placed.limit;
-    pieces = f.placed.pieces;
-    piece_limit = f.placed.piece_limit;
-    break_page = f.placed.break_page;
-    piece_page = f.placed.piece_page;
-    system = f.placed.system;
-  };
-  filled = f.filled;
-  system = f.system;
-}
+filled_noted a f = filled_beside a a.bins a.last (noted a).most f
 
 pub noted_kept : (r s : Regions) (w : TileRow) (l : Linked) (last : Option ℕ) → IsGround r w l last → s.top ≡ r.top → arena_with s w l last ≡ noted (arena_with r w l last) → IsGround s w l last
 noted_kept r s w l last g top is =
@@ -183,22 +114,7 @@ noted_kept r s w l last g top is =
 
 -- seen without its bins
 pub bare_filled : (r : Regions) (w : TileRow) (l : Linked) (last : Option ℕ) → IsGround r w l last → IsMainFilled (bare_arena r w.tiles)
-bare_filled r w l last g =
-    let f = g.filled in
-    record {
-      placed = record {
-        outside = λ n out. f.placed.outside n (record { break = out.break; pieces = out.pieces });
-        start = f.placed.start;
-        limit = f.placed.limit;
-        pieces = f.placed.pieces;
-        piece_limit = f.placed.piece_limit;
-        break_page = f.placed.break_page;
-        piece_page = f.placed.piece_page;
-        system = f.placed.system;
-      };
-      filled = f.filled;
-      system = f.system;
-    }
+bare_filled r w l last g = filled_beside (arena_with r w l last) [] None r.most g.filled
 
 pub opened_kept : (r : Regions) (w v : TileRow) (l m : Linked) (last : Option ℕ) → IsGround r w l last → v.tiles ≡ w.tiles → m.lists ≡ l.lists → Covers v.extent m.extent → v.extent.base ≡ w.extent.base → v.extent.width ≡ w.extent.width → IsGround r v m last
 opened_kept r w v l m last g tiles lists covers base width = record {

@@ -1,2 +1,4 @@
 pub mod Filling
 pub mod TopLaws
+pub mod MainMoves
+mod Scenes

@@ -4,3 +4,4 @@ pub use Rattle.chunk_image.specs.Rows
 pub use Rattle.arena_rules.specs.PlainArena
 pub mod Regions
 pub mod MainRanges
+pub mod Scenes

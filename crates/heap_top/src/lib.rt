@@ -5,3 +5,6 @@
 mod regions;
 
 pub use regions::Regions;
+
+#[cfg(test)]
+mod tests;
