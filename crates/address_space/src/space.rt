@@ -74,7 +74,8 @@ impl<K: Kernel> Space<K> {
     /// or the kernel refused, and then the count of refusals rose.
     pub fn brk(&mut self, old: u64, new: u64) -> Answer
         requires { old < new }
-        ensures { AsksWithin K.port self.old (break_passes self.old.windows new) (Ask.Break old new) result self.new }
+        ensures { AsksWithin K.port self.old (break_passes self.old.windows new)
+            (Ask.Break old new) result self.new }
     {
         let passes = new
             .checked_sub(MAIN_START)
@@ -85,7 +86,8 @@ impl<K: Kernel> Space<K> {
     /// Asks for a piece for main, `len` bytes at `at`. Refused exactly where it would end behind the window for
     /// pieces or the kernel refused, and then the count of refusals rose.
     pub fn piece(&mut self, at: u64, len: u64) -> Answer
-        ensures { AsksWithin K.port self.old (piece_passes self.old.windows at len) (Piece at len) result self.new }
+        ensures { AsksWithin K.port self.old (piece_passes self.old.windows at len)
+            (Piece at len) result self.new }
     {
         let passes = ends_behind(PIECE_START, self.windows.main_max, at, len);
         self.put(passes, Ask::Piece { addr: at, len })

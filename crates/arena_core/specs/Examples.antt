@@ -2,6 +2,7 @@
 use Rattle.std.specs.Prelude.{ℕ, false, List, Option, Some, None}
 use Rattle.chunk_tags.specs.Tunables.{serial_values}
 use Rattle.arena_rules.specs.PlainArena.{Plain, empty_main}
+use Rattle.arena_rules.specs.Moves.{top_size}
 use Rattle.arena_rules.specs.declared.said.Said.{Said}
 use Rattle.arena_core.specs.declared.journal.Act.TheVariants.{Take, Give}
 use Rattle.arena_core.specs.declared.journal.Ended.TheVariants.{Got, Done}
@@ -23,3 +24,7 @@ main_after es = replayed serial_values (Some empty_main) es
 -- the last remainder then
 abbrev pub last_after : List Recorded → Option (Option ℕ)
 last_after es = elim (main_after es) [ None ↦ None | Some a ↦ Some a.last ]
+
+-- the bytes from the system then, the most that there were, and those of top
+abbrev pub bytes_after : List Recorded → Option (ℕ × ℕ × ℕ)
+bytes_after es = elim (main_after es) [ None ↦ None | Some a ↦ Some (a.system, a.most, top_size a) ]

@@ -4,7 +4,7 @@ ghost use Rattle.std.specs.Prelude.{◌≡◌, ℕ, [], ◌∷◌, Some, None, t
 ghost use Rattle.address_space.specs.declared.asks.Ask.TheVariants.{Break};
 ghost use Rattle.address_space.specs.declared.asks.Answer.TheVariants.{Granted};
 ghost use Rattle.arena_rules.specs.declared.said.Said.TheVariants.{Flag, Popped, Own, Room, Asked, Dial};
-ghost use Rattle.arena_core.specs.Examples.{takes_at, gives_at, main_after, last_after};
+ghost use Rattle.arena_core.specs.Examples.{takes_at, gives_at, main_after, last_after, bytes_after};
 
 /// A small request is cut from a larger free chunk, and the next one from what is left of it, the last remainder.
 #[tactic(auto, unfolding(arena_rules::specs::PlainArena::empty_bins, arena_rules::specs::Search::most_stashed))]
@@ -73,4 +73,18 @@ fn chunk_is_popped_once()
         ∷ takes_at 32 (Popped None ∷ []) 0x5555555592b0
         ∷ takes_at 32 (Popped (Some 0x555555559290) ∷ Room true ∷ Popped (Some 0x555555559290) ∷ Room false ∷ []) 0x555555559290
         ∷ []) ≡ None }
+{}
+
+/// A chunk that is merged into top brings trimming: whole pages behind the pad go back, and the most bytes stay.
+#[tactic(auto, unfolding(arena_rules::specs::PlainArena::empty_bins, arena_rules::specs::Search::most_stashed))]
+fn a_large_chunk_before_top_brings_trimming()
+    ensures grown { bytes_after (takes_at 656 (Flag false ∷ Dial 131072 ∷ Asked (Break 0x555555559000 0x55555557a000) Granted ∷ []) 0x555555559000
+        ∷ takes_at 120016 (Flag false ∷ []) 0x555555559290
+        ∷ takes_at 100016 (Flag false ∷ Flag false ∷ Dial 131072 ∷ Asked (Break 0x55555557a000 0x5555555af000) Granted ∷ []) 0x555555576760
+        ∷ []) ≡ Some (352256, 352256, 131568) }
+    ensures trimmed { bytes_after (takes_at 656 (Flag false ∷ Dial 131072 ∷ Asked (Break 0x555555559000 0x55555557a000) Granted ∷ []) 0x555555559000
+        ∷ takes_at 120016 (Flag false ∷ []) 0x555555559290
+        ∷ takes_at 100016 (Flag false ∷ Flag false ∷ Dial 131072 ∷ Asked (Break 0x55555557a000 0x5555555af000) Granted ∷ []) 0x555555576760
+        ∷ gives_at 0x555555576760 100016 (Flag false ∷ Dial 131072 ∷ [])
+        ∷ []) ≡ Some (253952, 352256, 133280) }
 {}

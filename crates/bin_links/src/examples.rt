@@ -9,7 +9,8 @@ fn a_bin_of_three_chunks()
     ensures behind { put_behind 320 480 (320 ∷ 160 ∷ []) ≡ 320 ∷ 480 ∷ 160 ∷ [] }
     ensures oldest { last_of {X = ℕ} (320 ∷ 480 ∷ 160 ∷ []) ≡ Some 160 }
     ensures first { first_of {X = ℕ} (320 ∷ 480 ∷ 160 ∷ []) ≡ Some 320 }
-    ensures left { map (without 480) ((320 ∷ 480 ∷ []) ∷ (160 ∷ []) ∷ []) ≡ (320 ∷ []) ∷ (160 ∷ []) ∷ [] }
+    ensures left { map (without 480) ((320 ∷ 480 ∷ []) ∷ (160 ∷ []) ∷ [])
+        ≡ (320 ∷ []) ∷ (160 ∷ []) ∷ [] }
     ensures gone { times_listed 480 ((320 ∷ []) ∷ (160 ∷ []) ∷ []) ≡ 0 }
     ensures empty { last_of {X = ℕ} (without 160 (160 ∷ [])) ≡ None }
 {}

@@ -102,7 +102,8 @@ impl Nodes {
         requires node { IsNode (extent self.old) node }
         requires behind { IsNode (extent self.old) (ahead self.old node) }
         requires before { IsNode (extent self.old) (back self.old node) }
-        ensures links { Skips (ahead self.old) (back self.old) (ahead self.new) (back self.new) node }
+        ensures links { Skips (ahead self.old) (back self.old)
+            (ahead self.new) (back self.new) node }
         ensures extent { extent self.new ≡ extent self.old }
     {
         let at = self.links(node);
@@ -117,7 +118,8 @@ impl Nodes {
         requires node { IsNode (extent self.old) node }
         requires apart { after ≢ node }
         requires new { ahead self.old after ≢ node }
-        ensures links { Splices (ahead self.old) (back self.old) (ahead self.new) (back self.new) after node }
+        ensures links { Splices (ahead self.old) (back self.old)
+            (ahead self.new) (back self.new) after node }
         ensures fits { node < 2 ^ 64 }
         ensures extent { extent self.new ≡ extent self.old }
     {

@@ -47,7 +47,8 @@ pub(crate) fn put(heads: &mut Words<Head>, feet: &mut Words<u64>, at: u64, head:
 
 /// Writes a value where the foot of a tile is, if that is free.
 fn write_foot(feet: &mut Words<u64>, at: u64, head: Head, value: u64)
-    requires { is_free_head head ≡ true → IsOpen (extent_of feet.old) (at + head.size) × (at + head.size < 2 ^ 64) }
+    requires { is_free_head head ≡ true
+        → IsOpen (extent_of feet.old) (at + head.size) × (at + head.size < 2 ^ 64) }
     ensures feet { foot_at feet.new ≡ with_foot head at value (foot_at feet.old) }
     ensures extent { extent_of feet.new ≡ extent_of feet.old }
 {

@@ -48,7 +48,8 @@ impl TileWords {
     /// Opens the words of a range of one part. The tiles stay as they are; where memory is short, all does.
     pub fn open(&mut self, alloc: Global, at: Addr, len: u64) -> Result<(), NoMemory>
         requires { IsWithinPart self.old.extent at len }
-        ensures ok { OnOk result (self.new ≡ record self.old { extent = extended self.old.extent at len }) }
+        ensures ok { OnOk result
+            (self.new ≡ record self.old { extent = extended self.old.extent at len }) }
         ensures err { OnErr result (self.new ≡ self.old) }
     {
         let from = at.0;
@@ -148,7 +149,8 @@ impl TileWords {
         ensures { self.new ≡ record self.old {
           tiles = swapped t.now.addr
               (record t.now { size = nb; kind = first }
-              ∷ record { addr = t.now.addr + nb; size = t.now.size - nb; kind = rest } ∷ []) self.old.tiles;
+              ∷ record { addr = t.now.addr + nb; size = t.now.size - nb; kind = rest } ∷ [])
+              self.old.tiles;
         } }
     {
         let at = t.addr.0;

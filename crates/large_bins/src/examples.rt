@@ -6,7 +6,8 @@ ghost use Rattle.large_bins.specs.SeenChunks.{chunks_by};
 
 /// Of three equal chunks the third that came stands between the first and the second, and is given first.
 fn three_equal_chunks()
-    ensures second { (a b : ℕ) → inserted (record { at = b; size = 2016 }) (chunks_by (λ _. 2016) (a ∷ []))
+    ensures second { (a b : ℕ)
+        → inserted (record { at = b; size = 2016 }) (chunks_by (λ _. 2016) (a ∷ []))
         ≡ chunks_by (λ _. 2016) (a ∷ b ∷ []) }
     ensures third { (a b c : ℕ)
         → inserted (record { at = c; size = 2016 }) (chunks_by (λ _. 2016) (a ∷ b ∷ []))
@@ -18,8 +19,10 @@ fn three_equal_chunks()
 
 /// A chunk goes behind greater ones and before smaller ones, and the smallest that fits is given.
 fn chunks_of_three_sizes()
-    ensures between { inserted (record { at = 3; size = 2016 }) (chunks_by (λ at. 1000 * at) (4 ∷ 2 ∷ []))
-        ≡ record { at = 4; size = 4000 } ∷ record { at = 3; size = 2016 } ∷ record { at = 2; size = 2000 } ∷ [] }
+    ensures between { inserted (record { at = 3; size = 2016 })
+        (chunks_by (λ at. 1000 * at) (4 ∷ 2 ∷ []))
+        ≡ record { at = 4; size = 4000 } ∷ record { at = 3; size = 2016 }
+        ∷ record { at = 2; size = 2000 } ∷ [] }
     ensures smallest { best_of 2016 (chunks_by (λ at. 1000 * at) (4 ∷ 3 ∷ 2 ∷ []))
         ≡ Some (record { at = 3; size = 3000 }) }
 {}

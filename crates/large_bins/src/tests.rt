@@ -72,11 +72,13 @@ fn put(links: &mut LinkWords, tiles: &TileWords, at: u64)
     requires word { IsOpen links.old.extent at }
     requires unlisted { times_listed at links.old.lists ≡ 0 }
     requires tiles { HaveTiles tiles.now.tiles links.old.lists }
-    requires falling { IsFalling (chunks_by (size_at tiles.now.tiles) (list_at 79 links.old.lists)) }
+    requires falling { IsFalling
+        (chunks_by (size_at tiles.now.tiles) (list_at 79 links.old.lists)) }
     ensures listed { (n : ℕ) → times_listed n links.new.lists
         ≡ times_listed n links.old.lists + (if nat_eq n at then 1 else 0) }
     ensures tiles { HaveTiles tiles.now.tiles links.new.lists }
-    ensures falling { IsFalling (chunks_by (size_at tiles.now.tiles) (list_at 79 links.new.lists)) }
+    ensures falling { IsFalling
+        (chunks_by (size_at tiles.now.tiles) (list_at 79 links.new.lists)) }
     ensures extent { links.new.extent ≡ links.old.extent }
 {
     links.laws();

@@ -23,7 +23,11 @@ impl<T: Copy> Model for Words<T> {
 
     ghost Value = { Parts T };
 
-    ghost view = { λ s. record { base = s.base; width = s.width; parts = map (λ v. v.items) s.parts.items } };
+    ghost view = { λ s. record {
+      base = s.base;
+      width = s.width;
+      parts = map (λ v. v.items) s.parts.items;
+    } };
 
     ghost invariant = { λ s. 0 < s.width };
 }
@@ -86,8 +90,10 @@ impl<T: Copy> Words<T> {
     /// part, and not from word to word.
     pub fn next_open(&self, at: u64) -> Option<u64>
         ensures word { IfSome result (λ a. IsOpen (extent_of self.now) a × (at ≤ a)) }
-        ensures first { IfSome result (λ a. (b : ℕ) → at ≤ b → b < a → ¬ IsOpen (extent_of self.now) b) }
-        ensures none { IfNone result ((b : ℕ) → at ≤ b → b < 2 ^ 64 → ¬ IsOpen (extent_of self.now) b) }
+        ensures first { IfSome result
+            (λ a. (b : ℕ) → at ≤ b → b < a → ¬ IsOpen (extent_of self.now) b) }
+        ensures none { IfNone result
+            ((b : ℕ) → at ≤ b → b < 2 ^ 64 → ¬ IsOpen (extent_of self.now) b) }
     {
         let word = at.saturating_sub(self.base).div_ceil(16);
         let mut place = word % self.width;
@@ -104,7 +110,8 @@ impl<T: Copy> Words<T> {
 
 /// The address of a word of a part, if it is below 2^64.
 fn address(base: u64, width: u64, part: u64, place: u64) -> Option<u64>
-    ensures { MatchOption result (2 ^ 64 ≤ base + 16 * (part * width + place)) (λ a. a ≡ base + 16 * (part * width + place)) }
+    ensures { MatchOption result (2 ^ 64 ≤ base + 16 * (part * width + place))
+        (λ a. a ≡ base + 16 * (part * width + place)) }
 {
     part.checked_mul(width)?
         .checked_add(place)?
@@ -121,10 +128,11 @@ fn open_part<T: Copy>(
     fill: T,
 ) -> Result<(), AllocError>
     requires { part < 2 ^ 60 }
-    ensures ok { OnOk result
-        (map (λ v. v.items) parts.new.items ≡ changed_at [] part (filled end fill) (map (λ v. v.items) parts.old.items)) }
+    ensures ok { OnOk result (map (λ v. v.items) parts.new.items
+        ≡ changed_at [] part (filled end fill) (map (λ v. v.items) parts.old.items)) }
     ensures err { OnErr result (map (λ v. v.items) parts.new.items
-        ≡ map (λ v. v.items) parts.old.items ++ replicate (length parts.new.items - length parts.old.items) []) }
+        ≡ map (λ v. v.items) parts.old.items
+        ++ replicate (length parts.new.items - length parts.old.items) []) }
 {
     add_parts(parts, alloc, part + 1)?;
     let words = &mut parts[part];
@@ -139,7 +147,8 @@ fn add_parts<T: Copy>(
 ) -> Result<(), AllocError>
     ensures ok { OnOk result (length parts.new.items ≡ max count (length parts.old.items)) }
     ensures items { map (λ v. v.items) parts.new.items
-        ≡ map (λ v. v.items) parts.old.items ++ replicate (length parts.new.items - length parts.old.items) [] }
+        ≡ map (λ v. v.items) parts.old.items
+        ++ replicate (length parts.new.items - length parts.old.items) [] }
 {
     for _added in parts.len()..count {
         parts.push(Vec::new(alloc))?;
