@@ -31,6 +31,7 @@ use std::alloc::Global;
 use thread_cache::Cache;
 
 /// An arena: what it consists of, and the journal of its holds.
+#[derive(Drop)]
 pub struct Arena<M: Moves> {
     pub ground: M,
     pub journal: Vec<Entry>,

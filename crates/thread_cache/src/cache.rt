@@ -69,6 +69,15 @@ impl Cache {
         }
     }
 
+    /// A law; the call does nothing. An open cache is sound.
+    pub fn laws(&self)
+        ensures { IfSome self.now IsSound }
+    {
+        if let Some(open) = &self.open {
+            open.laws();
+        }
+    }
+
     /// Whether the cache is open.
     pub fn is_open(&self) -> bool
         ensures { result ≡ is_open self.now }

@@ -1,0 +1,13 @@
+pub mod Put
+pub mod Going
+pub mod Weights
+pub mod Carrying
+pub mod Holds
+pub mod Taken
+pub mod Unmapped
+pub mod Calling
+pub mod Obeying
+pub mod Joining
+pub mod Playing
+pub mod Serving
+pub mod SerialLaws

@@ -1,0 +1,91 @@
+-- What the blocks of a thread weigh, when one of them moves.
+use Rattle.std.proofs.Common.{◌≡◌, ℕ, zero, suc, ◌+◌, ◌<◌, ◌≤◌, Bool, true, false, ◌&&◌, List, [], ◌∷◌, Option, Some, None, length, get_or, cond, refl, ap, arith}
+use Rattle.std.specs.Prelude.{IfSome, IsSome, IsTrue, is_some, nat_le, sum_by}
+use Rattle.std.specs.List.{AllByRecursion, flat_map}
+use Rattle.std.proofs.lemmas.List.{length-set}
+use Rattle.std.proofs.lemmas.List.Sums.{sum_by-set, sum_by-append, sum_by-cons}
+use Rattle.chunk_tags.specs.Sizes.{max_cached, cache_index_of}
+use Rattle.chunk_tags.specs.declared.block.Block.{Block}
+use Rattle.list_laws.proofs.Sums.{sum_by-flat-less, sum_by-flat-more}
+use Rattle.thread_cache.specs.Caches.{CacheValue, is_open, blocks_of, opened, has_room, takes, newest, without_newest, with_newest}
+use Rattle.thread_cache.specs.Held.{IsCachedAt, IsSound}
+use Rattle.thread_cache.proofs.CacheLaws.{none_opened, HasRoomAt, room_at}
+use Rattle.malloc_calls.specs.Names.{block_at, with_block, without_block}
+use Rattle.malloc_calls.specs.Own.{newest_of_size, without_newest_of}
+use Rattle.malloc_calls.specs.Places.{weight_of, in_names, in_cache}
+
+-- ---- names
+
+pub in_names-with : (name : ℕ) (b : Block) (names : List (Option Block)) (weigh : Block → ℕ) → name < length names → block_at names name ≡ None →
+    in_names (with_block name b names) weigh ≡ weigh b + in_names names weigh
+in_names-with name b names weigh below empty =
+    let e = sum_by-set (λ o. weight_of o weigh) names name (Some b) None below in
+    let z : weight_of (get_or names name None) weigh ≡ 0 = ap (λ (o : Option Block). weight_of o weigh) empty in
+    omega (arith, e, z)
+
+-- a name that holds a block has a place
+below : (names : List (Option Block)) (name : ℕ) (b : Block) → block_at names name ≡ Some b → name < length names
+below [] name b e = absurd cc
+below (o ∷ os) zero b e = omega arith
+below (o ∷ os) (suc name) b e = omega (arith, below os name b e)
+
+pub in_names-without : (name : ℕ) (b : Block) (names : List (Option Block)) → block_at names name ≡ Some b → (weigh : Block → ℕ) →
+    weigh b + in_names (without_block name names) weigh ≡ in_names names weigh
+in_names-without name b names at weigh =
+    let e = sum_by-set (λ o. weight_of o weigh) names name None None (below names name b at) in
+    let z : weight_of (get_or names name None) weigh ≡ weigh b = ap (λ (o : Option Block). weight_of o weigh) at in
+    omega (arith, e, z)
+
+-- ---- the cache
+
+pub in_cache-opened : (structure : Block) (count bins : ℕ) (weigh : Block → ℕ) → in_cache (opened structure count bins) weigh ≡ weigh structure
+in_cache-opened structure count bins weigh = rw (none_opened structure count bins) (omega arith)
+
+-- a closed cache has none
+pub in_cache-closed : (c : CacheValue) (weigh : Block → ℕ) → is_open c ≡ false → in_cache c weigh ≡ 0
+in_cache-closed None weigh e = refl
+in_cache-closed (Some c) weigh e = absurd cc
+
+-- what weighs nothing in each list weighs nothing in all
+lists_nothing : (weigh : Block → ℕ) (lists : List (List Block)) → ((i : ℕ) → sum_by weigh (get_or lists i []) ≡ 0) → sum_by weigh (flat_map (λ blocks. blocks) lists) ≡ 0
+lists_nothing weigh [] each = refl
+lists_nothing weigh (l ∷ ls) each = omega (arith, sum_by-append weigh l (flat_map (λ blocks. blocks) ls), each 0, lists_nothing weigh ls (λ i. each (suc i)))
+
+list_nothing : (weigh : Block → ℕ) (i : ℕ) (blocks : List Block) → ((b : Block) → IsSome b.arena → weigh b ≡ 0) → AllByRecursion (IsCachedAt i) blocks → sum_by weigh blocks ≡ 0
+list_nothing weigh i [] none all = refl
+list_nothing weigh i (b ∷ blocks) none all = omega (arith, sum_by-cons weigh b blocks, none b all.0.arena, list_nothing weigh i blocks none all.1)
+
+-- the blocks of a sound cache are chunks of arenas
+pub in_lists-nothing : (c : CacheValue) (weigh : Block → ℕ) → IfSome c IsSound → ((b : Block) → IsSome b.arena → weigh b ≡ 0) → sum_by weigh (blocks_of c) ≡ 0
+in_lists-nothing None weigh sound none = refl
+in_lists-nothing (Some c) weigh sound none =
+    lists_nothing weigh c.lists (λ i. list_nothing weigh i (get_or c.lists i []) none (sound.lists i).cached)
+
+in_cache-newest : (c : CacheValue) (i : ℕ) (b : Block) → newest c i ≡ Some b → (weigh : Block → ℕ) →
+    weigh b + in_cache (without_newest c i) weigh ≡ in_cache c weigh
+in_cache-newest None i b found weigh = absurd cc
+in_cache-newest (Some c) i b found weigh = omega (arith, sum_by-flat-less weigh c.lists i b found)
+
+in_cache-if : (v : Bool) (c : CacheValue) (i : ℕ) (b : Block) → cond v (newest c i) None ≡ Some b → (weigh : Block → ℕ) →
+    weigh b + in_cache (cond v (without_newest c i) c) weigh ≡ in_cache c weigh
+in_cache-if true c i b found weigh = in_cache-newest c i b found weigh
+in_cache-if false c i b found weigh = absurd cc
+
+-- the newest block of a size leaves
+pub in_cache-taken : (nb : ℕ) (c : CacheValue) (b : Block) → newest_of_size nb c ≡ Some b → (weigh : Block → ℕ) →
+    weigh b + in_cache (without_newest_of nb c) weigh ≡ in_cache c weigh
+in_cache-taken nb c b found weigh = in_cache-if (nat_le nb max_cached) c (cache_index_of nb) b found weigh
+
+first_true : (x y : Bool) → (x && y) ≡ true → IsTrue x
+first_true true y h = refl
+first_true false y h = absurd cc
+
+-- a block comes in
+pub in_cache-put : (c : CacheValue) (b : Block) → takes c b ≡ true → IfSome (with_newest c b) IsSound → (weigh : Block → ℕ) →
+    in_cache (with_newest c b) weigh ≡ weigh b + in_cache c weigh
+in_cache-put None b taken sound weigh = absurd cc
+in_cache-put (Some c) b taken sound weigh =
+    let i : ℕ = cache_index_of b.size in
+    let at : HasRoomAt c b.size = room_at c b.size (first_true (has_room (Some c) b.size) (is_some b.arena) taken) in
+    let lt : i < length c.lists = omega (arith, at.used, sound.bins, sound.width, length-set c.lists i (b ∷ get_or c.lists i [])) in
+    omega (arith, sum_by-flat-more weigh c.lists i b lt)

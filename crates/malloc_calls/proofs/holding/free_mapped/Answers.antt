@@ -1,0 +1,19 @@
+use Rattle.std.proofs.Common.{ℕ, ◌+◌, arith}
+use Rattle.consolidate_trim.specs.Outside.{means}
+use Rattle.malloc_calls.specs.Places.{setting, standing, both_of}
+use Rattle.malloc_calls.proofs.Unmapped.{frees_mapped}
+use Rattle.malloc_calls.proofs.holding.free_mapped.Goals as goal
+
+pub unmap_freed-requires-clause-counted : goal.unmap_freed-requires-clause-counted
+unmap_freed-requires-clause-counted g c = λ k l.
+    let laws = g.met.P.Places.laws in
+    laws.unmaps c.args.p.now c.dial_out-dials.new.self c.dial_out-dials.result c.args.b (λ _. 0) c.dial_out-dials.ensures.lent
+    (laws.same _ c.args.p.now (λ weigh. weigh c.args.b) (both_of (λ weigh. weigh c.args.b) (λ _. 0)) (λ w. omega arith) c.requires.served.served) c.requires.mapped.arena
+
+pub returns : goal.returns
+returns g c = record {
+  frees = frees_mapped (setting g.P.Places.ways (means g.P.Hold.FastPort.fast g.P.Hold.Dials.dials g.K.Kernel.port) g.P.Dial.Dials.dials) c.args.b
+      (standing c.args.p.now c.args.space.now) c.dial_out-dials.new.self c.dial_in.new.self c.dial_out-dials.result c.unmap_freed.new.dials c.unmap_freed.new.space
+      c.requires.mapped c.dial_out-dials.ensures.lent c.unmap_freed.ensures c.dial_in.ensures.gave
+      (λ steps walk. c.dial_in.ensures.returned c.args.p.now c.dial_out-dials.result steps c.dial_out-dials.ensures.lent walk);
+}

@@ -1,0 +1,89 @@
+-- How a call goes: what is done at the places and the thread's address space, in order, and what the call is told
+-- (this project's own).
+use Rattle.std.specs.Prelude.{◌≡◌, ℕ, List, [], ◌∷◌, ◌++◌, length, Some}
+use Rattle.chunk_tags.specs.declared.block.Block.{Block}
+use Rattle.chunk_tags.specs.declared.tunables.Tunables.{Tunables}
+use Rattle.address_space.specs.declared.space.Space.{Space}
+use Rattle.mapped_chunks.specs.Mappings.{FreesChunk}
+use Rattle.thread_cache.specs.Caches.{CacheValue}
+use Rattle.arena_rules.specs.PlainArena.{Plain}
+use Rattle.arena_rules.specs.Rules.{Stop}
+use Rattle.arena_rules.specs.Growth.{Took}
+use Rattle.arena_rules.specs.Walks.{Walks}
+use Rattle.arena_core.specs.declared.journal.Act.{Act}
+use Rattle.arena_core.specs.declared.journal.Who.{Who}
+use Rattle.arena_core.specs.declared.journal.Ended.{Ended}
+use Rattle.arena_core.specs.Journal.{Recorded}
+use Rattle.arena_core.specs.Replay.{rules_of, ended_of}
+use Rattle.consolidate_trim.specs.Outside.{Outside, ways}
+use Rattle.malloc_calls.specs.Places.{kept, Setting, Standing}
+use Rattle.malloc_calls.specs.Calls.{Call, Done, Holds, Pushes, Frees}
+
+-- What a call is told: of a hold the arena's number, the place of its entry, the arena before it, and the entry; a push; a
+-- mapped chunk that was freed, with the threshold that was read.
+pub data Told : Type 0 where
+  Held : ℕ → ℕ → Plain → Recorded → Told
+  Pushed : Block → Told
+  Freed : ℕ → Told
+
+abbrev pub beside : {H K : Type 0} → H → CacheValue → Space K → Outside H K
+beside port cache space = record { port = port; cache = cache; space = space }
+
+-- One hold: the arena is lent, its act goes through its rules to their end, with the cache and the thread's
+-- address space, and it is given back with an entry more.
+pub record HoldStep {P H D K : Type 0} (s : Setting P H D K) (t : Tunables) (who : Who) (a : ℕ) (act : Act) (cache : CacheValue)
+    (old : Standing P K) (place : ℕ) (before : Plain) (entry : Recorded) (left : CacheValue) (new : Standing P K) : Type 0 where
+  pub lending : P
+  pub hold : H
+  pub last_hold : H
+  pub journal : List Recorded
+  pub took : Took
+  pub lent : s.ways.lent old.places a hold (Some (kept before journal)) lending
+  pub at : length journal ≡ place
+  pub whose : entry.who ≡ who
+  pub acts : entry.act ≡ act
+  pub walk : Walks t (ways s.means before.number) (rules_of t act before) (beside hold cache old.space) entry.said
+      (Stop took) (beside last_hold left new.space)
+  pub ended : entry.ended ≡ ended_of act took.found
+  pub gave : s.ways.gave lending last_hold (kept took.arena (journal ++ entry ∷ [])) new.places
+
+-- a block is pushed into a fast bin of its arena
+pub record PushStep {P H D K : Type 0} (s : Setting P H D K) (b : Block) (old new : Standing P K) : Type 0 where
+  pub pushed : s.ways.pushed old.places b new.places
+  pub space : new.space ≡ old.space
+
+-- room is made, and nothing else is seen
+pub record IdleStep {P H D K : Type 0} (s : Setting P H D K) (old new : Standing P K) : Type 0 where
+  pub idle : s.ways.idle old.places new.places
+  pub space : new.space ≡ old.space
+
+-- a mapped chunk is freed outside all holds
+pub record FreeStep {P H D K : Type 0} (s : Setting P H D K) (t : Tunables) (b : Block) (old : Standing P K) (threshold : ℕ) (new : Standing P K) : Type 0 where
+  pub lending : P
+  pub dial : D
+  pub last_dial : D
+  pub lent : s.ways.dials_lent old.places dial lending
+  pub frees : FreesChunk s.means.kernel s.dials (old.space, dial) t.dynamic b (new.space, last_dial)
+  pub read : frees.threshold ≡ threshold
+  pub gave : s.ways.dials_gave lending last_dial new.places
+
+-- From a call and where it stands, by what it is told, to what is left of the call and where it stands then.
+pub data Goes {P H D K A : Type 0} (s : Setting P H D K) (t : Tunables) (who : Who) :
+    Call A → Standing P K → List Told → Call A → Standing P K → Type 0 where
+  here : {c : Call A} {o : Standing P K} → Goes s t who c o [] c o
+  idled : {c q : Call A} {o p z : Standing P K} {told : List Told} →
+      IdleStep s o p → Goes s t who c p told q z → Goes s t who c o told q z
+  held : {a : ℕ} {act : Act} {cache left : CacheValue} {next : ℕ → Ended → CacheValue → Call A} {q : Call A} {o p z : Standing P K}
+      {told : List Told} {place : ℕ} {before : Plain} {entry : Recorded} →
+      HoldStep s t who a act cache o place before entry left p → Goes s t who (next place entry.ended left) p told q z →
+      Goes s t who (Holds a act cache next) o (Held a place before entry ∷ told) q z
+  pushed : {b : Block} {c q : Call A} {o p z : Standing P K} {told : List Told} →
+      PushStep s b o p → Goes s t who c p told q z → Goes s t who (Pushes b c) o (Pushed b ∷ told) q z
+  freed : {b : Block} {c q : Call A} {o p z : Standing P K} {told : List Told} {threshold : ℕ} →
+      FreeStep s t b o threshold p → Goes s t who c p told q z → Goes s t who (Frees b c) o (Freed threshold ∷ told) q z
+
+-- A call goes to its end with a result.
+pub record Does {P H D K A : Type 0} (s : Setting P H D K) (t : Tunables) (who : Who) (c : Call A) (o : Standing P K)
+    (result : A) (z : Standing P K) : Type 0 where
+  pub told : List Told
+  pub goes : Goes s t who c o told (Done result) z

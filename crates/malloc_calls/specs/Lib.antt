@@ -1,0 +1,14 @@
+pub use Rattle.chunk_tags.specs.Sizes
+pub mod Names
+pub mod Own
+pub mod Calls
+pub mod Places
+pub mod Returning
+pub mod Going
+pub mod Holding
+pub mod Obeys
+pub mod Joined
+pub mod Playing
+pub mod SerialWays
+pub mod SerialPlaces
+pub mod Examples

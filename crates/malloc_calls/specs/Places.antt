@@ -1,0 +1,163 @@
+-- Where a thread's calls find arenas, fast bins and the words beside them, as contracts see it (this project's own form).
+use Rattle.std.specs.Prelude.{◌≡◌, ℕ, ◌+◌, ◌≤◌, Bool, false, true, List, Option, Some, None, is_some, IsTrue, sum_by, if◌then◌else◌}
+use Rattle.chunk_tags.specs.declared.block.Block.{Block}
+use Rattle.chunk_tags.specs.declared.tiles.Chunk.{Chunk}
+use Rattle.chunk_tags.specs.declared.tunables.Tunables.{Tunables}
+use Rattle.address_space.specs.declared.space.Space.{Space}
+use Rattle.address_space.specs.Spaces.{map_length}
+use Rattle.mapped_chunks.specs.DialPorts.{Dialled, Maps, Unmaps}
+use Rattle.mapped_chunks.specs.Mappings.{mapping_bytes, IsSteady}
+use Rattle.fast_bins.specs.FastPorts.{Fast}
+use Rattle.thread_cache.specs.Caches.{CacheValue, blocks_of, structure_of}
+use Rattle.arena_rules.specs.PlainArena.{Plain, IsSound, is_main, empty_main, times_used}
+use Rattle.arena_rules.specs.MainPlaces.{IsPlaced}
+use Rattle.arena_rules.specs.Rules.{windows_of}
+use Rattle.arena_core.specs.declared.arena.Arena.{Arena}
+use Rattle.arena_core.specs.Journal.{Recorded}
+use Rattle.arena_core.specs.Replay.{IsReplay}
+use Rattle.arena_core.specs.Shown.{Shown, ShowsMapped}
+use Rattle.consolidate_trim.specs.Holds.{is_block_of}
+use Rattle.consolidate_trim.specs.Outside.{Means, Apart}
+use Rattle.malloc_calls.specs.declared.own.Own.{Own}
+
+-- an arena between two holds: what it is, and the journal of its holds
+pub record KeptArena : Type 0 where
+  pub arena : Plain
+  pub journal : List Recorded
+
+abbrev pub kept : Plain → List Recorded → KeptArena
+kept arena journal = record { arena = arena; journal = journal }
+
+abbrev pub kept_of : {M : Type 0} → (M → Plain) → Arena M → KeptArena
+kept_of plain a = kept (plain a.ground) a.journal.items
+
+-- the arena with a number, before its first hold
+abbrev pub unopened : ℕ → Plain
+unopened a = record empty_main { number = a }
+
+-- ---- blocks in somebody's hands
+
+-- by what they weigh: for a weight of each block, the sum
+abbrev pub Hands : Type 0
+Hands = (Block → ℕ) → ℕ
+
+-- the weight of a block that may be none
+abbrev pub weight_of : Option Block → Hands
+weight_of None weigh = 0
+weight_of (Some b) weigh = weigh b
+
+-- the blocks of a cache, that of its structure included
+abbrev pub in_cache : CacheValue → Hands
+in_cache cache weigh = sum_by weigh (blocks_of cache) + weight_of (structure_of cache) weigh
+
+-- the blocks that have names
+abbrev pub in_names : List (Option Block) → Hands
+in_names names weigh = sum_by (λ o. weight_of o weigh) names
+
+-- the blocks of a thread
+abbrev pub in_own : Own → Hands
+in_own own weigh = in_names own.names weigh + in_cache own.cache weigh
+
+-- these, and others
+abbrev pub both_of : Hands → Hands → Hands
+both_of some others weigh = some weigh + others weigh
+
+-- 1 for a chunk of the arena with a number, else 0
+abbrev pub as_chunk_of : ℕ → Chunk → Block → ℕ
+as_chunk_of number c b = if is_block_of number c b then 1 else 0
+
+-- 1 for a mapped chunk, and the bytes of its mapping
+abbrev pub as_mapped : Block → ℕ
+as_mapped b = if is_some b.arena then 0 else 1
+
+abbrev pub as_mapped_bytes : Block → ℕ
+as_mapped_bytes b = if is_some b.arena then 0 else mapping_bytes b
+
+-- as many as that, or where not all need be known, at most as many
+abbrev pub Covers : Bool → ℕ → ℕ → Type 0
+Covers true n m = n ≡ m
+Covers false n m = n ≤ m
+
+-- ---- places
+
+-- What places are. Their steps: an arena was lent with its lock, where it is there, and given back; room was made, and
+-- nothing else is seen; a block was pushed into a fast bin; the words were lent and given back. Then which blocks are
+-- given out, exactly these or at least these; that the mappings counted for a thread, and for the others, are together at
+-- most so many bytes; whether a push of an arena has room; the tunables; whether an arena is there to be lent; and the
+-- mapped chunks that a lent port shows.
+pub record PlaceWays (P H D : Type 0) : Type 1 where
+  pub lent : P → ℕ → H → Option KeptArena → P → Type 0
+  pub gave : P → H → KeptArena → P → Type 0
+  pub idle : P → P → Type 0
+  pub pushed : P → Block → P → Type 0
+  pub dials_lent : P → D → P → Type 0
+  pub dials_gave : P → D → P → Type 0
+  pub serves : Bool → P → Hands → Type 0
+  pub notes : P → ℕ → ℕ → Type 0
+  pub room : P → ℕ → Type 0
+  pub tunables : P → Tunables
+  pub there : P → ℕ → Bool
+  pub shown : H → Shown
+
+-- what a call stands on: the places, what is beside an arena in a hold, and the words
+pub record Setting (P H D K : Type 0) : Type 1 where
+  pub ways : PlaceWays P H D
+  pub means : Means H K
+  pub dials : Dialled D
+
+abbrev pub setting : {P H D K : Type 0} → PlaceWays P H D → Means H K → Dialled D → Setting P H D K
+setting ways means dials = record { ways = ways; means = means; dials = dials }
+
+-- the places and the thread's address space, between two steps of a call
+pub record Standing (P K : Type 0) : Type 0 where
+  pub places : P
+  pub space : Space K
+
+abbrev pub standing : {P K : Type 0} → P → Space K → Standing P K
+standing places space = record { places = places; space = space }
+
+-- What a call of a thread needs of where it stands: its blocks are given out, its mappings and those of others are noted,
+-- the tunables are the places', the windows theirs, and main is there.
+pub record IsServed {P H D K : Type 0} (ways : PlaceWays P H D) (t : Tunables) (hands : Hands) (o : Standing P K) : Type 0 where
+  pub served : ways.serves false o.places hands
+  pub others : ℕ
+  pub notes : ways.notes o.places o.space.mapped others
+  pub tunables : ways.tunables o.places ≡ t
+  pub windows : o.space.windows ≡ windows_of t
+  pub home : IsTrue (ways.there o.places 0)
+
+-- What a step keeps: whatever else is given out stays so while these blocks are given up and those are got, known exactly
+-- where all went well; the mappings stay noted; and tunables, windows and arenas are the same.
+pub record Carries {P H D K : Type 0} (ways : PlaceWays P H D) (well : Bool) (given : Hands) (old : Standing P K) (got : Hands)
+    (new : Standing P K) : Type 0 where
+  pub serves : (exact : Bool) → (exact ≡ true → well ≡ true) → (others : Hands) →
+      ways.serves exact old.places (both_of given others) → ways.serves exact new.places (both_of got others)
+  pub notes : (others : ℕ) → ways.notes old.places old.space.mapped others → ways.notes new.places new.space.mapped others
+  pub tunables : ways.tunables new.places ≡ ways.tunables old.places
+  pub windows : new.space.windows ≡ old.space.windows
+  pub there : (a : ℕ) → ways.there new.places a ≡ ways.there old.places a
+
+-- ---- laws of places
+
+-- An arena that was lent, with its port. It is main: the others aren't lent yet.
+pub record IsLent {P H D : Type 0} (ways : PlaceWays P H D) (fast : Fast H) (dials : Dialled H) (p : P) (a : ℕ) (port : H) (k : KeptArena) : Type 0 where
+  pub number : k.arena.number ≡ a
+  pub main : IsTrue (is_main k.arena)
+  pub sound : IsSound k.arena
+  pub placed : IsPlaced k.arena
+  pub replays : IsReplay (ways.tunables p) (unopened a) k.journal k.arena
+  pub backed : (hands : Hands) → ways.serves false p hands → (e : Chunk) → fast.stock port e + hands (as_chunk_of a e) ≤ times_used e k.arena
+  pub maps : (own others len : ℕ) → ways.notes p own others → own + len ≤ map_length → dials.allows port (Maps len)
+
+-- what is true of places: as often the same blocks are given out, or fewer; a lent arena is such; a block of an arena that
+-- is given out has its arena there; a mapped one may be counted no more
+pub record PlaceLaws {P H D : Type 0} (ways : PlaceWays P H D) (fast : Fast H) (dials : Dialled H) (words : Dialled D) : Type 0 where
+  pub apart : Apart fast dials
+  pub shows : ShowsMapped fast dials ways.shown
+  pub steady : IsSteady words
+  pub same : (exact : Bool) (p : P) (hands others : Hands) → ((weigh : Block → ℕ) → others weigh ≡ hands weigh) → ways.serves exact p hands → ways.serves exact p others
+  pub fewer : (p : P) (hands some : Hands) → ((weigh : Block → ℕ) → some weigh ≤ hands weigh) → ways.serves false p hands → ways.serves false p some
+  pub lends : (p q : P) (a : ℕ) (port : H) (k : KeptArena) → ways.lent p a port (Some k) q → IsLent ways fast dials p a port k
+  pub known : (p : P) (b : Block) (others : Hands) (a : ℕ) → ways.serves false p (both_of (λ weigh. weigh b) others) → b.arena ≡ Some a → IsTrue (ways.there p a)
+  pub unmaps : (p q : P) (d : D) (b : Block) (others : Hands) → ways.dials_lent p d q → ways.serves false p (both_of (λ weigh. weigh b) others) → b.arena ≡ None →
+      words.allows d (Unmaps (mapping_bytes b))

@@ -1,0 +1,29 @@
+//! The calls of a thread: which of its blocks, caches and arenas answer them.
+#![tactic(auto)]
+
+mod both;
+mod cached;
+#[cfg(test)]
+mod examples;
+mod free;
+mod holding;
+mod malloc;
+mod names;
+mod opening;
+mod own;
+mod places;
+mod reply;
+mod serial;
+mod thread;
+
+pub use both::Both;
+pub use cached::CachedFree;
+pub use names::Names;
+pub use own::Own;
+pub use places::Places;
+pub use reply::{Origin, Reply, To, Why};
+pub use serial::{Serial, SerialEnd};
+pub use thread::Thread;
+
+#[cfg(test)]
+mod tests;

@@ -1,0 +1,186 @@
+//! A thread, and what of its calls its cache answers.
+
+ghost use Rattle.std.specs.Prelude.{◌≡◌, ◌-◌, ◌^◌, ◌<◌, ◌≤◌, ◌⊎◌, None, IsTrue, IfSome, IfOk, OnOk, OnErr, is_ok, option_copied, length};
+ghost use Rattle.std.specs.Option.{option_map};
+ghost use Rattle.chunk_tags.specs.Tunables.{IsTuned};
+ghost use Rattle.consolidate_trim.specs.Outside.{means};
+ghost use Rattle.malloc_calls.specs.Calls.{malloc_call, free_call};
+ghost use Rattle.malloc_calls.specs.Going.{Does};
+ghost use Rattle.malloc_calls.specs.Places.{setting, IsServed, Carries, standing, in_own};
+ghost use Rattle.malloc_calls.specs.Names.{block_at, readied, with_block, without_block, IsHeld};
+ghost use Rattle.malloc_calls.specs.Own.{new_thread, number_of, who_of, own_of, with_own, with_names, names_of, space_of, IsSpaceOf, cached_for, cached_malloc_of, cached_end, cached_free_of};
+
+use crate::cached::CachedFree;
+use crate::free::free;
+use crate::malloc::malloc;
+use crate::own::Own;
+use crate::places::Places;
+use crate::reply::Reply;
+use address_space::{Kernel, Space};
+use arena_core::Who;
+use chunk_tags::{Addr, Block, NoMemory, Tunables};
+use std::alloc::Global;
+use thread_cache::Cache;
+
+/// A thread of a trace: its number, its cache, its blocks by name, and its address space.
+#[derive(Drop)]
+pub struct Thread<K: Kernel> {
+    number: u8,
+    own: Own,
+    space: Space<K>,
+}
+
+impl<K: Kernel> Thread<K> {
+    /// A thread that begins: its cache is closed, and it has no blocks.
+    pub fn new(alloc: Global, number: u8, space: Space<K>) -> Thread<K>
+        requires { IsSpaceOf number space }
+        ensures { result ≡ new_thread number space }
+    {
+        Thread {
+            number,
+            own: Own::new(alloc),
+            space,
+        }
+    }
+
+    /// Makes room for the names up to one. After `NoMemory` nothing changed.
+    pub fn ready(&mut self, name: u32) -> Result<(), NoMemory>
+        requires { name < 2 ^ 32 - 1 }
+        ensures ok { OnOk result (self.new ≡ with_names (readied name (names_of self.old)) self.old) }
+        ensures err { OnErr result (self.new ≡ self.old) }
+    {
+        self.own.names.ready(name)
+    }
+
+    /// How many names there is room for: those below this.
+    pub fn room(&self) -> u32
+        ensures { result ≡ length (names_of self.now) }
+    {
+        self.own.names.room()
+    }
+
+    /// The block of a name. `None` exactly where the name holds nothing.
+    pub fn block(&self, name: u32) -> Option<&Block>
+        ensures { option_copied result ≡ block_at (names_of self.now) name }
+    {
+        self.own.names.get(name)
+    }
+
+    /// The thread's cache.
+    pub fn cache(&self) -> &Cache
+        ensures { result.now ≡ (own_of self.now).cache }
+    {
+        &self.own.cache
+    }
+
+    /// malloc, where the cache has a chunk for it. `None` exactly where the size is past `MAX_REQUEST`, its chunk is too large
+    /// for the cache, or that list is empty; then nothing changed.
+    pub fn cached_malloc(&mut self, name: u32, size: u64) -> Option<Addr>
+        requires room { name < length (names_of self.old) }
+        requires empty { block_at (names_of self.old) name ≡ None }
+        ensures addr { result ≡ option_map (λ b. b.addr) (cached_for size (own_of self.old).cache) }
+        ensures own { self.new ≡ with_own (cached_malloc_of name size (own_of self.old)) self.old }
+    {
+        self.own.cached_malloc(name, size)
+    }
+
+    /// free, where the cache takes the block. `NotYours` exactly where the name holds nothing, `NoRoom` exactly where the
+    /// cache wouldn't take its block; then nothing changed.
+    pub fn cached_free(&mut self, name: u32) -> CachedFree
+        ensures end { result ≡ cached_end (own_of self.old) (block_at (names_of self.old) name) }
+        ensures own { self.new ≡ with_own (cached_free_of name (own_of self.old)) self.old }
+    {
+        self.own.cached_free(name)
+    }
+
+    /// Takes a block from its name, for another thread. `None` exactly where the name holds nothing.
+    pub fn hand_out(&mut self, name: u32) -> Option<Block>
+        ensures block { result ≡ block_at (names_of self.old) name }
+        ensures names { self.new ≡ with_names (without_block name (names_of self.old)) self.old }
+        ensures held { IfSome result IsHeld }
+    {
+        self.own.names.take(name)
+    }
+
+    /// Gives a block of another thread a name, which holds nothing.
+    pub fn hand_in(&mut self, name: u32, block: Block)
+        requires room { name < length (names_of self.old) }
+        requires empty { block_at (names_of self.old) name ≡ None }
+        requires held { IsHeld block }
+        ensures { self.new ≡ with_names (with_block name block (names_of self.old)) self.old }
+    {
+        self.own.names.put(name, block);
+    }
+
+    fn who(&self, line: u64) -> Who
+        ensures { result ≡ who_of line self.now }
+    {
+        Who {
+            thread: self.number,
+            line,
+        }
+    }
+
+    /// malloc of a size, under a name that holds nothing, in a line of the trace (glibc's `__libc_malloc`). After `NoMemory`
+    /// the names hold what they held.
+    pub fn malloc<P: Places>(
+        &mut self,
+        alloc: Global,
+        p: &mut P,
+        line: u64,
+        name: u32,
+        size: u64,
+        t: &Tunables,
+    ) -> Result<Reply, NoMemory>
+        requires room { name < length (names_of self.old) }
+        requires empty { block_at (names_of self.old) name ≡ None }
+        requires tuned { IsTuned t.now }
+        requires served { IsServed P.ways t.now (in_own (own_of self.old)) (standing p.old (space_of self.old)) }
+        ensures does { IfOk result (λ reply.
+            Does (setting P.ways (means P.Hold.fast P.Hold.dials K.port) P.Dial.dials) t.now (who_of line self.old)
+            (malloc_call t.now 0 name size (own_of self.old)) (standing p.old (space_of self.old))
+            (reply, own_of self.new) (standing p.new (space_of self.new))) }
+        ensures carries { Carries P.ways (is_ok result) (in_own (own_of self.old)) (standing p.old (space_of self.old))
+            (in_own (own_of self.new)) (standing p.new (space_of self.new)) }
+        ensures names { OnErr result (names_of self.new ≡ names_of self.old) }
+        ensures number { number_of self.new ≡ number_of self.old }
+    {
+        let who = self.who(line);
+        malloc(
+            &mut self.own,
+            alloc,
+            p,
+            &who,
+            name,
+            size,
+            &mut self.space,
+            t,
+        )
+    }
+
+    /// free of a name's block, in a line of the trace (glibc's `__libc_free`). `NotYours` exactly where the name holds nothing.
+    /// After `NoMemory` the name holds its block, or nothing where the block was given up.
+    pub fn free<P: Places>(
+        &mut self,
+        alloc: Global,
+        p: &mut P,
+        line: u64,
+        name: u32,
+        t: &Tunables,
+    ) -> Result<Reply, NoMemory>
+        requires tuned { IsTuned t.now }
+        requires served { IsServed P.ways t.now (in_own (own_of self.old)) (standing p.old (space_of self.old)) }
+        ensures does { IfOk result (λ reply.
+            Does (setting P.ways (means P.Hold.fast P.Hold.dials K.port) P.Dial.dials) t.now (who_of line self.old)
+            (free_call t.now 0 name (own_of self.old)) (standing p.old (space_of self.old))
+            (reply, own_of self.new) (standing p.new (space_of self.new))) }
+        ensures carries { Carries P.ways (is_ok result) (in_own (own_of self.old)) (standing p.old (space_of self.old))
+            (in_own (own_of self.new)) (standing p.new (space_of self.new)) }
+        ensures names { OnErr result ((names_of self.new ≡ names_of self.old)
+            ⊎ (names_of self.new ≡ without_block name (names_of self.old))) }
+        ensures number { number_of self.new ≡ number_of self.old }
+    {
+        let who = self.who(line);
+        free(&mut self.own, alloc, p, &who, name, &mut self.space, t)
+    }
+}
