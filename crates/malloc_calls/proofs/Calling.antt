@@ -1,6 +1,6 @@
 -- Laws of the parts of a call: opening the cache, and a chunk from an arena.
-use Rattle.std.proofs.Common.{◌≡◌, ℕ, ◌+◌, ◌<◌, Bool, true, false, List, [], ◌∷◌, Option, Some, None, length, ◌⊎◌, inl, inr, refl, sym, ap, ◌∙◌, subst, arith}
-use Rattle.std.specs.Prelude.{Result, Ok, Err, IfOk, OnErr, nat_le}
+use Rattle.std.proofs.Common.{◌≡◌, ℕ, ◌+◌, ◌<◌, ◌≤◌, Bool, true, false, List, [], ◌∷◌, Option, Some, None, length, ◌⊎◌, inl, inr, refl, sym, ap, ◌∙◌, subst, arith}
+use Rattle.std.specs.Prelude.{Result, Ok, Err, IfOk, IfSome, OnErr, nat_le}
 use Rattle.chunk_tags.specs.Sizes.{structure_size, padded_request, fast_index_of}
 use Rattle.chunk_tags.specs.declared.block.Block.{Block}
 use Rattle.chunk_tags.specs.declared.tunables.Tunables.{Tunables}
@@ -9,13 +9,14 @@ use Rattle.thread_cache.specs.Caches.{CacheValue, is_open, takes, with_newest}
 use Rattle.arena_core.specs.declared.journal.Who.{Who}
 use Rattle.malloc_calls.specs.Names.{block_at, with_block, without_block}
 use Rattle.malloc_calls.specs.Own.{newest_of_size, without_newest_of}
-use Rattle.malloc_calls.specs.declared.reply.Reply.TheVariants.{Got, Freed}
+use Rattle.malloc_calls.specs.declared.reply.Reply.TheVariants.{Got, Null, Freed}
+use Rattle.malloc_calls.specs.declared.reply.Why.TheVariants.{Refused}
 use Rattle.malloc_calls.specs.declared.reply.To.TheVariants as sinks
 use Rattle.malloc_calls.specs.declared.reply.Origin.TheVariants.{Cached}
 use Rattle.malloc_calls.specs.declared.own.Own.{Own}
 use Rattle.malloc_calls.specs.declared.reply.Reply.{Reply}
 use Rattle.malloc_calls.specs.Places.{PlaceWays, Setting, Standing, standing, Hands, both_of, Carries, weight_of, in_names, in_cache, in_own}
-use Rattle.malloc_calls.specs.Calls.{to_cache, past_cache, free_call, freed_block, without_name, from_arena, from_cache, malloc_call, opening, opened_in, answered, reply_of, named_as, taken_of, with_cache}
+use Rattle.malloc_calls.specs.Calls.{to_cache, past_cache, free_call, freed_block, without_name, from_arena, from_cache, malloc_call, opening, opened_in, answered, reply_of, named_as, taken_of, with_cache, FitsChunk}
 use Rattle.malloc_calls.specs.Going as going
 use Rattle.malloc_calls.specs.Going.{Does, Pushed, here, idled, pushed, freed}
 use Rattle.malloc_calls.specs.Holding.{Takes, Gives, FreesMapped, PushesWithRoom}
@@ -80,6 +81,15 @@ pub own_unnamed : (own : Own) (name : ℕ) (b : Block) (cache : CacheValue) (lef
     cache ≡ own.cache → left ≡ without_block name own.names → (weigh : Block → ℕ) →
     in_own own weigh ≡ both_of (λ w. w b) (in_own (record { cache = cache; names = left })) weigh
 own_unnamed own name b cache left at same e weigh = rw (same, e) (omega (arith, in_names-without name b own.names at weigh))
+
+-- what a hold found is large enough, and nothing is answered only where nothing was found
+pub fits_found : (nb place : ℕ) (block : Option Block) (reply : Reply) → reply ≡ reply_of place block → IfSome block (λ b. nb ≤ b.size) → FitsChunk nb reply
+fits_found nb place None reply e fits = rw e tt
+fits_found nb place (Some b) reply e fits = rw e fits
+
+pub refused_found : {R : Type 0} (place : ℕ) (block : Option Block) (reply : Reply) → reply ≡ reply_of place block → (block ≡ None → R) → reply ≡ Null Refused → R
+refused_found place None reply e none is = none refl
+refused_found place (Some b) reply e none is = let no : reply_of place (Some b) ≡ Null Refused = sym e ∙ is in absurd cc
 
 -- ---- malloc
 

@@ -18,7 +18,12 @@ use Rattle.arena_rules.specs.declared.said.Said.{Said}
 use Rattle.consolidate_trim.specs.Holds.{Chunks, no_chunk, one_chunk}
 use Rattle.consolidate_trim.specs.Outside.{Outside, ways}
 use Rattle.arena_core.specs.Arenas as arenas
-use Rattle.arena_core.specs.Arenas.{Held, held, Records, FailsShort, GivesShort, take_of, recorded}
+use Rattle.arena_core.specs.Arenas.{Held, held, Records, FailsShort, FitsRequest, GivesShort, need_of, take_of, recorded}
+use Rattle.arena_core.specs.Steps.{IsEnough}
+use Rattle.arena_core.proofs.Refusals.{reached_refusals}
+use Rattle.arena_core.specs.declared.take.Take.TheVariants as takes
+use Rattle.address_space.specs.Ports.{Rose}
+use Rattle.address_space.specs.Spaces.{space_refusals}
 use Rattle.arena_core.specs.Asking.{beside_arena, found_of}
 use Rattle.arena_core.specs.Journal.{Recorded}
 use Rattle.arena_core.specs.Replay.{rules_of, ended_of, chunk_at}
@@ -79,13 +84,27 @@ open_same None (Some d) e = absurd cc
 open_same (Some c) None e = absurd cc
 open_same (Some c) (Some d) e = refl
 
+enough : (nb : ℕ) (take : Take) → FitsRequest nb take → IfSome (block_in take) (λ b. nb ≤ b.size)
+enough nb (takes.Got b) fits =
+    let cases : (o : Option ℕ) → IsEnough (need_of o nb) b.size → nb ≤ b.size = elim [
+      | None ↦ λ e. omega (arith, e.room)
+      | Some n ↦ λ e. omega (arith, e.room)
+    ] in
+    cases b.arena fits
+enough nb takes.Refused fits = tt
+
+no_block : (take : Take) → block_in take ≡ None → take ≡ takes.Refused
+no_block (takes.Got b) e = absurd cc
+no_block takes.Refused e = refl
+
 pub takes_held : {P H D K : Type 0} (s : Setting P H D K) (words : Dialled D) {t : Tunables} {who : Who} {a nb : ℕ} {cache now : CacheValue} {o : Standing P K} {q r : P} {port left : H} {later : Space K}
     (k k' : KeptArena) (take : Take) → PlaceLaws s.ways s.means.fast s.means.dials words → IfSome cache IsSoundCache → IfSome now IsSoundCache →
     IsServed s.ways t (in_cache cache) o → s.ways.lent o.places a port (Some k) q → s.ways.gave q left k' r →
     IsUnlocked s.ways s.means.fast o.places a port k left k' r →
     arenas.Takes s.means t who (acts.Take nb) (held k.arena port cache o.space k.journal) take (held k'.arena left now later k'.journal) →
+    FitsRequest nb take → (take ≡ takes.Refused → Rose (space_refusals s.means.kernel o.space) (space_refusals s.means.kernel later)) →
     Takes s t who a nb cache o (length k.journal) (block_in take) now (standing r later)
-takes_held s words {t = t} {a = a} {nb = nb} {cache = cache} {now = now} {o = o} {q = q} {r = r} {port = port} {left = left} {later = later} k k' take laws sound well served lent gave unlocked h =
+takes_held s words {t = t} {a = a} {nb = nb} {cache = cache} {now = now} {o = o} {q = q} {r = r} {port = port} {left = left} {later = later} k k' take laws sound well served lent gave unlocked h fits rose =
     let is : IsLent s.ways s.means.fast s.means.dials o.places a port k = laws.lends o.places q a port k lent in
     let n : ℕ = k.arena.number in
     let block : block_in take ≡ block_found n h.found = ap block_in h.taken ∙ taken_block n h.found in
@@ -96,6 +115,9 @@ takes_held s words {t = t} {a = a} {nb = nb} {cache = cache} {now = now} {o = o}
       found = block ∙ found_block nb a n h.found is.number;
       does = does_hold s k k' h.found no_chunk lent gave h.records;
       held = rw block (held_found s.ways.shown h.found laws.shows (λ e. subst (λ (x : ℕ). s.means.fast.stock port e + in_cache cache (as_chunk_of x e) ≤ times_used e k.arena) (sym is.number) (is.backed (in_cache cache) served.served e)) h.records);
+      fits = enough nb take fits;
+      refused = λ none. rose (no_block take none);
+      later = reached_refusals {m = s.means} h.records.walks;
       opens = open_same cache now frame.structure;
       carries = rw block (carries_held true (in_cache cache) (both_of (weight_of (block_found n h.found)) (in_cache now)) o.space later unlocked'
           (λ exact known. account_taken s.ways s.means h.found laws.shows sound well h.records exact) (noted_taken s.ways s.means h.found laws.shows h.records) frame.windows);

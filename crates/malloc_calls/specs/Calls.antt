@@ -1,6 +1,6 @@
 -- A call of a thread, as a tree over what it is told: glibc 2.31 malloc/malloc.c, __libc_malloc, __libc_free, tcache_init
 -- and _int_free outside the arena's lock. That it is a tree is this project's own form.
-use Rattle.std.specs.Prelude.{ℕ, Bool, nat_le, List, Option, Some, None, if◌then◌else◌}
+use Rattle.std.specs.Prelude.{◌≡◌, ℕ, ◌≤◌, Bool, nat_le, List, Option, Some, None, if◌then◌else◌}
 use Rattle.chunk_tags.specs.Sizes.{padded_request, structure_size, fast_index_of}
 use Rattle.chunk_tags.specs.declared.block.Block.{Block}
 use Rattle.chunk_tags.specs.declared.tunables.Tunables.{Tunables}
@@ -145,3 +145,16 @@ freed t home name (Some b) own = freed_block t home name b b.arena own
 
 abbrev pub free_call : Tunables → ℕ → ℕ → Own → Call (Reply × Own)
 free_call t home name own = freed t home name (block_at own.names name) own
+
+-- ---- what an answer promises
+
+-- a block that was got has at least so many bytes
+abbrev pub FitsChunk : ℕ → Reply → Type 0
+FitsChunk nb (Got addr size from) = nb ≤ size
+FitsChunk nb (Null why) = Unit {0}
+FitsChunk nb (Freed to) = Unit {0}
+FitsChunk nb NotYours = Unit {0}
+
+-- it is large enough for the request
+abbrev pub FitsReply : ℕ → Reply → Type 0
+FitsReply size reply = (nb : ℕ) → padded_request size ≡ Some nb → FitsChunk nb reply

@@ -1,6 +1,7 @@
 //! A thread's cache is opened.
 
-ghost use Rattle.std.specs.Prelude.{◌≡◌, OnOk, is_ok};
+ghost use Rattle.std.specs.Prelude.{◌≡◌, ◌≤◌, OnOk, is_ok};
+ghost use Rattle.address_space.specs.Spaces.{space_refusals};
 ghost use Rattle.chunk_tags.specs.Tunables.{IsTuned};
 ghost use Rattle.consolidate_trim.specs.Outside.{means};
 ghost use Rattle.malloc_calls.specs.Calls.{opening};
@@ -33,13 +34,23 @@ pub fn open_cache<P: Places, K: Kernel>(
     ensures does { OnOk result
         (Does (setting P.ways (means P.Hold.fast P.Hold.dials K.port) P.Dial.dials) t.now who.now (opening t.now 0 cache.old)
         (standing p.old space.old) cache.new (standing p.new space.new)) }
+    ensures later { OnOk result (space_refusals K.port space.old ≤ space_refusals K.port space.new) }
     ensures carries { Carries P.ways (is_ok result) (in_cache cache.old) (standing p.old space.old)
         (in_cache cache.new) (standing p.new space.new) }
 {
     if cache.is_open() {
         return Ok(());
     }
-    let Search { hold: _, block } = take_held(alloc, p, MAIN, who, STRUCTURE_SIZE, cache, space, t)?;
+    let Search { hold: _, block } = take_held(
+        alloc,
+        p,
+        MAIN,
+        who,
+        STRUCTURE_SIZE,
+        cache,
+        space,
+        t,
+    )?;
     match block {
         None => Ok(()),
         Some(structure) => match cache.open(alloc, structure, t.tcache_count, t.tcache_bins) {

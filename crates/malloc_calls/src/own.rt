@@ -26,6 +26,7 @@ pub fn take_newest(cache: &mut Cache, nb: Size) -> Option<Block>
     ensures newest { result ≡ newest_of_size nb cache.old }
     ensures rest { cache.new ≡ without_newest_of nb cache.old }
     ensures held { IfSome result IsHeld }
+    ensures size { IfSome result (λ b. b.size ≡ nb) }
     ensures unchanged { IfNone result (cache.new ≡ cache.old) }
 {
     if nb > MAX_CACHED {

@@ -3,8 +3,12 @@
 ghost use Rattle.std.specs.Prelude.{◌≡◌, ◌-◌, ◌^◌, ◌<◌, ◌≤◌, ◌⊎◌, None, IsTrue, IfSome, IfOk, OnOk, OnErr, is_ok, option_copied, length};
 ghost use Rattle.std.specs.Option.{option_map};
 ghost use Rattle.chunk_tags.specs.Tunables.{IsTuned};
+ghost use Rattle.address_space.specs.Ports.{Rose};
+ghost use Rattle.address_space.specs.Spaces.{space_refusals};
 ghost use Rattle.consolidate_trim.specs.Outside.{means};
-ghost use Rattle.malloc_calls.specs.Calls.{malloc_call, free_call};
+ghost use Rattle.malloc_calls.specs.Calls.{malloc_call, free_call, FitsReply};
+ghost use Rattle.malloc_calls.specs.declared.reply.Reply.TheVariants.{Null};
+ghost use Rattle.malloc_calls.specs.declared.reply.Why.TheVariants.{Refused};
 ghost use Rattle.malloc_calls.specs.Going.{Does};
 ghost use Rattle.malloc_calls.specs.Places.{setting, IsServed, Carries, standing, in_own};
 ghost use Rattle.malloc_calls.specs.Names.{block_at, readied, with_block, without_block, IsHeld};
@@ -140,6 +144,11 @@ impl<K: Kernel> Thread<K> {
             Does (setting P.ways (means P.Hold.fast P.Hold.dials K.port) P.Dial.dials) t.now (who_of line self.old)
             (malloc_call t.now 0 name size (own_of self.old)) (standing p.old (space_of self.old))
             (reply, own_of self.new) (standing p.new (space_of self.new))) }
+        ensures fits { IfOk result (FitsReply size) }
+
+        // No block is answered only where the kernel refused an ask of this call.
+        ensures refused { IfOk result (λ reply. reply ≡ Null Refused
+            → Rose (space_refusals K.port (space_of self.old)) (space_refusals K.port (space_of self.new))) }
         ensures carries { Carries P.ways (is_ok result) (in_own (own_of self.old)) (standing p.old (space_of self.old))
             (in_own (own_of self.new)) (standing p.new (space_of self.new)) }
         ensures names { OnErr result (names_of self.new ≡ names_of self.old) }

@@ -14,7 +14,7 @@ returns-in-Ok-clause-takes g c =
     rw (at, c.block_in.ensures)
     (takes_held (setting g.P.Places.ways (means g.P.Hold.FastPort.fast g.P.Hold.Dials.dials g.K.Kernel.port) g.P.Dial.Dials.dials) g.P.Dial.Dials.dials
     (kept_of plain c.unwrap-arena.result) (kept_of plain c.take-took.new.self) c.in-Ok.take g.met.P.Places.laws c.laws.ensures c.laws-2.ensures c.requires.served lent
-    c.unlock.ensures.gave (c.unlock.ensures.unlocked c.args.p.now c.args.a c.lock-hold.result.0 (kept_of plain c.unwrap-arena.result) lent) c.in-Ok.ensures.taken)
+    c.unlock.ensures.gave (c.unlock.ensures.unlocked c.args.p.now c.args.a c.lock-hold.result.0 (kept_of plain c.unwrap-arena.result) lent) c.in-Ok.ensures.taken c.in-Ok.ensures.fits c.in-Ok.ensures.refused)
 
 pub returns-in-Err-clause-short : goal.returns-in-Err-clause-short
 returns-in-Err-clause-short g c =
