@@ -175,7 +175,7 @@ passes_stash {h = h} {cache = cache} c sound cached chunk room same stashed =
 
 -- ---- a chunk goes into its fast bin
 
-fast_chunk_is : (c : Chunk) → IsChunkSize c.size → fast_chunk (fast_index_of c.size) c.at ≡ c
+pub fast_chunk_is : (c : Chunk) → IsChunkSize c.size → fast_chunk (fast_index_of c.size) c.at ≡ c
 fast_chunk_is c chunk =
     let same : fast_size_at (fast_index_of c.size) ≡ c.size = omega (arith, chunk.0, chunk.1) in
     λ i. record { at = c.at; size = same i }
