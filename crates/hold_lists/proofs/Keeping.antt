@@ -41,7 +41,7 @@ use Rattle.arena_core.specs.Ledgers.{stage, Balances, full}
 use Rattle.arena_core.specs.Replay.{chunk_at}
 use Rattle.arena_core.proofs.Growing.{walks_windows}
 use Rattle.hold_lists.specs.declared.bench.Bench.{Bench}
-use Rattle.hold_lists.specs.declared.port.PlainPort.{PlainPort}
+use Rattle.malloc_calls.specs.Playing.{PlainPort}
 use Rattle.hold_lists.specs.Kept.{IsKept, chunks_of, times_of, times_taken, main_of}
 use Rattle.hold_lists.specs.Ports.{port_fast, port_dials}
 

@@ -8,12 +8,12 @@ ghost use Rattle.mapped_chunks.specs.Mappings.{IsMapped};
 ghost use Rattle.consolidate_trim.specs.Holds.{no_chunk};
 ghost use Rattle.hold_lists.specs.Kept.{IsKept, chunks_of};
 
-use crate::port::PlainPort;
 use address_space::{Budget, Space, Windows};
 use arena_core::{Arena, Take, Who};
 use arena_ground::Ground;
 use chunk_tags::{Block, NoMemory, Size, Tunables, cache_index, fast_index, request_size};
 use fast_bins::{FastPort, PlainFast};
+use malloc_calls::Both;
 use mapped_chunks::{DialState, PlainDials, unmap_freed};
 use std::alloc::Global;
 use thread_cache::{Cache, STRUCTURE_SIZE};
@@ -22,7 +22,7 @@ use thread_cache::{Cache, STRUCTURE_SIZE};
 /// took, in order.
 pub struct Bench {
     pub arena: Arena<Ground>,
-    pub port: PlainPort,
+    pub port: Both<PlainFast, PlainDials>,
     pub cache: Cache,
     pub space: Space<Budget>,
     pub blocks: Vec<Option<Block>>,
@@ -99,7 +99,7 @@ impl Bench {
                 ground,
                 journal: Vec::new(alloc),
             },
-            port: PlainPort {
+            port: Both {
                 bins: PlainFast::new(alloc),
                 dials: starting(t),
             },

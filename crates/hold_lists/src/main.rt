@@ -4,7 +4,6 @@
 #![tactic(auto)]
 
 mod bench;
-mod port;
 #[cfg(test)]
 mod rows;
 mod texts;
