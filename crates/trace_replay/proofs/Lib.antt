@@ -1,12 +1,10 @@
 mod Numbered
-mod CutBlocks
-mod NamedBlocks
-mod CutRuns
-mod TiledReports
-mod LiveChunks
-mod ReplayLoop
+mod CallResults
+mod HeldNames
 mod Refusals
-mod Reports
 mod Idle
+mod Serving
+mod ReplayLoop
+mod Reports
 mod Words
 mod Outcomes

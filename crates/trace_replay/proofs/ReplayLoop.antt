@@ -3,63 +3,80 @@ use Rattle.std.proofs.Common.{◌≡◌, ℕ, false, List, [], ◌∷◌, ◌++�
 use Rattle.std.proofs.Math.Seq.{drop-cons}
 use Rattle.chunk_tags.specs.declared.tunables.Tunables.{Tunables}
 use Rattle.address_space.specs.Ports.{Port}
-use Rattle.stats_text.specs.declared.records.Outcome.{Outcome}
+use Rattle.malloc_calls.specs.declared.reply.Reply.{Reply}
 use Rattle.stats_text.specs.Records.{record_text}
 use Rattle.trace_text.specs.declared.trace.Line.{Line}
 use Rattle.trace_text.specs.Spelling.{spelling_of, texts_of}
 use Rattle.trace_replay.specs.declared.exit.Exit.{Exit}
 use Rattle.trace_replay.specs.declared.exit.Exit.TheVariants.{NoMemory}
 use Rattle.trace_replay.specs.World.{World, step}
-use Rattle.trace_replay.specs.SerialText.{in_front, answer_of, recorded, replayed}
+use Rattle.trace_replay.specs.Records.{outcome_of, record_of, records_of}
+use Rattle.trace_replay.specs.SerialText.{Run, in_front, answer_of, answered, replayed}
 use Rattle.trace_replay.specs.Replays.{RefusesAs, AppendsRecord, AppendsRecords}
 
--- the records so far, in front of what is written for the rest, are what is written for all
+-- replies in front of what the rest of a run gives
+abbrev pub in_fronts : {K : Type 0} → List (Line × Reply) → Result (Run K) Exit → Result (Run K) Exit
+in_fronts replies (Ok run) = Ok (record run { replies = replies ++ run.replies })
+in_fronts replies (Err exit) = Err exit
+
+-- the replies so far, in front of those to the rest, are those to all; and their records are written
 pub record SoFar {K : Type 0} (port : Port K) (t : Tunables) (lines rest : List Line) (first now : World K) (before out : List ℕ) : Type 0 where
-  pub text : List ℕ
-  pub written : out ≡ before ++ text
-  pub all : in_front text (replayed port t rest now) ≡ replayed port t lines first
+  pub replies : List (Line × Reply)
+  pub written : out ≡ before ++ records_of replies
+  pub all : in_fronts replies (replayed port t rest now) ≡ replayed port t lines first
 
-in_front-nil : {K : Type 0} (r : Result (List ℕ × World K) Exit) → in_front [] r ≡ r
-in_front-nil (Ok (more, w)) = refl
-in_front-nil (Err exit) = refl
+in_fronts-nil : {K : Type 0} (r : Result (Run K) Exit) → in_fronts [] r ≡ r
+in_fronts-nil (Ok run) = refl
+in_fronts-nil (Err exit) = refl
 
-in_front-append : {K : Type 0} (a b : List ℕ) (r : Result (List ℕ × World K) Exit) → in_front (a ++ b) r ≡ in_front a (in_front b r)
-in_front-append a b (Ok (more, w)) = ap (λ (text : List ℕ). Ok (text, w)) (append_assoc a b more)
-in_front-append a b (Err exit) = refl
+in_fronts-push : {K : Type 0} (replies : List (Line × Reply)) (x : Line × Reply) (r : Result (Run K) Exit) →
+    in_fronts (replies ++ x ∷ []) r ≡ in_fronts replies (in_front x r)
+in_fronts-push replies x (Ok run) = ap (λ rs. Ok (record run { replies = rs })) (append_assoc replies (x ∷ []) run.replies)
+in_fronts-push replies x (Err exit) = refl
+
+records_of-push : (replies : List (Line × Reply)) (x : Line × Reply) → records_of (replies ++ x ∷ []) ≡ records_of replies ++ record_of x
+unfolding records_of
+records_of-push [] x = append-nil (record_of x)
+records_of-push (r ∷ rs) x = ap (λ text. record_of r ++ text) (records_of-push rs x) ∙ sym (append_assoc (record_of r) (records_of rs) (record_of x))
+
+nothing_written : (before : List ℕ) → before ≡ before ++ records_of []
+unfolding records_of
+nothing_written before = sym (append-nil before)
 
 pub nothing_yet : {K : Type 0} (port : Port K) (t : Tunables) (lines : List Line) (first : World K) (before : List ℕ) → SoFar port t lines lines first first before before
-nothing_yet port t lines first before = record { text = []; written = sym (append-nil before); all = in_front-nil (replayed port t lines first) }
+nothing_yet port t lines first before = record { replies = []; written = nothing_written before; all = in_fronts-nil (replayed port t lines first) }
 
--- what is written for a line and the rest
-replayed-cons : {K : Type 0} (port : Port K) (t : Tunables) (line : Line) (rest : List Line) (w : World K) → replayed port t (line ∷ rest) w ≡ recorded line (answer_of line (step port t line w)) (replayed port t rest)
+-- what a line and the rest give
+replayed-cons : {K : Type 0} (port : Port K) (t : Tunables) (line : Line) (rest : List Line) (w : World K) → replayed port t (line ∷ rest) w ≡ answered line (answer_of line (step port t line w)) (replayed port t rest)
 unfolding replayed
 replayed-cons port t line rest w = refl
 
--- a line's text goes into a buffer that was cleared, and from there into its record
-pub line_recorded : {K : Type 0} (line : Line) (said : Outcome) (w : World K) (answer : Outcome × World K) (out after text : List ℕ) → answer ≡ (said, w) → text ≡ spelling_of line → after ≡ out ++ record_text text said false → AppendsRecord out after line w answer
-line_recorded line said w answer out after text answered spelled written = record {
-  text = rw (answered, ← spelled) written;
-  world = ap (λ (a : Outcome × World _). a.1) answered;
+-- a line's text goes into its record
+pub line_recorded : {K : Type 0} (line : Line) (reply : Reply) (w : World K) (answer : Reply × World K) (out after text : List ℕ) → answer ≡ (reply, w) → text ≡ spelling_of line → after ≡ out ++ record_text text (outcome_of reply) false → AppendsRecord out after line w answer
+line_recorded line reply w answer out after text is spelled written = record {
+  text = rw (is, ← spelled) written;
+  world = ap (λ (a : Reply × World _). a.1) is;
 }
 
-one_more : {K : Type 0} (port : Port K) (t : Tunables) (lines : List Line) (line : Line) (rest : List Line) (first now next : World K) (before out after : List ℕ) (answer : Outcome × World K) → SoFar port t lines (line ∷ rest) first now before out → answer_of line (step port t line now) ≡ Ok answer → AppendsRecord out after line next answer → SoFar port t lines rest first next before after
-one_more port t lines line rest first now next before out after answer so_far answered recorded_so =
-    let text = record_text (spelling_of line) answer.0 false in
+one_more : {K : Type 0} (port : Port K) (t : Tunables) (lines : List Line) (line : Line) (rest : List Line) (first now next : World K) (before out after : List ℕ) (answer : Reply × World K) → SoFar port t lines (line ∷ rest) first now before out → answer_of line (step port t line now) ≡ Ok answer → AppendsRecord out after line next answer → SoFar port t lines rest first next before after
+one_more port t lines line rest first now next before out after answer so_far is recorded =
+    let x : Line × Reply = (line, answer.0) in
     record {
-      text = so_far.text ++ text;
-      written = recorded_so.text ∙ ap (λ (front : List ℕ). front ++ text) so_far.written ∙ append_assoc before so_far.text text;
-      all = in_front-append so_far.text text (replayed port t rest next)
-          ∙ ap (λ (w : World _). in_front so_far.text (in_front text (replayed port t rest w))) (sym recorded_so.world)
-          ∙ ap (λ (r : Result (Outcome × World _) Exit). in_front so_far.text (recorded line r (replayed port t rest))) (sym answered)
-          ∙ ap (in_front so_far.text) (sym (replayed-cons port t line rest now))
+      replies = so_far.replies ++ x ∷ [];
+      written = recorded.text ∙ ap (λ (front : List ℕ). front ++ record_of x) so_far.written
+          ∙ (append_assoc before (records_of so_far.replies) (record_of x) ∙ ap (λ text. before ++ text) (sym (records_of-push so_far.replies x)));
+      all = in_fronts-push so_far.replies x (replayed port t rest next)
+          ∙ ap (λ (w : World _). in_fronts so_far.replies (in_front x (replayed port t rest w))) (sym recorded.world)
+          ∙ ap (λ (r : Result (Reply × World _) Exit). in_fronts so_far.replies (answered line r (replayed port t rest))) (sym is)
+          ∙ ap (in_fronts so_far.replies) (sym (replayed-cons port t line rest now))
           ∙ so_far.all;
     }
 
 refused : {K : Type 0} (port : Port K) (t : Tunables) (lines : List Line) (line : Line) (rest : List Line) (first now : World K) (before out : List ℕ) (exit : Exit) → SoFar port t lines (line ∷ rest) first now before out → answer_of line (step port t line now) ≡ Err exit → replayed port t lines first ≡ Err exit
-refused port t lines line rest first now before out exit so_far answered =
+refused port t lines line rest first now before out exit so_far is =
     sym so_far.all
-    ∙ ap (in_front so_far.text) (replayed-cons port t line rest now
-    ∙ ap (λ (r : Result (Outcome × World _) Exit). recorded line r (replayed port t rest)) answered)
+    ∙ ap (in_fronts so_far.replies) (replayed-cons port t line rest now
+    ∙ ap (λ (r : Result (Reply × World _) Exit). answered line r (replayed port t rest)) is)
 
 drop_at : (lines : List Line) (i : ℕ) (d : Line) → i < length lines → drop i lines ≡ get_or lines i d ∷ drop (i + 1) lines
 drop_at lines i d lt = rw add-one (drop-cons lines i d lt)
@@ -69,20 +86,25 @@ pub next_texts : (lines : List Line) (i : ℕ) (old now : List (List ℕ)) (text
 next_texts [] i old now text lt is step = let no : ⊥ = omega arith in absurd no
 next_texts (d ∷ lines) i old now text lt is step = (step (get_or (d ∷ lines) i d) (drop (i + 1) (d ∷ lines)) (is ∙ ap texts_of (drop_at (d ∷ lines) i d lt))).1
 
--- the loop goes on behind a line that was answered
-pub goes_on : {K : Type 0} (port : Port K) (t : Tunables) (lines : List Line) (i : ℕ) (d : Line) (first now next : World K) (before out after : List ℕ) (answer : Outcome × World K) → i < length lines → SoFar port t lines (drop i lines) first now before out → answer_of (get_or lines i d) (step port t (get_or lines i d) now) ≡ Ok answer → AppendsRecord out after (get_or lines i d) next answer → SoFar port t lines (drop (i + 1) lines) first next before after
-goes_on port t lines i d first now next before out after answer lt so_far answered recorded_so =
+-- the loop goes on behind a line that was answered, under tunables that stayed
+pub goes_on : {K : Type 0} (port : Port K) (t now_t : Tunables) (lines : List Line) (i : ℕ) (d : Line) (first now next : World K) (before out after : List ℕ) (answer : Reply × World K) → now_t ≡ t → i < length lines → SoFar port t lines (drop i lines) first now before out → answer_of (get_or lines i d) (step port now_t (get_or lines i d) now) ≡ Ok answer → AppendsRecord out after (get_or lines i d) next answer → SoFar port t lines (drop (i + 1) lines) first next before after
+goes_on port t now_t lines i d first now next before out after answer same lt so_far is recorded =
     one_more port t lines (get_or lines i d) (drop (i + 1) lines) first now next before out after answer
-    (subst (λ (rest : List Line). SoFar port t lines rest first now before out) (drop_at lines i d lt) so_far) answered recorded_so
+    (subst (λ (rest : List Line). SoFar port t lines rest first now before out) (drop_at lines i d lt) so_far)
+    (subst (λ u. answer_of (get_or lines i d) (step port u (get_or lines i d) now) ≡ Ok answer) same is) recorded
 
 -- where a line is refused, the run is
-pub ends : {K : Type 0} (port : Port K) (t : Tunables) (lines : List Line) (i : ℕ) (d : Line) (first now : World K) (before out : List ℕ) (exit : Exit) → i < length lines → SoFar port t lines (drop i lines) first now before out → RefusesAs exit (answer_of (get_or lines i d) (step port t (get_or lines i d) now)) → RefusesAs exit (replayed port t lines first)
-ends port t lines i d first now before out NoMemory lt so_far answered = tt
-ends port t lines i d first now before out exit lt so_far answered =
+pub ends : {K : Type 0} (port : Port K) (t now_t : Tunables) (lines : List Line) (i : ℕ) (d : Line) (first now : World K) (before out : List ℕ) (exit : Exit) → now_t ≡ t → i < length lines → SoFar port t lines (drop i lines) first now before out → RefusesAs exit (answer_of (get_or lines i d) (step port now_t (get_or lines i d) now)) → RefusesAs exit (replayed port t lines first)
+ends port t now_t lines i d first now before out NoMemory same lt so_far is = tt
+ends port t now_t lines i d first now before out exit same lt so_far is =
     refused port t lines (get_or lines i d) (drop (i + 1) lines) first now before out exit
-    (subst (λ (rest : List Line). SoFar port t lines rest first now before out) (drop_at lines i d lt) so_far) answered
+    (subst (λ (rest : List Line). SoFar port t lines rest first now before out) (drop_at lines i d lt) so_far)
+    (subst (λ u. answer_of (get_or lines i d) (step port u (get_or lines i d) now) ≡ Err exit) same is)
 
-pub finished : {K : Type 0} (port : Port K) (t : Tunables) (lines : List Line) (first now : World K) (before out : List ℕ) → SoFar port t lines [] first now before out → (records : List ℕ × World K) × (replayed port t lines first ≡ Ok records) × AppendsRecords before out now records
+pub finished : {K : Type 0} (port : Port K) (t : Tunables) (lines : List Line) (first now : World K) (before out : List ℕ) → SoFar port t lines [] first now before out → (run : Run K) × (replayed port t lines first ≡ Ok run) × AppendsRecords before out now run
 unfolding replayed
-finished port t lines first now before out so_far =
-    ((so_far.text ++ [], now), sym so_far.all, record { text = so_far.written ∙ ap (λ (text : List ℕ). before ++ text) (sym (append-nil so_far.text)); world = refl })
+finished port t lines first now before out so_far = (
+  record { replies = so_far.replies ++ []; world = now },
+  sym so_far.all,
+  record { text = so_far.written ∙ ap (λ rs. before ++ records_of rs) (sym (append-nil so_far.replies)); world = refl },
+)

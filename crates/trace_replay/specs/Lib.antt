@@ -4,12 +4,13 @@ pub use Rattle.byte_edge.specs.Output
 pub mod Status
 pub mod World
 pub mod Halts
-pub mod Processes
 pub mod Asked
+pub mod Records
+pub mod Places
 pub mod SerialText
 pub mod Replays
+pub mod Naming
+pub mod Processes
 pub mod Headline
 pub mod Exits
 pub mod Messages
-pub mod Places
-pub mod Tiling

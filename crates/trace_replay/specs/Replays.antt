@@ -1,11 +1,11 @@
 -- What the parts of a run answer, beside the text (this project's own).
-use Rattle.std.specs.Prelude.{◌≡◌, ℕ, false, List, ◌++◌, Result, Ok, Err}
-use Rattle.stats_text.specs.declared.records.Outcome.{Outcome}
-use Rattle.stats_text.specs.Records.{record_text}
+use Rattle.std.specs.Prelude.{◌≡◌, ℕ, List, ◌++◌, Result, Ok, Err}
+use Rattle.malloc_calls.specs.declared.reply.Reply.{Reply}
 use Rattle.trace_text.specs.declared.trace.Line.{Line}
-use Rattle.trace_text.specs.Spelling.{spelling_of}
 use Rattle.trace_replay.specs.declared.exit.Exit.{Exit}
 use Rattle.trace_replay.specs.declared.exit.Exit.TheVariants.{NoMemory}
+use Rattle.trace_replay.specs.Records.{record_of, records_of}
+use Rattle.trace_replay.specs.SerialText.{Run}
 use Rattle.trace_replay.specs.World.{World}
 
 -- a refusal is that of the rules; want of memory is free
@@ -19,11 +19,11 @@ Serves {A} {B} Shows (Ok a) rules = (b : B) × (rules ≡ Ok b) × Shows a b
 Serves Shows (Err exit) rules = RefusesAs exit rules
 
 -- one line: its record stands behind what was written
-pub record AppendsRecord {K : Type 0} (before now : List ℕ) (line : Line) (w : World K) (answer : Outcome × World K) : Type 0 where
-  pub text : now ≡ before ++ record_text (spelling_of line) answer.0 false
+pub record AppendsRecord {K : Type 0} (before now : List ℕ) (line : Line) (w : World K) (answer : Reply × World K) : Type 0 where
+  pub text : now ≡ before ++ record_of (line, answer.0)
   pub world : answer.1 ≡ w
 
--- the records of many lines stand behind what was written
-pub record AppendsRecords {K : Type 0} (before now : List ℕ) (w : World K) (records : List ℕ × World K) : Type 0 where
-  pub text : now ≡ before ++ records.0
-  pub world : records.1 ≡ w
+-- the records of a run stand behind what was written
+pub record AppendsRecords {K : Type 0} (before now : List ℕ) (w : World K) (run : Run K) : Type 0 where
+  pub text : now ≡ before ++ records_of run.replies
+  pub world : run.world ≡ w

@@ -3,54 +3,54 @@
 use Rattle.std.specs.Prelude.{ℕ, ◌==◌, Bool, false, not, nat_lt, List, [], ◌∷◌, ◌++◌, length, codes, slice_get, Option, Some, None, Result, Ok, Err, if◌then◌else◌}
 use Rattle.std.specs.Option.{ok_or}
 use Rattle.chunk_tags.specs.declared.tunables.Tunables.{Tunables}
-use Rattle.address_space.specs.declared.space.Windows.{Windows}
 use Rattle.address_space.specs.Ports.{Port}
 use Rattle.address_space.specs.Spaces.{new_space}
-use Rattle.stats_text.specs.declared.records.Outcome.{Outcome}
+use Rattle.arena_rules.specs.Rules.{windows_of}
+use Rattle.malloc_calls.specs.declared.reply.Reply.{Reply}
 use Rattle.stats_text.specs.Views.{Shown}
 use Rattle.stats_text.specs.Report.{places_of}
 use Rattle.stats_text.specs.Totals.{statistics_of}
-use Rattle.stats_text.specs.Records.{record_text}
 use Rattle.trace_text.specs.declared.trace.Line.{Line}
 use Rattle.trace_text.specs.Grammar.{Reading, reading_of}
-use Rattle.trace_text.specs.Spelling.{spelling_of}
 use Rattle.trace_replay.specs.declared.asked.Asked.{Asked}
 use Rattle.trace_replay.specs.declared.exit.Exit.{Exit}
 use Rattle.trace_replay.specs.declared.exit.Exit.TheVariants.{BadTrace, TooLong, NotBuilt}
 use Rattle.trace_replay.specs.Places.{shown_of}
+use Rattle.trace_replay.specs.Records.{records_of}
 use Rattle.byte_edge.specs.Input.{max_input}
 use Rattle.trace_replay.specs.World.{World, opening_world, step}
 
 -- ---- the run over the lines
 
--- a text in front of what is written for the rest
-abbrev pub in_front : {K : Type 0} → List ℕ → Result (List ℕ × World K) Exit → Result (List ℕ × World K) Exit
-in_front text (Ok (more, w)) = Ok (text ++ more, w)
-in_front text (Err exit) = Err exit
+-- what a run gives: each line with its reply, in file order, and the world at its end
+pub record Run (K : Type 0) : Type 0 where
+  pub replies : List (Line × Reply)
+  pub world : World K
 
--- the answer of a line; a call that isn't built refuses the run
-abbrev pub answer_of : {K : Type 0} → Line → Option (Outcome × World K) → Result (Outcome × World K) Exit
+-- a reply in front of what the rest of a run gives
+abbrev pub in_front : {K : Type 0} → Line × Reply → Result (Run K) Exit → Result (Run K) Exit
+in_front first (Ok rest) = Ok (record rest { replies = first ∷ rest.replies })
+in_front first (Err exit) = Err exit
+
+-- the reply to a line; a call that isn't built refuses the run
+abbrev pub answer_of : {K : Type 0} → Line → Option (Reply × World K) → Result (Reply × World K) Exit
 answer_of line answer = ok_or answer (NotBuilt line.number)
 
--- the record of a line in front of the rest
-abbrev pub recorded : {K : Type 0} → Line → Result (Outcome × World K) Exit → (World K → Result (List ℕ × World K) Exit) → Result (List ℕ × World K) Exit
-recorded line (Ok (said, w)) rest = in_front (record_text (spelling_of line) said false) (rest w)
-recorded line (Err exit) rest = Err exit
+-- a line, and the rest from the world that it leaves
+abbrev pub answered : {K : Type 0} → Line → Result (Reply × World K) Exit → (World K → Result (Run K) Exit) → Result (Run K) Exit
+answered line (Ok (reply, w)) rest = in_front (line, reply) (rest w)
+answered line (Err exit) rest = Err exit
 
--- the record lines of a run from a world, in file order, and the world at its end
-unfoldable pub replayed : {K : Type 0} → Port K → Tunables → List Line → World K → Result (List ℕ × World K) Exit
-replayed port t [] w = Ok ([], w)
-replayed port t (line ∷ lines) w = recorded line (answer_of line (step port t line w)) (replayed port t lines)
+-- a run from a world on
+unfoldable pub replayed : {K : Type 0} → Port K → Tunables → List Line → World K → Result (Run K) Exit
+replayed port t [] w = Ok (record { replies = []; world = w })
+replayed port t (line ∷ lines) w = answered line (answer_of line (step port t line w)) (replayed port t lines)
 
 -- ---- the whole text
 
--- the windows that the tunables give
-abbrev pub windows_of : Tunables → Windows
-windows_of t = record { main_max = t.main_max; heap_max = t.heap_max; heaps = t.heaps }
-
 -- the world that a run begins with, over the port of thread 0
 abbrev pub started : {K : Type 0} → Tunables → K → World K
-started t kernel = opening_world (new_space kernel 0 (windows_of t))
+started t kernel = opening_world t (new_space kernel 0 (windows_of t))
 
 -- whether a trace has a line behind its header
 abbrev pub has_lines : List Line → Bool
@@ -64,14 +64,18 @@ sections s = places_of s ++ statistics_of s
 abbrev pub whole_report : List ℕ → Shown → List ℕ
 whole_report records s = codes "ptmreport 1 serial\n" ++ records ++ sections s
 
+-- the report on what a run gave; the trace has a line, or none
+abbrev pub run_text : {K : Type 0} → Bool → Run K → List ℕ
+run_text lines run = whole_report (records_of run.replies) (shown_of lines run.world)
+
 -- the report on a run that ended so
-abbrev pub reported : {K : Type 0} → Tunables → Bool → Result (List ℕ × World K) Exit → Result (List ℕ) Exit
-reported t lines (Ok (records, w)) = Ok (whole_report records (shown_of t lines w))
-reported t lines (Err exit) = Err exit
+abbrev pub reported : {K : Type 0} → Bool → Result (Run K) Exit → Result (List ℕ) Exit
+reported lines (Ok run) = Ok (run_text lines run)
+reported lines (Err exit) = Err exit
 
 -- the report on a run of lines, over the port of thread 0
 abbrev pub report_of : {K : Type 0} → Port K → Tunables → List Line → K → Result (List ℕ) Exit
-report_of port t lines kernel = reported t (has_lines lines) (replayed port t lines (started t kernel))
+report_of port t lines kernel = reported (has_lines lines) (replayed port t lines (started t kernel))
 
 -- ---- a run's job
 

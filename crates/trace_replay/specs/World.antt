@@ -1,139 +1,87 @@
--- One thread over main, as far as it is built: what a call finds and leaves. The rules are those of glibc 2.31
--- malloc/malloc.c: __libc_malloc, tcache_init, _int_malloc at use_top, the first growth of sysmalloc, and the
--- tcache part of _int_free.
-use Rattle.std.specs.Prelude.{ℕ, ◌+◌, ◌-◌, ◌*◌, ◌/◌, ◌==◌, false, ◌||◌, nat_le, List, [], Option, Some, None, is_some, if◌then◌else◌}
-use Rattle.std.specs.Option.{option_and_then, option_map, option_or}
-use Rattle.std.specs.Ordering.{nat_cmp}
-use Rattle.std.specs.BTreeMap.{is_at, insert_entry}
-use Rattle.std.specs.Map.{lookup, remove_entry}
-use Rattle.chunk_tags.specs.Pages.{page_up_of}
-use Rattle.chunk_tags.specs.Sizes.{padded_request, max_cached, cache_index_of, structure_size}
-use Rattle.chunk_tags.specs.declared.block.Block.{Block}
+-- Thread 0 and what its calls go over: its cache, its blocks by name and its address space, and the main arena with its
+-- fast bins and the words beside it (this project's own). The rules of a call are those of malloc_calls.
+use Rattle.std.specs.Prelude.{ℕ, ◌==◌, Bool, true, false, [], Option, Some, None, if◌then◌else◌}
+use Rattle.std.specs.Option.{option_and_then}
 use Rattle.chunk_tags.specs.declared.tunables.Tunables.{Tunables}
-use Rattle.address_space.specs.declared.asks.Ask.TheVariants.{Break}
-use Rattle.address_space.specs.declared.asks.Answer.{Answer}
-use Rattle.address_space.specs.declared.asks.Answer.TheVariants as answers
 use Rattle.address_space.specs.declared.space.Space.{Space}
 use Rattle.address_space.specs.Ports.{Port}
-use Rattle.address_space.specs.Spaces.{main_start, break_passes, space_answer, space_asked}
-use Rattle.thread_cache.specs.Caches.{CacheValue, opened, is_open, newest, without_newest, with_newest, takes}
-use Rattle.stats_text.specs.declared.records.Outcome.{Outcome}
-use Rattle.stats_text.specs.declared.records.Outcome.TheVariants.{Got, Null, Freed, Skip}
-use Rattle.stats_text.specs.declared.records.Source3.TheVariants as sources
-use Rattle.stats_text.specs.declared.records.Sink3.TheVariants as sinks
-use Rattle.trace_text.specs.declared.trace.Call.{Call}
-use Rattle.trace_text.specs.declared.trace.Call.TheVariants.{Malloc, Free}
+use Rattle.thread_cache.specs.Caches.{is_open}
+use Rattle.arena_rules.specs.PlainArena.{empty_main}
+use Rattle.fast_bins.specs.PlainBins.{empty_state}
+use Rattle.mapped_chunks.specs.declared.plain.DialState.{DialState}
+use Rattle.arena_core.specs.declared.journal.Who.{Who}
+use Rattle.malloc_calls.specs.declared.own.Own.{Own}
+use Rattle.malloc_calls.specs.declared.reply.Reply.{Reply}
+use Rattle.malloc_calls.specs.declared.reply.Reply.TheVariants.{Got, Null, Freed, NotYours}
+use Rattle.malloc_calls.specs.declared.reply.Why.TheVariants.{Big, Refused}
+use Rattle.malloc_calls.specs.Names.{readied}
+use Rattle.malloc_calls.specs.Own.{new_own}
+use Rattle.malloc_calls.specs.Places.{kept}
+use Rattle.malloc_calls.specs.Calls.{Call, malloc_call, free_call}
+use Rattle.malloc_calls.specs.SerialWays.{SerialWorld, played_call}
+use Rattle.trace_text.specs.declared.trace.Call.TheVariants as calls
+use Rattle.trace_text.specs.declared.trace.Call as traced
 use Rattle.trace_text.specs.declared.trace.Line.{Line}
-use Rattle.trace_replay.specs.declared.top.Top.{Top}
 
--- The blocks by name, names ascending; the thread's cache; main's top, where it has one; main's bytes from the
--- system; and the address space that the thread asks through.
+-- what the thread has of its own, and all else
 pub record World (K : Type 0) : Type 0 where
-  pub live : List (ℕ × Block)
-  pub cache : CacheValue
-  pub top : Option Top
-  pub system : ℕ
-  pub space : Space K
+  pub own : Own
+  pub serial : SerialWorld K
+
+-- the words as they start; no chunk is mapped
+abbrev pub first_dials : Tunables → DialState
+first_dials t = record {
+  mmap_threshold = t.mmap_threshold;
+  trim_threshold = t.trim_threshold;
+  mapped = 0;
+  bytes = 0;
+  max_mapped = 0;
+  max_bytes = 0;
+}
 
 -- the world that a run begins with
-abbrev pub opening_world : {K : Type 0} → Space K → World K
-opening_world space = record { live = []; cache = None; top = None; system = 0; space = space }
+abbrev pub opening_world : {K : Type 0} → Tunables → Space K → World K
+opening_world t space = record {
+  own = new_own;
+  serial = record { main = kept empty_main []; bins = empty_state; dials = first_dials t; space = space };
+}
 
--- the block of a name
-abbrev pub block_of : {K : Type 0} → World K → ℕ → Option Block
-block_of w name = lookup (is_at (nat_cmp name)) w.live
+-- who thread 0 is in a line
+abbrev pub who_in : Line → Who
+who_in line = record { thread = 0; line = line.number }
 
--- ---- main's top
+-- the thread with a place for a name
+abbrev pub with_place : ℕ → Own → Own
+with_place name own = record own { names = readied name own.names }
 
--- the first growth, for a chunk of nb bytes
-abbrev pub first_growth : Tunables → ℕ → ℕ
-first_growth t nb = page_up_of (nb + t.top_pad + 32)
+-- the call of a line, where it is built
+abbrev pub call_of : Tunables → traced.Call → Own → Option (Call (Reply × Own))
+call_of t (calls.Malloc name size) own = Some (malloc_call t 0 name size (with_place name own))
+call_of t (calls.Free name) own = Some (free_call t 0 name (with_place name own))
+call_of t _ own = None
 
--- a chunk of nb bytes from top's front, where top keeps at least 32 bytes
-abbrev pub split_from : {K : Type 0} → ℕ → World K → Option Top → Option (Block × World K)
-split_from nb w None = None
-split_from nb w (Some top) =
-    if nat_le (nb + 32) top.size
-    then Some (record { addr = top.addr; size = nb; lead = 0; arena = Some 0 }, record w { top = Some (record { addr = top.addr + nb; size = top.size - nb }) })
+-- Whether a call was answered by what is built: no search of main was refused, for a block or for the structure of the
+-- cache.
+abbrev pub is_answered : Reply → Own → Bool
+is_answered (Got addr size from) own = is_open own.cache
+is_answered (Null Big) own = true
+is_answered (Null Refused) own = false
+is_answered (Freed to) own = true
+is_answered NotYours own = true
+
+abbrev pub world_after : {K : Type 0} → (Reply × Own) × SerialWorld K → Option (Reply × World K)
+world_after played =
+    if is_answered played.0.0 played.0.1
+    then Some (played.0.0, record { own = played.0.1; serial = played.1 })
     else None
 
-unfoldable pub split : {K : Type 0} → ℕ → World K → Option (Block × World K)
-split nb w = split_from nb w w.top
-
--- main as its break is granted for the first time: the whole range is top
-abbrev pub granted : {K : Type 0} → ℕ → World K → Space K → Answer → Option (World K)
-granted growth w space answers.Granted = Some (record w { top = Some (record { addr = main_start; size = growth }); system = growth; space = space })
-granted growth w space answers.Refused = None
-
--- the first growth, by one ask for the break; a refused ask isn't built
-abbrev pub first_break : {K : Type 0} → Port K → ℕ → World K → Option (World K)
-first_break port growth w =
-    let passes = break_passes w.space.windows (main_start + growth) in
-    let ask = Break main_start (main_start + growth) in
-    granted growth w (space_asked port w.space passes ask) (space_answer port w.space passes ask)
-
--- a growth of main that has a top already isn't built, nor is a mapping, which comes first where the size reaches its
--- threshold
-unfoldable pub grow : {K : Type 0} → Port K → Tunables → ℕ → World K → Option (World K)
-grow port t nb w = if is_some w.top || nat_le t.mmap_threshold nb then None else first_break port (first_growth t nb) w
-
--- a chunk of nb bytes from main: from top, else from top as it is grown
-unfoldable pub search : {K : Type 0} → Port K → Tunables → ℕ → World K → Option (Block × World K)
-search port t nb w = option_or (split nb w) (option_and_then (split nb) (grow port t nb w))
-
--- ---- the calls
-
--- the world with the thread's cache open
-unfoldable pub with_cache : {K : Type 0} → Port K → Tunables → World K → Option (World K)
-with_cache port t w =
-    if is_open w.cache then Some w
-    else option_map (λ found. record found.1 { cache = opened found.0 t.tcache_count t.tcache_bins }) (search port t structure_size w)
-
--- the newest cached chunk of a size, where the size is cached at all
-abbrev pub cached : ℕ → CacheValue → Option Block
-cached nb cache = if nat_le nb max_cached then newest cache (cache_index_of nb) else None
-
--- the world in which a name has a block
-abbrev pub holding : {K : Type 0} → ℕ → Block → World K → World K
-holding name block w = record w { live = insert_entry nat_cmp w.live name block }
-
--- malloc with an open cache, for a chunk of nb bytes: the newest cached one, else one of main
-abbrev pub from_main : {K : Type 0} → ℕ → Block × World K → Outcome × World K
-from_main name found = (Got found.0.addr found.0.size (sources.Arena 0 0), holding name found.0 found.1)
-
-abbrev pub chosen : {K : Type 0} → Port K → Tunables → ℕ → ℕ → World K → Option Block → Option (Outcome × World K)
-chosen port t name nb w (Some block) =
-    Some (Got block.addr block.size sources.Cached, holding name block (record w { cache = without_newest w.cache (cache_index_of nb) }))
-chosen port t name nb w None = option_map (from_main name) (search port t nb w)
-
-unfoldable pub chunk_for : {K : Type 0} → Port K → Tunables → ℕ → ℕ → World K → Option (Outcome × World K)
-chunk_for port t name nb w = chosen port t name nb w (cached nb w.cache)
-
--- malloc: a size that is too big changes nothing
-abbrev pub padded_malloc : {K : Type 0} → Port K → Tunables → ℕ → Option ℕ → World K → Option (Outcome × World K)
-padded_malloc port t name None w = Some (Null 0, w)
-padded_malloc port t name (Some nb) w = option_and_then (chunk_for port t name nb) (with_cache port t w)
-
-unfoldable pub malloc : {K : Type 0} → Port K → Tunables → ℕ → ℕ → World K → Option (Outcome × World K)
-malloc port t name size w = padded_malloc port t name (padded_request size) w
-
--- free: a name without a block is skipped; a chunk that the cache has no room for isn't built. The cache is open
--- where a name has a block, since malloc opened it.
-abbrev pub freed : {K : Type 0} → ℕ → World K → Option Block → Option (Outcome × World K)
-freed name w None = Some (Skip, w)
-freed name w (Some block) =
-    if takes w.cache block
-    then Some (Freed sinks.Cached false, record w { live = remove_entry (is_at (nat_cmp name)) w.live; cache = with_newest w.cache block })
+-- the call of a line of thread 0, over what it goes over
+abbrev pub called : {K : Type 0} → Port K → Tunables → Line → World K → Option ((Reply × Own) × SerialWorld K)
+called port t line w =
+    if line.thread == 0
+    then option_and_then (λ c. played_call port t (who_in line) c w.serial) (call_of t line.call w.own)
     else None
-
-unfoldable pub free : {K : Type 0} → ℕ → World K → Option (Outcome × World K)
-free name w = freed name w (block_of w name)
 
 -- one line of the trace; a call that isn't built has no answer
-abbrev pub called : {K : Type 0} → Port K → Tunables → Call → World K → Option (Outcome × World K)
-called port t (Malloc name size) w = malloc port t name size w
-called port t (Free name) w = free name w
-called port t _ w = None
-
-unfoldable pub step : {K : Type 0} → Port K → Tunables → Line → World K → Option (Outcome × World K)
-step port t line w = if line.thread == 0 then called port t line.call w else None
+unfoldable pub step : {K : Type 0} → Port K → Tunables → Line → World K → Option (Reply × World K)
+step port t line w = option_and_then world_after (called port t line w)

@@ -1,39 +1,43 @@
 //! A serial run: the record of each line, in file order.
 
-ghost use Rattle.std.specs.Prelude.{◌≡◌, IsTrue, IfErr};
+ghost use Rattle.std.specs.Prelude.{◌≡◌, [], IsTrue, IfErr, OnOk};
 ghost use Rattle.std.specs.List.{All};
-ghost use Rattle.chunk_tags.specs.Tunables.{IsTuned};
-ghost use Rattle.address_space.specs.Ports.{Port};
+ghost use Rattle.malloc_calls.specs.Own.{names_of};
 ghost use Rattle.trace_replay.specs.Headline.{IsHalt, IsNumbered};
+ghost use Rattle.trace_replay.specs.Naming.{MayRun, LeavesNames, HoldsWithin};
 ghost use Rattle.trace_replay.specs.Replays.{Serves, AppendsRecord, AppendsRecords};
 ghost use Rattle.trace_replay.specs.SerialText.{answer_of, replayed};
-ghost use Rattle.trace_text.specs.Spelling.{spelling_of, texts_of};
+ghost use Rattle.trace_text.specs.Spelling.{Allows, spelling_of, texts_of};
 ghost use Rattle.trace_replay.specs.World.{step};
-ghost use Rattle.trace_replay.specs.Processes.{world_of, tells};
+ghost use Rattle.trace_replay.specs.Processes.{world_of, tells, IsSettled};
 
 use crate::exit::{Exit, halt_exit};
 use crate::process::Process;
+use crate::record::outcome;
 use address_space::Kernel;
-use chunk_tags::Tunables;
-use stats_text::{Outcome, append_record};
+use malloc_calls::Reply;
+use stats_text::append_record;
 use std::alloc::Global;
 use trace_text::{Line, Texts};
 
-/// The answer of a line.
+/// The reply to a line.
 fn answer<K: Kernel>(
     alloc: Global,
     process: &mut Process<K>,
     line: &Line,
-    t: &Tunables,
-) -> Result<Outcome, Exit>
-    requires tuned { IsTuned t.now }
+) -> Result<Reply, Exit>
+    requires may { MayRun line.now (names_of process.old.thread) }
+    requires settled { IsSettled process.old }
     requires numbered { IsNumbered line.now }
-    ensures told { IsTrue (tells K.port process.old) → Serves (λ said a. a ≡ (said, world_of process.new)) result (answer_of line.now (step K.port t.now line.now (world_of process.old))) }
-    ensures telling { IsTrue (tells K.port process.old) → IsTrue (tells K.port process.new) }
+    ensures told { IsTrue (tells K.port process.old) → Serves (λ reply a. a ≡ (reply, world_of process.new)) result (answer_of line.now (step K.port process.old.t line.now (world_of process.old))) }
+    ensures telling { IsTrue (tells K.port process.old) → OnOk result (IsTrue (tells K.port process.new)) }
+    ensures names { OnOk result (LeavesNames line.now (names_of process.old.thread) (names_of process.new.thread)) }
+    ensures settled { OnOk result (IsSettled process.new) }
+    ensures tunables { process.new.t ≡ process.old.t }
     ensures kind { IfErr result IsHalt }
 {
-    match process.step(alloc, line, t) {
-        Ok(said) => Ok(said),
+    match process.step(alloc, line) {
+        Ok(reply) => Ok(reply),
         Err(halt) => Err(halt_exit(line.number, halt)),
     }
 }
@@ -44,38 +48,43 @@ fn replay_line<K: Kernel>(
     process: &mut Process<K>,
     line: &Line,
     text: &[u8],
-    t: &Tunables,
     out: &mut Vec<u8>,
 ) -> Result<(), Exit>
     requires text { text.now ≡ spelling_of line.now }
-    requires tuned { IsTuned t.now }
+    requires may { MayRun line.now (names_of process.old.thread) }
+    requires settled { IsSettled process.old }
     requires numbered { IsNumbered line.now }
-    ensures told { IsTrue (tells K.port process.old) → Serves (λ _ a. AppendsRecord out.old.items out.new.items line.now (world_of process.new) a) result (answer_of line.now (step K.port t.now line.now (world_of process.old))) }
-    ensures telling { IsTrue (tells K.port process.old) → IsTrue (tells K.port process.new) }
+    ensures told { IsTrue (tells K.port process.old) → Serves (λ _ a. AppendsRecord out.old.items out.new.items line.now (world_of process.new) a) result (answer_of line.now (step K.port process.old.t line.now (world_of process.old))) }
+    ensures telling { IsTrue (tells K.port process.old) → OnOk result (IsTrue (tells K.port process.new)) }
+    ensures names { OnOk result (LeavesNames line.now (names_of process.old.thread) (names_of process.new.thread)) }
+    ensures settled { OnOk result (IsSettled process.new) }
+    ensures tunables { process.new.t ≡ process.old.t }
     ensures kind { IfErr result IsHalt }
 {
-    let said = answer(alloc, process, line, t)?;
-    append_record(out, text, &said, false)?;
+    let reply = answer(alloc, process, line)?;
+    append_record(out, text, &outcome(reply), false)?;
     Ok(())
 }
 
-/// Runs the lines in their order and appends their records. `texts` has the lines' own texts.
+/// Runs the lines of a trace in their order and appends their records. `texts` has the lines' own texts.
 pub fn replay<K: Kernel>(
     alloc: Global,
     process: &mut Process<K>,
     lines: &[Line],
     mut texts: Texts<'_>,
-    t: &Tunables,
     out: &mut Vec<u8>,
 ) -> Result<(), Exit>
-    requires tuned { IsTuned t.now }
+    requires unnamed { names_of process.old.thread ≡ [] }
+    requires settled { IsSettled process.old }
+    requires allowed { Allows lines.now }
     requires numbered { All IsNumbered lines.now }
     requires texts { texts ≡ texts_of lines.now }
-    ensures told { IsTrue (tells K.port process.old) → Serves (λ _ records. AppendsRecords out.old.items out.new.items (world_of process.new) records) result (replayed K.port t.now lines.now (world_of process.old)) }
+    ensures told { IsTrue (tells K.port process.old) → Serves (λ _ run. AppendsRecords out.old.items out.new.items (world_of process.new) run) result (replayed K.port process.old.t lines.now (world_of process.old)) }
+    ensures settled { OnOk result (IsSettled process.new) }
     ensures kind { IfErr result IsHalt }
 {
     for line in lines {
-        replay_line(alloc, process, line, texts.take(), t, out)?;
+        replay_line(alloc, process, line, texts.take(), out)?;
     }
     Ok(())
 }

@@ -1,49 +1,42 @@
 //! What a report shows of a process.
 
-ghost use Rattle.std.specs.Prelude.{◌≡◌, ◌≤◌, ◌<◌, ◌^◌, ◌++◌, None, [], length, map, fold, IfOk, OnOk};
-ghost use Rattle.std.specs.BTreeMap.{values};
+ghost use Rattle.std.specs.Prelude.{◌≡◌, ◌≤◌, ◌<◌, ◌^◌, None, [], length, map, fold, IfOk, OnOk};
 ghost use Rattle.stats_text.specs.Totals.{HasTotals, idle_bytes_of};
-ghost use Rattle.thread_cache.specs.Caches.{addresses_of, blocks_of};
-ghost use Rattle.trace_replay.specs.Processes.{world_of};
-ghost use Rattle.trace_replay.specs.Places.{live_tile, cached_tile, structure_tile, top_tile, tiles_of, placed as placed_in, by_address, cache_lists, main_of, first_dials, shown_of};
+ghost use Rattle.stats_text.specs.Views.{lists_of};
+ghost use Rattle.thread_cache.specs.Caches.{addresses_of};
+ghost use Rattle.trace_replay.specs.Places.{put_tile, by_address, mapped_finds, cache_lists, main_with, dials_of, shown_of};
+ghost use Rattle.trace_replay.specs.Processes.{world_of, IsSettled};
 
+use crate::finds::{Find, finds};
+use crate::places::{bins, found, numbered, shown};
 use crate::process::Process;
 use address_space::Kernel;
-use chunk_tags::{Addr, NoMemory, Size, Tunables};
-use stats_text::{ArenaView, CacheView, DialState, Place, Snapshot, TileView};
+use arena_ground::Ground;
+use arena_rules::Moves;
+use chunk_tags::{Addr, NoMemory};
+use stats_text::{ArenaView, CacheView, DialState, Snapshot, TileView};
 use std::alloc::Global;
 use std::collections::BTreeMap;
-use thread_cache::Cache;
 
-/// A chunk of main at a place.
-fn tile(addr: Addr, size: Size, place: Place) -> TileView
-    ensures { result ≡ record { addr = addr; size = size; lead = 0; place = place } }
+/// Puts the mapped chunks in their places by address.
+fn place_mapped(finds: &[Find], placed: &mut BTreeMap<u64, TileView>) -> Result<(), NoMemory>
+    ensures { OnOk result (placed.new.entries ≡ fold put_tile placed.old.entries (mapped_finds finds.now)) }
 {
-    TileView {
-        addr,
-        size,
-        lead: 0,
-        place,
-    }
-}
-
-/// Puts chunks in their places by address.
-fn place_all(tiles: &[TileView], placed: &mut BTreeMap<u64, TileView>) -> Result<(), NoMemory>
-    ensures { OnOk result (placed.new.entries ≡ fold placed_in placed.old.entries tiles.now) }
-{
-    for tile in tiles {
-        placed.insert(tile.addr.0, *tile)?;
+    for find in finds {
+        if find.mapped {
+            placed.insert(find.tile.addr.0, find.tile)?;
+        }
     }
     Ok(())
 }
 
-/// The chunks by address.
+/// The mapped chunks by address.
 #[tactic(auto, unfolding(crate::specs::Places::by_address))]
-fn sorted(alloc: Global, tiles: &[TileView]) -> Result<Vec<TileView>, NoMemory>
-    ensures { IfOk result (λ v. v.items ≡ by_address tiles.now) }
+fn mapped(alloc: Global, finds: &[Find]) -> Result<Vec<TileView>, NoMemory>
+    ensures { IfOk result (λ v. v.items ≡ by_address (mapped_finds finds.now)) }
 {
     let mut placed = BTreeMap::new(alloc);
-    place_all(tiles, &mut placed)?;
+    place_mapped(finds, &mut placed)?;
     Ok(placed.values().copied().collect(alloc)?)
 }
 
@@ -64,116 +57,79 @@ fn cache_views(alloc: Global, lists: &[Vec<Addr>]) -> Result<Vec<CacheView>, NoM
     Ok(views)
 }
 
-/// Appends the cached chunks.
-fn append_cache(alloc: Global, tiles: &mut Vec<TileView>, cache: &Cache) -> Result<(), NoMemory>
-    ensures { OnOk result (tiles.new.items ≡ tiles.old.items ++ map cached_tile (blocks_of cache.now)) }
-{
-    let cached = cache.tiles(alloc)?;
-    for chunk in &cached {
-        tiles.push(tile(chunk.addr, chunk.size, Place::Cache { thread: 0 }))?;
-    }
-    Ok(())
-}
-
-/// The blocks by name.
-fn live_tiles<K: Kernel>(alloc: Global, process: &Process<K>) -> Result<Vec<TileView>, NoMemory>
-    ensures { IfOk result (λ v. v.items ≡ map live_tile process.now.live.entries) }
-{
-    let tiles = process.live.iter().map(|(name, block)| {
-        let place = Place::Live {
-            thread: 0,
-            name: *name,
-        };
-        tile(block.addr, block.size, place)
-    });
-    Ok(tiles.collect(alloc)?)
-}
-
-/// All chunks of main.
-#[tactic(auto, unfolding(crate::specs::Places::tiles_of))]
-fn tiles<K: Kernel>(alloc: Global, process: &Process<K>) -> Result<Vec<TileView>, NoMemory>
-    ensures { IfOk result (λ v. v.items ≡ tiles_of (world_of process.now)) }
-{
-    let mut tiles = live_tiles(alloc, process)?;
-    append_cache(alloc, &mut tiles, &process.cache)?;
-    if let Some(block) = process.cache.structure() {
-        tiles.push(tile(block.addr, block.size, Place::Structure { thread: 0 }))?;
-    }
-    if let Some(top) = process.top {
-        tiles.push(tile(top.addr, top.size, Place::Top))?;
-    }
-    Ok(tiles)
-}
-
-/// An arena with these system bytes and chunks, and with empty bins.
-fn arena_view(alloc: Global, system: u64, tiles: Vec<TileView>) -> ArenaView
-    ensures shown { result ≡ record { number = 0; system = system; max = system; list = 0; last = None; tiles = tiles.items; fast = []; bins = [] } }
-    ensures fits { result.system < 2 ^ 64 }
-{
-    ArenaView {
-        number: 0,
-        system,
-        max: system,
-        list: 0,
-        last: None,
-        tiles,
-        fast: Vec::new(alloc),
-        bins: Vec::new(alloc),
-    }
-}
-
 /// What the report shows of main.
-#[tactic(auto, unfolding(crate::specs::Places::main_of))]
-fn main_view<K: Kernel>(alloc: Global, process: &Process<K>) -> Result<ArenaView, NoMemory>
-    ensures shown { IfOk result (λ a. a ≡ main_of (world_of process.now)) }
+#[tactic(auto, unfolding(crate::specs::Places::main_with))]
+fn main_view(
+    alloc: Global,
+    ground: &Ground,
+    finds: &[Find],
+    fast: Vec<(u8, Vec<Addr>)>,
+) -> Result<ArenaView, NoMemory>
+    requires { length ground.now.arena.bins ≡ 127 }
+    ensures shown { IfOk result (λ a. a ≡ main_with ground.now.arena finds.now (lists_of fast.items)) }
     ensures idle { IfOk result (λ a. idle_bytes_of a.tiles ≤ a.system) }
-    ensures fits { IfOk result (λ a. a.system < 2 ^ 64) }
+    ensures fits { IfOk result (λ a. a.system < 2 ^ 63) }
 {
-    let tiles = tiles(alloc, process)?;
-    let tiles = sorted(alloc, tiles.as_slice())?;
-    Ok(arena_view(alloc, process.system, tiles))
+    ground.laws();
+    let bins = bins(alloc, ground)?;
+    let found = found(alloc, finds, fast.as_slice(), bins.as_slice())?;
+    let tiles = ground.tiles(alloc)?;
+    Ok(ArenaView {
+        number: 0,
+        system: ground.system(),
+        max: ground.most(),
+        list: 0,
+        last: ground.last_remainder(),
+        tiles: shown(alloc, &found, tiles.as_slice())?,
+        fast,
+        bins,
+    })
 }
 
-/// The dials as they start.
-fn starting_dials(t: &Tunables) -> DialState
-    ensures { result ≡ first_dials t.now }
+/// The words beside main.
+fn dials(d: &mapped_chunks::DialState) -> DialState
+    ensures { result ≡ dials_of d.now }
 {
     DialState {
-        mmap_threshold: t.mmap_threshold,
-        trim_threshold: t.trim_threshold,
-        mapped: 0,
-        bytes: 0,
-        max_mapped: 0,
-        max_bytes: 0,
+        mmap_threshold: d.mmap_threshold,
+        trim_threshold: d.trim_threshold,
+        mapped: d.mapped,
+        bytes: d.bytes,
+        max_mapped: d.max_mapped,
+        max_bytes: d.max_bytes,
     }
 }
 
-/// All that the report shows of a process; `has_lines` tells whether the trace has a line.
+/// All that the report shows of a process at its end; `has_lines` tells whether the trace has a line.
 #[tactic(auto, unfolding(crate::specs::Places::shown_of))]
 pub fn snapshot<K: Kernel>(
     alloc: Global,
-    process: &Process<K>,
-    t: &Tunables,
+    process: Process<K>,
     has_lines: bool,
 ) -> Result<Snapshot, NoMemory>
-    ensures shown { IfOk result (λ s. s ≡ shown_of t.now has_lines (world_of process.now)) }
+    requires { IsSettled process }
+    ensures shown { IfOk result (λ s. s ≡ shown_of has_lines (world_of process)) }
     ensures totals { IfOk result HasTotals }
 {
-    let lists = process.cache.lists(alloc)?;
+    let finds = finds(alloc, &process.thread)?;
+    let lists = process.thread.cache().lists(alloc)?;
+    let caches = cache_views(alloc, lists.as_slice())?;
+    let end = process.end(alloc)?;
+    let fast = numbered(alloc, end.fast.as_slice())?;
     let mut arenas = Vec::new(alloc);
-    arenas.push(main_view(alloc, process)?)?;
+    arenas.push(main_view(alloc, &end.arenas[0].ground, finds.as_slice(), fast)?)?;
     let mut threads = Vec::new(alloc);
     if has_lines {
         threads.push((0, Some(0)))?;
     }
     Ok(Snapshot {
         arenas,
-        mapped: Vec::new(alloc),
-        caches: cache_views(alloc, lists.as_slice())?,
+        mapped: mapped(alloc, finds.as_slice())?,
+        caches,
         threads,
         free: Vec::new(alloc),
         next: None,
         limit: 0,
-        dials: starting_dials(t),
+        dials: dials(&end.dials),
     })
 }

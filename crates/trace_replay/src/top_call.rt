@@ -9,7 +9,6 @@ ghost use Rattle.trace_text.specs.Spelling.{spelling, Allows};
 ghost use Rattle.trace_replay.specs.Asked.{asked_of};
 ghost use Rattle.trace_replay.specs.Headline.{Told, Answers, Refuses, AnswersJob, LeavesSource, LeavesSink, IsReadWhole, IsUnwritten, IsTextRefusal, IsHalt, IsNumbered};
 ghost use Rattle.trace_replay.specs.Replays.{Serves, RefusesAs};
-ghost use Rattle.trace_replay.specs.Tiling.{ShowsTiles};
 ghost use Rattle.trace_replay.specs.SerialText.{sections, lines_of, report_of, text_of, job_with, job_of, verdict};
 
 use crate::asked::{Asked, read_words};
@@ -101,10 +100,16 @@ fn report<K: Kernel>(
         heap_max: t.heap_max,
         heaps: t.heaps,
     };
-    let mut process = Process::new(alloc, Space::new(kernel, 0, windows));
+    let mut process = Process::new(alloc, Space::new(kernel, 0, windows), t)?;
     let mut text = opening(alloc)?;
-    replay(alloc, &mut process, lines, Texts::of(bytes), t, &mut text)?;
-    let shown = snapshot(alloc, &process, t, !lines.is_empty())?;
+    replay(
+        alloc,
+        &mut process,
+        lines,
+        Texts::of(bytes),
+        &mut text,
+    )?;
+    let shown = snapshot(alloc, process, !lines.is_empty())?;
     append_sections(&mut text, &shown)?;
     Ok(text)
 }
@@ -155,7 +160,7 @@ fn text<S: Source, K: Kernel>(
 /// Reads a trace, replays it, and writes the report. Nothing is written before the text is whole.
 ///
 /// `kernels` has the port of each thread.
-#[tactic(auto, using(crate::proofs::TiledReports::shows_tiles, crate::proofs::Outcomes::untouched, crate::proofs::Outcomes::refused))]
+#[tactic(auto, using(crate::proofs::Outcomes::untouched, crate::proofs::Outcomes::refused))]
 pub fn run<S: Source, W: Sink, K: Kernel, G: Gate>(
     alloc: Global,
     words: &[String],
@@ -181,10 +186,6 @@ pub fn run<S: Source, W: Sink, K: Kernel, G: Gate>(
     // Nothing is written where the words are refused, whatever the source tells.
     ensures word { IsErr (asked_of words.now) → IsUnwritten result }
 
-    // Each text of the rules shows the world that the lines leave: every chunk once, and together they fill main.
-    ensures tiled { (bytes text : List ℕ) →
-        verdict K.port kernels.items (asked_of words.now) bytes ≡ Ok text →
-        ShowsTiles K.port kernels.items (asked_of words.now) bytes text }
 {
     match text(alloc, words, source, kernels) {
         Ok(text) => match write_text(sink, text.as_slice()) {

@@ -1,32 +1,46 @@
-use Rattle.std.proofs.Common.{subst}
+use Rattle.std.proofs.Common.{refl, subst, ◌∙◌}
 use Rattle.std.proofs.lemmas.List.{drop_all}
 use Rattle.std.proofs.lemmas.Result.{err_from_is_err_and}
 use Rattle.trace_replay.specs.Processes.{world_of}
+use Rattle.trace_replay.proofs.HeldNames.{nothing_named, names_next, may_run, fits_at}
 use Rattle.trace_replay.proofs.ReplayLoop.{SoFar, nothing_yet, goes_on, next_texts, ends, finished}
 use Rattle.trace_replay.proofs.replay.replay.Goals as goal
 
 pub loop-line-init : goal.loop-line-init
-loop-line-init g c = record { texts = c.requires.texts; told = λ h. (h, nothing_yet _ _ _ _ _) }
+loop-line-init g c = record {
+  texts = c.requires.texts;
+  names = nothing_named _ c.requires.unnamed;
+  settled = c.requires.settled;
+  tunables = refl;
+  told = λ h. (h, nothing_yet _ _ _ _ _);
+}
+
+pub replay_line-requires-clause-may : goal.replay_line-requires-clause-may
+replay_line-requires-clause-may g c = λ k l.
+    may_run _ _ _ (fits_at c.args.lines.now c.loop-line.line-index _ c.requires.allowed c.loop-line-test.true) c.loop-line.invariant.names
 
 pub loop-line-preserved : goal.loop-line-preserved
 loop-line-preserved g c = record {
   texts = next_texts _ _ _ _ c.take.result.now c.loop-line-test.true c.loop-line.invariant.texts c.take.ensures;
+  names = names_next _ c.loop-line.line-index _ _ _ c.loop-line-test.true c.loop-line.invariant.names c.in_ok-replay_line.ensures.names;
+  settled = c.in_ok-replay_line.ensures.settled;
+  tunables = c.replay_line.ensures.tunables ∙ c.loop-line.invariant.tunables;
   told = λ h.
       let so_far = c.loop-line.invariant.told h in
       let answered = c.in_ok-replay_line.ensures.told so_far.0 in (
         c.in_ok-replay_line.ensures.telling so_far.0,
-        goes_on _ _ _ c.loop-line.line-index _ _ _ _ _ _ _ answered.0 c.loop-line-test.true so_far.1 answered.1 answered.2,
+        goes_on _ _ _ _ c.loop-line.line-index _ _ _ _ _ _ _ answered.0 c.loop-line.invariant.tunables c.loop-line-test.true so_far.1 answered.1 answered.2,
       );
 }
 
 pub returns-clause-told : goal.returns-clause-told
 returns-clause-told g c h =
     finished _ _ _ _ _ _ _
-    (subst (λ rest. SoFar g.K.Kernel.port c.args.t.now c.args.lines.now rest (world_of c.args.process.now) (world_of c.loop-line.process) c.args.out.now.items c.loop-line.out.items)
+    (subst (λ rest. SoFar g.K.Kernel.port c.args.process.now.t c.args.lines.now rest (world_of c.args.process.now) (world_of c.loop-line.process) c.args.out.now.items c.loop-line.out.items)
     (drop_all c.loop-line.line-index c.args.lines.now c.loop-line-test.false) (c.loop-line.invariant.told h).1)
 
 pub returns-in_err-replay_line-clause-told : goal.returns-in_err-replay_line-clause-told
 returns-in_err-replay_line-clause-told g c h =
     let p = err_from_is_err_and c.from_residual.result c.from_residual.ensures.1 in
     let so_far = c.loop-line.invariant.told h in
-    rw (p.1, p.2) (ends _ _ _ c.loop-line.line-index _ _ _ _ _ _ c.loop-line-test.true so_far.1 (c.in_err-replay_line.ensures.told so_far.0))
+    rw (p.1, p.2) (ends _ _ _ _ c.loop-line.line-index _ _ _ _ _ _ c.loop-line.invariant.tunables c.loop-line-test.true so_far.1 (c.in_err-replay_line.ensures.told so_far.0))

@@ -1,11 +1,21 @@
-use Rattle.std.proofs.Common.{List, [], ◌∷◌, ◌++◌, ap, ◌∙◌}
+use Rattle.std.proofs.Common.{◌≡◌, List, [], ◌∷◌, ◌++◌, sym, ap, ◌∙◌, subst, arith}
+use Rattle.std.specs.Prelude.{IfSome}
 use Rattle.stats_text.specs.Views.{Arena}
-use Rattle.trace_replay.proofs.Idle.{one_arena}
+use Rattle.thread_cache.specs.Caches.{CacheValue}
+use Rattle.thread_cache.specs.Held.{IsSound}
+use Rattle.trace_replay.proofs.Idle.{sixty_four, one_arena}
 use Rattle.trace_replay.proofs.snapshot.snapshot.Goals as goal
+
+pub cache_views-requires : goal.cache_views-requires
+cache_views-requires g c =
+    rw c.as_slice.ensures.value (sixty_four _ _ c.in_ok-lists.ensures.addresses c.in_ok-lists.ensures.sound)
+
+pub numbered-requires : goal.numbered-requires
+numbered-requires g c = rw c.as_slice-2.ensures.value (omega (arith, c.in_ok-end.ensures.ten))
 
 pub returns-clause-totals : goal.returns-clause-totals
 returns-clause-totals g c =
     one_arena _ c.in_ok-main_view.field-0
     (c.in_ok-push.ensures.items ∙ ap (λ (before : List Arena). before ++ c.in_ok-main_view.field-0 ∷ []) c.new-arenas.ensures.items)
-    (ap (λ d. d.bytes) c.starting_dials.ensures)
-    c.in_ok-main_view.ensures.idle c.in_ok-main_view.ensures.fits
+    c.in_ok-main_view.ensures.idle
+    (let bytes = ap (λ d. d.bytes) c.dials.ensures in omega (arith, c.in_ok-main_view.ensures.fits, c.in_ok-end.ensures.bytes, bytes))

@@ -1,0 +1,41 @@
+-- Which names hold blocks, beside what the lines of the trace say of them (this project's own). No public clause cites this
+-- file.
+use Rattle.std.specs.Prelude.{◌≡◌, ℕ, Bool, false, List, Option, None}
+use Rattle.chunk_tags.specs.declared.block.Block.{Block}
+use Rattle.malloc_calls.specs.Names.{block_at}
+use Rattle.malloc_calls.specs.declared.own.Own.{Own}
+use Rattle.malloc_calls.specs.declared.reply.Reply.{Reply}
+use Rattle.trace_text.specs.declared.trace.Call.{Call}
+use Rattle.trace_text.specs.declared.trace.Call.TheVariants.{Malloc}
+use Rattle.trace_text.specs.declared.trace.Line.{Line}
+use Rattle.trace_text.specs.Before.{held_after, is_held}
+use Rattle.trace_text.specs.Spelling.{IsCall}
+
+-- a name of thread 0 that isn't held behind these lines holds no block
+abbrev pub HoldsWithin : List Line → List (Option Block) → Type 0
+HoldsWithin before names = (name : ℕ) → is_held 0 name before ≡ false → block_at names name ≡ None
+
+-- a name that a call makes holds no block
+abbrev pub IsFree : Call → List (Option Block) → Type 0
+IsFree (Malloc name size) names = block_at names name ≡ None
+IsFree _ names = Unit {0}
+
+-- a line that may be run over these names
+pub record MayRun (line : Line) (names : List (Option Block)) : Type 0 where
+  pub call : IsCall line.thread line.call
+  pub free : line.thread ≡ 0 → IsFree line.call names
+
+-- what a line leaves: a name that isn't held behind it holds no block, where that was so before
+pub record LeavesNames (line : Line) (before now : List (Option Block)) : Type 0 where
+  pub thread : line.thread ≡ 0
+  pub held : (name : ℕ) (was : Bool) → (was ≡ false → block_at before name ≡ None) → held_after name was line.call ≡ false →
+      block_at now name ≡ None
+
+-- what malloc leaves: all other names hold what they held
+pub record KeepsOthers (name : ℕ) (names : List (Option Block)) (r : Reply × Own) : Type 0 where
+  pub others : (n : ℕ) → (n ≡ name → ⊥) → block_at r.1.names n ≡ block_at names n
+
+-- what free leaves: that, and the name holds nothing
+pub record EmptiesName (name : ℕ) (names : List (Option Block)) (r : Reply × Own) : Type 0 where
+  pub others : (n : ℕ) → (n ≡ name → ⊥) → block_at r.1.names n ≡ block_at names n
+  pub gone : block_at r.1.names name ≡ None

@@ -1,0 +1,52 @@
+-- What a reply is in a report (this project's own).
+use Rattle.std.specs.Prelude.{ℕ, false, List, ◌++◌}
+use Rattle.std.specs.List.{flat_map}
+use Rattle.malloc_calls.specs.declared.reply.Reply.{Reply}
+use Rattle.malloc_calls.specs.declared.reply.Reply.TheVariants.{Got, Null, Freed, NotYours}
+use Rattle.malloc_calls.specs.declared.reply.Origin.{Origin}
+use Rattle.malloc_calls.specs.declared.reply.Origin.TheVariants as origins
+use Rattle.malloc_calls.specs.declared.reply.To.{To}
+use Rattle.malloc_calls.specs.declared.reply.To.TheVariants as tos
+use Rattle.malloc_calls.specs.declared.reply.Why.{Why}
+use Rattle.malloc_calls.specs.declared.reply.Why.TheVariants as whys
+use Rattle.stats_text.specs.declared.records.Outcome.{Outcome}
+use Rattle.stats_text.specs.declared.records.Outcome.TheVariants as outcomes
+use Rattle.stats_text.specs.declared.records.Source3.{Source3}
+use Rattle.stats_text.specs.declared.records.Source3.TheVariants as sources
+use Rattle.stats_text.specs.declared.records.Sink3.{Sink3}
+use Rattle.stats_text.specs.declared.records.Sink3.TheVariants as sinks
+use Rattle.stats_text.specs.Records.{record_text}
+use Rattle.trace_text.specs.declared.trace.Line.{Line}
+use Rattle.trace_text.specs.Spelling.{spelling_of}
+
+-- where a block came from
+abbrev pub source_of : Origin → Source3
+source_of origins.Cached = sources.Cached
+source_of (origins.Arena a hold) = sources.Arena a hold
+source_of origins.Mapped = sources.Mapped
+
+-- where a freed block went
+abbrev pub sink_of : To → Sink3
+sink_of tos.Cached = sinks.Cached
+sink_of (tos.Fast a bin) = sinks.Fast a bin
+sink_of (tos.Binned a hold) = sinks.Binned a hold
+sink_of tos.Unmapped = sinks.Unmapped
+
+-- the number of a cause in a report
+abbrev pub null_of : Why → ℕ
+null_of whys.Big = 0
+null_of whys.Refused = 2
+
+-- the answer of a reply; a name that holds nothing was skipped
+abbrev pub outcome_of : Reply → Outcome
+outcome_of (Got addr size from) = outcomes.Got addr size (source_of from)
+outcome_of (Null why) = outcomes.Null (null_of why)
+outcome_of (Freed to) = outcomes.Freed (sink_of to) false
+outcome_of NotYours = outcomes.Skip
+
+-- the record of a line, and those of many
+abbrev pub record_of : Line × Reply → List ℕ
+record_of r = record_text (spelling_of r.0) (outcome_of r.1) false
+
+unfoldable pub records_of : List (Line × Reply) → List ℕ
+records_of replies = flat_map record_of replies
