@@ -62,10 +62,10 @@ free_leaves line name names r thread call empties = record {
       elim (and_false (name == n) was h) [
         | inl same ↦ let e : n ≡ name = grind (arith, nat_tests) in ap (block_at r.1.names) e ∙ empties.gone
         | inr free ↦
-          elim (eqb_tells name n) [
-            | inl same ↦ ap (block_at r.1.names) (sym same.1) ∙ empties.gone
-            | inr other ↦ empties.others n (λ e. other.1 (sym e)) ∙ block_at-readied name n names ∙ before free
-          ]
+            elim (eqb_tells name n) [
+              | inl same ↦ ap (block_at r.1.names) (sym same.1) ∙ empties.gone
+              | inr other ↦ empties.others n (λ e. other.1 (sym e)) ∙ block_at-readied name n names ∙ before free
+            ]
       ];
 }
 

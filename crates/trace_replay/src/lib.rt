@@ -1,4 +1,6 @@
-//! Partial.
+//! The top call: a trace's bytes in, the report's bytes out. A contract sees a run by its words, the bytes that its
+//! source tells, its ports and its answer; the one promise is `run`'s clause `told`: what is written, or how it is
+//! refused, is what the rules give (`verdict` of `SerialText`).
 #![tactic(auto)]
 
 mod asked;
@@ -14,10 +16,23 @@ mod snapshot;
 mod top_call;
 
 pub use asked::Asked;
-pub use exit::{Exit, Large};
-pub use gate::{Gate, Open};
 pub use byte_edge::{
     CountSink, Fetch, Flush, MemSink, MemSource, Put, Sink, Source, StdSink, StdSource, SureSource,
 };
+pub use exit::{Exit, Large};
+pub use gate::{Gate, Open};
 pub use top_call::run;
 pub use trace_text::THREADS;
+
+#[cfg(test)]
+mod examples;
+#[cfg(test)]
+mod fault_tests;
+#[cfg(test)]
+mod gate_tests;
+#[cfg(test)]
+mod rows;
+#[cfg(test)]
+mod tests;
+#[cfg(test)]
+mod texts;

@@ -21,11 +21,7 @@ use std::alloc::Global;
 use trace_text::{Line, Texts};
 
 /// The reply to a line.
-fn answer<K: Kernel>(
-    alloc: Global,
-    process: &mut Process<K>,
-    line: &Line,
-) -> Result<Reply, Exit>
+fn answer<K: Kernel>(alloc: Global, process: &mut Process<K>, line: &Line) -> Result<Reply, Exit>
     requires may { MayRun line.now (names_of process.old.thread) }
     requires settled { IsSettled process.old }
     requires numbered { IsNumbered line.now }

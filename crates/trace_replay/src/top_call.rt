@@ -102,13 +102,7 @@ fn report<K: Kernel>(
     };
     let mut process = Process::new(alloc, Space::new(kernel, 0, windows), t)?;
     let mut text = opening(alloc)?;
-    replay(
-        alloc,
-        &mut process,
-        lines,
-        Texts::of(bytes),
-        &mut text,
-    )?;
+    replay(alloc, &mut process, lines, Texts::of(bytes), &mut text)?;
     let shown = snapshot(alloc, process, !lines.is_empty())?;
     append_sections(&mut text, &shown)?;
     Ok(text)
@@ -185,7 +179,6 @@ pub fn run<S: Source, W: Sink, K: Kernel, G: Gate>(
 
     // Nothing is written where the words are refused, whatever the source tells.
     ensures word { IsErr (asked_of words.now) → IsUnwritten result }
-
 {
     match text(alloc, words, source, kernels) {
         Ok(text) => match write_text(sink, text.as_slice()) {

@@ -1,0 +1,287 @@
+//! Runs over sources, sinks and ports that fail, that give and take little at a time, or that tell nothing.
+
+ghost use Rattle.std.specs.Prelude.{◌≡◌, None, IfOk, vec_len};
+ghost use Rattle.byte_edge.specs.Streams.{Supply, Store};
+
+use super::*;
+use crate::rows::{FENCED_PIECE, FENCED_PIECE_REPORT};
+use crate::tests::{ample, run_over};
+use crate::texts::{TWO_BLOCKS, TWO_LINES};
+use address_space::{Always, Budget};
+use chunk_tags::NoMemory;
+use std::alloc::Global;
+use std::test::Fail;
+
+/// The bytes that a write of `Sips` takes at the most.
+const SIP: usize = 7;
+
+/// Two lines, one byte a read. The read with the given number fails, counted from 1; where it is 0, none does.
+#[derive(Drop)]
+struct Dribble {
+    at: usize,
+    reads: usize,
+    fail_at: usize,
+    faults: u64,
+}
+
+impl Dribble {
+    fn new(fail_at: usize) -> Dribble {
+        Dribble {
+            at: 0,
+            reads: 0,
+            fail_at,
+            faults: 0,
+        }
+    }
+}
+
+impl Source for Dribble {
+    ghost supply = { record { left = λ _. None; faults = λ s. s.faults } };
+
+    fn read(&mut self, into: &mut [u8]) -> Fetch {
+        self.reads = self.reads.saturating_add(1);
+        if self.reads == self.fail_at {
+            self.faults = self.faults.saturating_add(1);
+            return Fetch::Failed;
+        }
+        match TWO_LINES.get(self.at) {
+            None => Fetch::End,
+            Some(byte) => {
+                into[0] = *byte;
+                self.at += 1;
+                Fetch::Got(1)
+            }
+        }
+    }
+}
+
+/// A sink that takes a few bytes at a time. The call with the given number fails, counted from 1, the flush
+/// included; where it is 0, none does.
+#[derive(Drop)]
+struct Sips {
+    bytes: Vec<u8>,
+    calls: usize,
+    fail_at: usize,
+    faults: u64,
+}
+
+impl Sips {
+    fn new(alloc: Global, fail_at: usize) -> Sips {
+        Sips {
+            bytes: Vec::new(alloc),
+            calls: 0,
+            fail_at,
+            faults: 0,
+        }
+    }
+
+    /// Counts a call, and says whether it is to fail.
+    fn is_due(&mut self) -> bool
+        ensures { self.new.faults ≡ self.old.faults }
+    {
+        self.calls = self.calls.saturating_add(1);
+        self.calls == self.fail_at
+    }
+}
+
+impl Sink for Sips {
+    ghost store = { record { written = λ _. None; faults = λ s. s.faults } };
+
+    fn write(&mut self, from: &[u8]) -> Put {
+        let count = from.len().min(SIP);
+        if self.is_due() || self.bytes.extend_from_slice(&from[..count]).is_err() {
+            self.faults = self.faults.saturating_add(1);
+            return Put::Failed;
+        }
+        Put::Took(count)
+    }
+
+    fn flush(&mut self) -> Flush {
+        if self.is_due() {
+            self.faults = self.faults.saturating_add(1);
+            return Flush::Failed;
+        }
+        Flush::Done
+    }
+}
+
+#[test]
+fn each_failed_read_ends_the_run(rt: HostRuntime) -> Result<(), Fail> {
+    let alloc = rt.alloc();
+    let end = TWO_LINES.len() + 1;
+    for read in 1..=end {
+        let mut source = Dribble::new(read);
+        let mut sink = ample(alloc)?;
+        let exit = run_over(alloc, &mut source, &mut sink)?;
+        assert_eq!(rt; exit, Exit::ReadFault, "read {read}");
+        assert_eq!(rt; (source.reads, source.faults), (read, 1), "read {read}");
+        assert_eq!(rt; sink.bytes().len(), 0, "read {read}");
+    }
+    Ok(())
+}
+
+#[test]
+fn each_failed_write_leaves_a_prefix(rt: HostRuntime) -> Result<(), Fail> {
+    let alloc = rt.alloc();
+    let flush = TWO_BLOCKS.len().div_ceil(SIP) + 1;
+    for call in 1..=flush {
+        let mut sink = Sips::new(alloc, call);
+        let exit = run_over(alloc, &mut Dribble::new(0), &mut sink)?;
+        let taken = (call - 1).saturating_mul(SIP).min(TWO_BLOCKS.len());
+        assert_eq!(rt; exit, Exit::WriteFault, "call {call}");
+        assert_eq!(rt; (sink.calls, sink.faults), (call, 1), "call {call}");
+        assert_eq!(rt; sink.bytes.as_slice(), &TWO_BLOCKS[..taken], "call {call}");
+    }
+    Ok(())
+}
+
+#[test]
+fn pieces_make_no_difference(rt: HostRuntime) -> Result<(), Fail> {
+    let alloc = rt.alloc();
+    let mut source = Dribble::new(0);
+    let mut sink = Sips::new(alloc, 0);
+    assert_eq!(rt; run_over(alloc, &mut source, &mut sink)?, Exit::Done);
+    assert_eq!(rt; sink.bytes.as_slice(), TWO_BLOCKS);
+    assert_eq!(rt; (source.faults, sink.faults), (0, 0));
+    Ok(())
+}
+
+/// A list of one number.
+fn only(alloc: Global, number: u64) -> Result<Vec<u64>, NoMemory> {
+    let mut list = Vec::new(alloc);
+    list.push(number)?;
+    Ok(list)
+}
+
+#[test]
+fn streams_in_memory_fail_where_they_are_told_to(rt: HostRuntime) -> Result<(), Fail> {
+    let alloc = rt.alloc();
+    for (read, room, call, exit, count) in [
+        (1, 65_536, 0, Exit::ReadFault, 0),
+        (2, 65_536, 0, Exit::ReadFault, 0),
+        (0, 100, 0, Exit::WriteFault, 100),
+        (0, 65_536, 1, Exit::WriteFault, 0),
+        (0, 65_536, 2, Exit::WriteFault, TWO_BLOCKS.len()),
+        (3, 65_536, 3, Exit::Done, TWO_BLOCKS.len()),
+    ] {
+        let mut source = MemSource::new(Vec::from_slice(alloc, TWO_LINES)?, only(alloc, read)?);
+        let mut sink = MemSink::new(alloc, room, only(alloc, call)?)?;
+        let answer = run_over(alloc, &mut source, &mut sink)?;
+        assert_eq!(rt; answer, exit, "read {read}, call {call}");
+        assert_eq!(rt; sink.bytes().len(), count, "read {read}, call {call}");
+        assert!(rt;
+            TWO_BLOCKS.starts_with(sink.bytes()),
+            "read {read}, call {call}"
+        );
+    }
+    Ok(())
+}
+
+#[test]
+fn readers_and_writers_of_std_serve(rt: HostRuntime) -> Result<(), Fail> {
+    let alloc = rt.alloc();
+    let mut bytes = Vec::new(alloc);
+    let mut sink = StdSink::new(&mut bytes);
+    assert_eq!(rt;
+        run_over(alloc, &mut StdSource::new(TWO_LINES), &mut sink)?,
+        Exit::Done
+    );
+    drop(sink);
+    assert_eq!(rt; bytes.as_slice(), TWO_BLOCKS);
+    Ok(())
+}
+
+#[test]
+fn a_count_sink_counts_the_report(rt: HostRuntime) -> Result<(), Fail> {
+    let alloc = rt.alloc();
+    let mut sink = CountSink::new();
+    assert_eq!(rt;
+        run_over(alloc, &mut Dribble::new(0), &mut sink)?,
+        Exit::Done
+    );
+    assert_eq!(rt; sink.count(), TWO_BLOCKS.len() as u64);
+    Ok(())
+}
+
+#[test]
+fn a_word_behind_the_name_is_refused(rt: HostRuntime) -> Result<(), Fail> {
+    let alloc = rt.alloc();
+    let mut words = Vec::new(alloc);
+    for (word, exit) in [
+        ("ptmreplay", Exit::Done),
+        ("--summary", Exit::NotBuilt { line: 0 }),
+    ] {
+        words.push(String::from_str(alloc, word)?)?;
+        let ports = vec![in alloc; Always; 64]?;
+        let mut sink = ample(alloc)?;
+        assert_eq!(rt;
+            run(alloc, &words, &mut Dribble::new(0), &mut sink, ports, &Open),
+            exit
+        );
+        assert_eq!(rt; sink.bytes().is_empty(), exit != Exit::Done);
+    }
+    Ok(())
+}
+
+/// A port that refuses the asks with these numbers, and others that grant all.
+fn refusing_ports(alloc: Global, asks: Vec<u64>) -> Result<Vec<Budget>, NoMemory>
+    ensures { IfOk result (λ ports. vec_len ports ≡ 64) }
+{
+    let mut ports = Vec::new(alloc);
+    ports.push(Budget::new(u64::MAX, asks))?;
+    for _ in 1..64_usize {
+        ports.push(Budget::new(u64::MAX, Vec::new(alloc)))?;
+    }
+    Ok(ports)
+}
+
+#[test]
+fn a_refused_break_leads_to_a_piece(rt: HostRuntime) -> Result<(), Fail> {
+    let alloc = rt.alloc();
+    let ports = refusing_ports(alloc, only(alloc, 2)?)?;
+    let mut source = SureSource::new(Vec::from_slice(alloc, FENCED_PIECE)?);
+    let mut sink = ample(alloc)?;
+    assert_eq!(rt;
+        run(alloc, &[], &mut source, &mut sink, ports, &Open),
+        Exit::Done
+    );
+    assert_eq!(rt; sink.bytes(), FENCED_PIECE_REPORT);
+    Ok(())
+}
+
+/// Refused for the structure of the cache, and then for the block too.
+#[test]
+fn a_refused_search_is_not_built(rt: HostRuntime) -> Result<(), Fail> {
+    let alloc = rt.alloc();
+    for last in [2, 4] {
+        let asks = (1..=last).collect(alloc)?;
+        let ports = refusing_ports(alloc, asks)?;
+        let mut sink = ample(alloc)?;
+        assert_eq!(rt;
+            run(alloc, &[], &mut Dribble::new(0), &mut sink, ports, &Open),
+            Exit::NotBuilt { line: 2 },
+            "{last} asks"
+        );
+        assert_eq!(rt; sink.bytes().len(), 0);
+    }
+    Ok(())
+}
+
+#[test]
+fn one_byte_too_many_is_too_long(rt: HostRuntime) -> Result<(), Fail> {
+    let alloc = rt.alloc();
+    for (length, exit) in [
+        (
+            67_108_864,
+            Exit::BadTrace {
+                line: 1,
+                why: trace_text::BadWhy::Cut,
+            },
+        ),
+        (67_108_865, Exit::TooLong),
+    ] {
+        let mut source = SureSource::new(vec![in alloc; b'0'; length]?);
+        assert_eq!(rt; run_over(alloc, &mut source, &mut ample(alloc)?)?, exit);
+    }
+    Ok(())
+}

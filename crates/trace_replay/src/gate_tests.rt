@@ -1,0 +1,42 @@
+//! A serial run calls no gate.
+
+use crate::tests::ample;
+use crate::texts::{TWO_BLOCKS, TWO_LINES};
+use crate::{Exit, Gate, SureSource, run};
+use address_space::Always;
+use std::sync::atomic::{AtomicU64, Ordering};
+use std::test::Fail;
+
+/// A gate that counts its calls.
+#[derive(Drop)]
+struct Counting {
+    calls: AtomicU64,
+}
+
+impl Gate for Counting {
+    fn before(&self, _thread: u8, _line: u64) {
+        self.calls.fetch_add(1, Ordering::SeqCst);
+    }
+
+    fn after(&self, _thread: u8, _line: u64) {
+        self.calls.fetch_add(1, Ordering::SeqCst);
+    }
+}
+
+#[test]
+fn a_serial_run_calls_no_gate(rt: HostRuntime) -> Result<(), Fail> {
+    let alloc = rt.alloc();
+    let gate = Counting {
+        calls: AtomicU64::new(0),
+    };
+    let mut source = SureSource::new(Vec::from_slice(alloc, TWO_LINES)?);
+    let mut sink = ample(alloc)?;
+    let ports = vec![in alloc; Always; 64]?;
+    assert_eq!(rt;
+        run(alloc, &[], &mut source, &mut sink, ports, &gate),
+        Exit::Done
+    );
+    assert_eq!(rt; sink.bytes(), TWO_BLOCKS);
+    assert_eq!(rt; gate.calls.load(Ordering::SeqCst), 0);
+    Ok(())
+}
