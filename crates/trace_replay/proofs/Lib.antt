@@ -3,6 +3,7 @@ mod CallResults
 mod HeldNames
 mod Refusals
 mod Idle
+mod Placing
 mod Serving
 mod ReplayLoop
 mod Reports

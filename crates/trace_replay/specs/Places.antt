@@ -1,7 +1,7 @@
 -- What a report shows of a world: each chunk with its place (this project's own). A place is where a chunk is found: under
 -- a name, in the cache, as the cache's structure, in a fast bin or in another bin. Top and fences say so themselves.
 use Rattle.std.specs.Prelude.{ℕ, ◌+◌, Bool, false, not, List, [], ◌∷◌, ◌++◌, map, filter, fold, Option, Some, None, is_some, if◌then◌else◌}
-use Rattle.std.specs.List.{flat_map}
+use Rattle.std.specs.List.{flat_map, range_with_len}
 use Rattle.std.specs.Ordering.{nat_cmp}
 use Rattle.std.specs.BTreeMap.{insert_entry}
 use Rattle.std.specs.Map.{values_of}
@@ -11,7 +11,7 @@ use Rattle.chunk_tags.specs.declared.tiles.TileKind.{TileKind}
 use Rattle.chunk_tags.specs.declared.tiles.TileKind.TheVariants as kinds
 use Rattle.list_laws.specs.Rising.{at}
 use Rattle.thread_cache.specs.Caches.{addresses_of, tiles_of, structure_of}
-use Rattle.fast_bins.specs.PlainBins.{FastState, listed}
+use Rattle.fast_bins.specs.PlainBins.{FastState, bin_at, listed}
 use Rattle.mapped_chunks.specs.declared.plain.DialState as words
 use Rattle.chunk_tags.specs.declared.tiles.Chunk.{Chunk}
 use Rattle.arena_rules.specs.PlainArena.{Plain}
@@ -59,9 +59,12 @@ abbrev pub numbered_from : ℕ → List (List ℕ) → List (ℕ × List ℕ)
 numbered_from number [] = []
 numbered_from number (ats ∷ lists) = (number, ats) ∷ numbered_from (number + 1) lists
 
--- the fast bins
-abbrev pub fast_of : FastState → List (ℕ × List ℕ)
-fast_of s = numbered_from 0 (map listed s.bins)
+-- the ten fast bins
+abbrev pub fast_bin_of : FastState → ℕ → ℕ × List ℕ
+fast_bin_of s number = (number, listed (bin_at s number))
+
+unfoldable pub fast_of : FastState → List (ℕ × List ℕ)
+fast_of s = map (fast_bin_of s) (range_with_len 0 10)
 
 -- the other bins of an arena; none has the number 0
 abbrev pub addresses : List Chunk → List ℕ

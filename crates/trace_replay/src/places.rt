@@ -1,9 +1,10 @@
 //! The chunks of main, each at the place where it is found.
 
-ghost use Rattle.std.specs.Prelude.{◌≡◌, ◌≤◌, length, map, fold, IfOk, OnOk};
+ghost use Rattle.std.specs.Prelude.{◌≡◌, [], length, map, fold, slice_index_or, IfOk, OnOk};
+ghost use Rattle.fast_bins.specs.PlainBins.{FastState, listed};
 ghost use Rattle.stats_text.specs.Views.{lists_of};
 ghost use Rattle.stats_text.specs.declared.views.Place.TheVariants as places;
-ghost use Rattle.trace_replay.specs.Places.{numbered_from, bins_of, found_in, put_found, place_in, shown_tiles, finds_found, found_with, found_by_address};
+ghost use Rattle.trace_replay.specs.Places.{fast_of, bins_of, found_in, put_found, place_in, shown_tiles, finds_found, found_with, found_by_address};
 
 use crate::finds::{Find, tile};
 use arena_ground::Ground;
@@ -12,14 +13,23 @@ use stats_text::{Place, TileView};
 use std::alloc::Global;
 use std::collections::BTreeMap;
 
-/// Lists with their numbers, from 0 on.
-pub fn numbered(alloc: Global, lists: &[Vec<Addr>]) -> Result<Vec<(u8, Vec<Addr>)>, NoMemory>
-    requires { length lists.now ≤ 255 }
-    ensures { IfOk result (λ v. lists_of v.items ≡ numbered_from 0 (map (λ list. list.items) lists.now)) }
+/// The list at an index; there is none behind the last one.
+fn list(alloc: Global, lists: &[Vec<Addr>], index: u8) -> Result<Vec<Addr>, NoMemory>
+    ensures { IfOk result (λ v. v.items ≡ slice_index_or (map (λ list. list.items) lists.now) index []) }
+{
+    match lists.get(usize::from(index)) {
+        None => Ok(Vec::new(alloc)),
+        Some(list) => Ok(Vec::from_slice(alloc, list.as_slice())?),
+    }
+}
+
+/// The ten fast bins, each from the front.
+pub fn fast_bins(alloc: Global, lists: &[Vec<Addr>]) -> Result<Vec<(u8, Vec<Addr>)>, NoMemory>
+    ensures { (s : FastState) → map (λ list. list.items) lists.now ≡ map listed s.bins → IfOk result (λ v. lists_of v.items ≡ fast_of s) }
 {
     let mut bins = Vec::new(alloc);
-    for (number, addrs) in lists.iter().enumerate() {
-        bins.push((number as u8, Vec::from_slice(alloc, addrs.as_slice())?))?;
+    for number in 0..10_u8 {
+        bins.push((number, list(alloc, lists, number)?))?;
     }
     Ok(bins)
 }

@@ -8,7 +8,7 @@ ghost use Rattle.trace_replay.specs.Places.{put_tile, by_address, mapped_finds, 
 ghost use Rattle.trace_replay.specs.Processes.{world_of, IsSettled};
 
 use crate::finds::{Find, finds};
-use crate::places::{bins, found, numbered, shown};
+use crate::places::{bins, fast_bins, found, shown};
 use crate::process::Process;
 use address_space::Kernel;
 use arena_ground::Ground;
@@ -115,7 +115,7 @@ pub fn snapshot<K: Kernel>(
     let lists = process.thread.cache().lists(alloc)?;
     let caches = cache_views(alloc, lists.as_slice())?;
     let end = process.end(alloc)?;
-    let fast = numbered(alloc, end.fast.as_slice())?;
+    let fast = fast_bins(alloc, end.fast.as_slice())?;
     let mut arenas = Vec::new(alloc);
     arenas.push(main_view(alloc, &end.arenas[0].ground, finds.as_slice(), fast)?)?;
     let mut threads = Vec::new(alloc);

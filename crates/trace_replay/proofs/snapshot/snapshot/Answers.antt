@@ -10,9 +10,6 @@ pub cache_views-requires : goal.cache_views-requires
 cache_views-requires g c =
     rw c.as_slice.ensures.value (sixty_four _ _ c.in_ok-lists.ensures.addresses c.in_ok-lists.ensures.sound)
 
-pub numbered-requires : goal.numbered-requires
-numbered-requires g c = rw c.as_slice-2.ensures.value (omega (arith, c.in_ok-end.ensures.ten))
-
 pub returns-clause-totals : goal.returns-clause-totals
 returns-clause-totals g c =
     one_arena _ c.in_ok-main_view.field-0
