@@ -6,6 +6,7 @@ ghost use Rattle.stats_text.specs.Views.{lists_of};
 ghost use Rattle.thread_cache.specs.Caches.{addresses_of};
 ghost use Rattle.trace_replay.specs.Places.{put_tile, by_address, mapped_finds, cache_lists, main_with, dials_of, shown_of};
 ghost use Rattle.trace_replay.specs.Processes.{world_of, IsSettled};
+ghost use Rattle.trace_replay.specs.Tiling.{IsTiled};
 
 use crate::finds::{Find, finds};
 use crate::places::{bins, fast_bins, found, shown};
@@ -110,14 +111,17 @@ pub fn snapshot<K: Kernel>(
     requires { IsSettled process }
     ensures shown { IfOk result (λ s. s ≡ shown_of has_lines (world_of process)) }
     ensures totals { IfOk result HasTotals }
+    ensures tiled { OnOk result (IsTiled (world_of process)) }
 {
     let finds = finds(alloc, &process.thread)?;
     let lists = process.thread.cache().lists(alloc)?;
     let caches = cache_views(alloc, lists.as_slice())?;
     let end = process.end(alloc)?;
+    let ground = &end.arenas[0].ground;
+    ground.laws();
     let fast = fast_bins(alloc, end.fast.as_slice())?;
     let mut arenas = Vec::new(alloc);
-    arenas.push(main_view(alloc, &end.arenas[0].ground, finds.as_slice(), fast)?)?;
+    arenas.push(main_view(alloc, ground, finds.as_slice(), fast)?)?;
     let mut threads = Vec::new(alloc);
     if has_lines {
         threads.push((0, Some(0)))?;

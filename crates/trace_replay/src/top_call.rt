@@ -9,6 +9,7 @@ ghost use Rattle.trace_text.specs.Spelling.{spelling, Allows};
 ghost use Rattle.trace_replay.specs.Asked.{asked_of};
 ghost use Rattle.trace_replay.specs.Headline.{Told, Answers, Refuses, AnswersJob, LeavesSource, LeavesSink, IsReadWhole, IsUnwritten, IsTextRefusal, IsHalt, IsNumbered};
 ghost use Rattle.trace_replay.specs.Replays.{Serves, RefusesAs};
+ghost use Rattle.trace_replay.specs.Tiling.{GivesTiles, ShowsTiles};
 ghost use Rattle.trace_replay.specs.SerialText.{sections, lines_of, report_of, text_of, job_with, job_of, verdict};
 
 use crate::asked::{Asked, read_words};
@@ -93,6 +94,7 @@ fn report<K: Kernel>(
     requires numbered { All IsNumbered lines.now }
     requires spelled { Allows lines.now × (bytes.now ≡ spelling lines.now) }
     ensures told { IsTrue (K.port.tells kernel) → Serves (λ text rules. text.items ≡ rules) result (report_of K.port t.now lines.now kernel) }
+    ensures tiled { IsTrue (K.port.tells kernel) → OnOk result (GivesTiles K.port t.now lines.now kernel) }
     ensures kind { IfErr result IsHalt }
 {
     let windows = Windows {
@@ -117,6 +119,7 @@ fn text_of_bytes<K: Kernel>(
 ) -> Result<Vec<u8>, Exit>
     requires { vec_len kernels ≡ threads }
     ensures told { All (λ k. IsTrue (K.port.tells k)) kernels.items → Serves (λ text rules. text.items ≡ rules) result (text_of K.port kernels.items (job_with (asked_of words.now) (lines_of (reading_of bytes.now)))) }
+    ensures tiled { All (λ k. IsTrue (K.port.tells k)) kernels.items → OnOk result (ShowsTiles K.port kernels.items (job_with (asked_of words.now) (lines_of (reading_of bytes.now)))) }
     ensures word { IsErr (asked_of words.now) → IsErr result }
     ensures job { MatchResult result (λ _. IsOk (job_with (asked_of words.now) (lines_of (reading_of bytes.now)))) (AnswersJob (job_with (asked_of words.now) (lines_of (reading_of bytes.now)))) }
     ensures kind { IfErr result IsTextRefusal }
@@ -142,6 +145,7 @@ fn text<S: Source, K: Kernel>(
     requires { vec_len kernels ≡ threads }
     ensures told { (bytes : List ℕ) → Told S.supply K.port source.old kernels.items bytes
         → MatchResult result (λ text. verdict K.port kernels.items (asked_of words.now) bytes ≡ Ok text.items) (Refuses (verdict K.port kernels.items (asked_of words.now) bytes)) }
+    ensures tiled { (bytes : List ℕ) → Told S.supply K.port source.old kernels.items bytes → OnOk result (ShowsTiles K.port kernels.items (job_of (asked_of words.now) bytes)) }
     ensures job { (bytes : List ℕ) → S.supply.left source.old ≡ Some bytes → MatchResult result (λ _. IsOk (job_of (asked_of words.now) bytes)) (AnswersJob (job_of (asked_of words.now) bytes)) }
     ensures word { IsErr (asked_of words.now) → IsErr result }
     ensures source { MatchResult result (λ _. IsReadWhole S.supply source.old source.new) (λ exit. LeavesSource S.supply source.old exit source.new) }
@@ -179,6 +183,11 @@ pub fn run<S: Source, W: Sink, K: Kernel, G: Gate>(
 
     // Nothing is written where the words are refused, whatever the source tells.
     ensures word { IsErr (asked_of words.now) → IsUnwritten result }
+
+    // A text that was written shows a world in which main is sound and fills its ranges, and each used chunk stands in one
+    // place.
+    ensures tiled { (bytes : List ℕ) → Told S.supply K.port source.old kernels.items bytes → result ≡ Exit.Done →
+        ShowsTiles K.port kernels.items (job_of (asked_of words.now) bytes) }
 {
     match text(alloc, words, source, kernels) {
         Ok(text) => match write_text(sink, text.as_slice()) {

@@ -5,7 +5,7 @@ use Rattle.trace_replay.specs.World.{World, opening_world}
 use Rattle.trace_replay.specs.Processes.{world_of}
 use Rattle.trace_replay.specs.Places.{shown_of}
 use Rattle.trace_replay.specs.SerialText.{started}
-use Rattle.trace_replay.proofs.Reports.{report_served, refused_report}
+use Rattle.trace_replay.proofs.Reports.{report_served, refused_report, tiles_given}
 use Rattle.trace_replay.proofs.top_call.report.Goals as goal
 
 pub returns-in_err-replay-clause-told : goal.returns-in_err-replay-clause-told
@@ -22,3 +22,10 @@ returns-clause-told g c h =
     (c.in_ok-replay.ensures.told (subst (λ (w : World _). IsTrue (g.K.Kernel.port.tells w.serial.space.kernel)) (sym first) h))
     (c.in_ok-shown.ensures.shown ∙ ap (λ (empty : Bool). shown_of (not empty) (world_of c.replay.new.process)) c.is_empty.ensures)
     c.in_ok-append_sections.ensures
+
+pub returns-clause-tiled : goal.returns-clause-tiled
+returns-clause-tiled g c h =
+    let first : world_of c.in_ok-process.process ≡ started c.args.t.now c.args.kernel = c.in_ok-process.ensures.world ∙ ap (opening_world c.args.t.now) c.new.ensures in
+    tiles_given _ _ _ _ _ _ c.in_ok-process.ensures.tunables first
+    (c.in_ok-replay.ensures.told (subst (λ (w : World _). IsTrue (g.K.Kernel.port.tells w.serial.space.kernel)) (sym first) h))
+    c.in_ok-shown.ensures.tiled
