@@ -1,7 +1,10 @@
 -- Names that hold blocks are held in the text too.
-use Rattle.std.proofs.Common.{◌≡◌, ℕ, zero, suc, ◌+◌, ◌-◌, ◌<◌, ◌==◌, ◌⊎◌, inl, inr, Bool, true, false, not, ◌&&◌, ◌||◌, cond, eqb, List, [], ◌∷◌, ◌++◌, Option, Some, None, Result, Ok, Err, length, get_or, drop, take, replicate, refl, sym, ap, ◌∙◌, subst, arith, append-nil, append_assoc}
+use Rattle.std.proofs.Common.{◌≡◌, ℕ, zero, suc, ◌+◌, ◌-◌, ◌<◌, ◌≤◌, ◌==◌, ◌⊎◌, inl, inr, Bool, true, false, not, ◌&&◌, ◌||◌, cond, eqb, List, [], ◌∷◌, ◌++◌, Option, Some, None, Result, Ok, Err, length, get_or, drop, take, replicate, refl, sym, ap, ◌∙◌, subst, arith, append-nil, append_assoc}
 use Rattle.std.proofs.lemmas.Bool.Decides.{nat_tests, eqb_tells}
+use Rattle.std.proofs.lemmas.Bool.{eq-eqb}
 use Rattle.std.proofs.lemmas.List.{take_more}
+use Rattle.std.proofs.lemmas.List.Sums.{fold-append}
+use Rattle.chunk_tags.specs.Sizes.{chunk_size_of}
 use Rattle.chunk_tags.specs.declared.block.Block.{Block}
 use Rattle.malloc_calls.specs.Names.{block_at, readied}
 use Rattle.malloc_calls.specs.declared.own.Own.{Own}
@@ -15,7 +18,8 @@ use Rattle.trace_text.specs.declared.fault.BadWhy.{BadWhy}
 use Rattle.trace_text.specs.declared.fault.BadWhy.TheVariants.{Held}
 use Rattle.trace_text.specs.Spelling.{Fits, AllFit, Allows}
 use Rattle.trace_text.proofs.Before.{is_held_push}
-use Rattle.trace_replay.specs.Naming.{HoldsWithin, IsFree, MayRun, LeavesNames, KeepsOthers, EmptiesName}
+use Rattle.trace_replay.specs.Naming.{HoldsWithin, IsFree, MayRun, LeavesNames, MakesName, EmptiesName}
+use Rattle.trace_replay.specs.Tiling.{IsFit, FitsWithin, asked_next, asked_size}
 
 -- ---- a place for a name changes nothing else
 
@@ -38,15 +42,29 @@ or_false : (x y : Bool) → (x || y) ≡ false → (x ≡ false) × (y ≡ false
 or_false true y h = absurd cc
 or_false false y h = (refl, h)
 
+-- what was asked for under the name of a call, and under another
+asked_here : (name size : ℕ) (was : Option ℕ) (b : Block) → chunk_size_of size ≤ b.size → IsFit (asked_next name (Malloc name size) was) b
+asked_here name size was b le = subst (λ (v : Bool). IsFit (cond v (Some size) was) b) (sym (eq-eqb name name refl)) le
+
 pub malloc_leaves : (line : Line) (name size : ℕ) (names : List (Option Block)) (r : Reply × Own) → line.thread ≡ 0 → line.call ≡ Malloc name size →
-    KeepsOthers name (readied name names) r → LeavesNames line names r.1.names
-malloc_leaves line name size names r thread call keeps = record {
+    MakesName name size (readied name names) r → LeavesNames line names r.1.names
+malloc_leaves line name size names r thread call makes = record {
   thread = thread;
   held = λ n was before not_held.
       let h : (name == n || was) ≡ false = ap (held_after n was) (sym call) ∙ not_held in
       let parts : ((name == n) ≡ false) × (was ≡ false) = or_false (name == n) was h in
       let other : n ≡ name → ⊥ = grind (arith, nat_tests) in
-      keeps.others n other ∙ block_at-readied name n names ∙ before parts.1;
+      makes.others n other ∙ block_at-readied name n names ∙ before parts.1;
+  fit = λ n was before b is.
+      subst (λ c. IsFit (asked_next n c was) b) (sym call)
+      (elim (eqb_tells name n) [
+        | inl same ↦
+            let P : ℕ → Type 0 = λ m. block_at r.1.names m ≡ Some b → IsFit (asked_next m (Malloc name size) was) b in
+            subst P same.1 (λ here. asked_here name size was b (makes.made b here)) is
+        | inr other ↦
+            subst (λ (v : Bool). IsFit (cond v (Some size) was) b) (sym other.0)
+            (before b (sym (makes.others n (λ e. other.1 (sym e)) ∙ block_at-readied name n names) ∙ is))
+      ]);
 }
 
 and_false : (x y : Bool) → (not x && y) ≡ false → (x ≡ true) ⊎ (y ≡ false)
@@ -67,6 +85,12 @@ free_leaves line name names r thread call empties = record {
               | inr other ↦ empties.others n (λ e. other.1 (sym e)) ∙ block_at-readied name n names ∙ before free
             ]
       ];
+  fit = λ n was before b is.
+      subst (λ c. IsFit (asked_next n c was) b) (sym call)
+      (elim (eqb_tells name n) [
+        | inl same ↦ let no : None ≡ Some b = sym (ap (block_at r.1.names) (sym same.1) ∙ empties.gone) ∙ is in absurd cc
+        | inr other ↦ before b (sym (empties.others n (λ e. other.1 (sym e)) ∙ block_at-readied name n names) ∙ is)
+      ]);
 }
 
 -- ---- line by line
@@ -77,6 +101,28 @@ names_after before line old now held leaves = λ name not_held.
     let e : cond (eqb line.thread 0) (held_after name (is_held 0 name before) line.call) (is_held 0 name before) ≡ held_after name (is_held 0 name before) line.call =
     ap (λ t. cond (eqb t 0) (held_after name (is_held 0 name before) line.call) (is_held 0 name before)) leaves.thread in
     leaves.held name (is_held 0 name before) (held name) (sym e ∙ (sym (is_held_push 0 name before line) ∙ not_held))
+
+nothing_held : (name : ℕ) (names : List (Option Block)) → names ≡ [] → block_at names name ≡ None
+nothing_held name names e = ap (λ (os : List (Option Block)). block_at os name) e
+
+asked_size_push : (name : ℕ) (before : List Line) (line : Line) →
+    asked_size (before ++ line ∷ []) name ≡ cond (eqb line.thread 0) (asked_next name line.call (asked_size before name)) (asked_size before name)
+unfolding asked_size
+asked_size_push name before line = fold-append (λ (was : Option ℕ) (l : Line). cond (eqb l.thread 0) (asked_next name l.call was) was) None before (line ∷ [])
+
+pub fits_after : (before : List Line) (line : Line) (old now : List (Option Block)) → FitsWithin before old → LeavesNames line old now → FitsWithin (before ++ line ∷ []) now
+fits_after before line old now fit leaves = λ name b is.
+    let e : cond (eqb line.thread 0) (asked_next name line.call (asked_size before name)) (asked_size before name) ≡ asked_next name line.call (asked_size before name) =
+    ap (λ t. cond (eqb t 0) (asked_next name line.call (asked_size before name)) (asked_size before name)) leaves.thread in
+    subst (λ o. IsFit o b) (sym (asked_size_push name before line ∙ e)) (leaves.fit name (asked_size before name) (fit name) b is)
+
+pub nothing_fits : (names : List (Option Block)) → names ≡ [] → FitsWithin [] names
+nothing_fits names e = λ name b is. let no : None ≡ Some b = sym (nothing_held name names e) ∙ is in absurd cc
+
+pub fits_next : (lines : List Line) (i : ℕ) (d : Line) (old now : List (Option Block)) → i < length lines → FitsWithin (take i lines) old →
+    LeavesNames (get_or lines i d) old now → FitsWithin (take (i + 1) lines) now
+fits_next lines i d old now lt fit leaves =
+    subst (λ b. FitsWithin b now) (sym (take_more lines i d lt)) (fits_after (take i lines) (get_or lines i d) old now fit leaves)
 
 not_faulty : (held : Bool) (why : BadWhy) → fault_if held why ≡ Ok tt → held ≡ false
 not_faulty true why h = absurd cc
@@ -104,9 +150,6 @@ fits_from before (line ∷ lines) (suc i) d fit lt =
 
 pub fits_at : (lines : List Line) (i : ℕ) (d : Line) → Allows lines → i < length lines → Fits (take i lines) (get_or lines i d)
 fits_at lines i d fit lt = fits_from [] lines i d fit lt
-
-nothing_held : (name : ℕ) (names : List (Option Block)) → names ≡ [] → block_at names name ≡ None
-nothing_held name names e = ap (λ (os : List (Option Block)). block_at os name) e
 
 -- before the first line nothing has a name
 pub nothing_named : (names : List (Option Block)) → names ≡ [] → HoldsWithin [] names

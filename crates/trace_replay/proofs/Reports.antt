@@ -11,7 +11,7 @@ use Rattle.trace_replay.specs.Records.{records_of}
 use Rattle.trace_replay.specs.SerialText.{Run, has_lines, sections, replayed, started, run_text, reported, report_of}
 use Rattle.trace_replay.specs.Places.{shown_of}
 use Rattle.trace_replay.specs.Replays.{RefusesAs, AppendsRecords}
-use Rattle.trace_replay.specs.Tiling.{IsTiled, GivesTiles}
+use Rattle.trace_replay.specs.Tiling.{IsTiled, FitsWithin, GivesTiles}
 use Rattle.trace_replay.proofs.Refusals.{handed_on}
 
 -- the run over all lines from the world that a run begins with, w; then the sections on the world at the end, now
@@ -30,9 +30,10 @@ refused_report port t now_t lines kernel w exit same first h =
     (subst (λ (from : World _). RefusesAs exit (replayed port t lines from)) first (subst (λ (u : Tunables). RefusesAs exit (replayed port u lines w)) same h))
 
 -- what the lines give leaves a tiled world
-pub tiles_given : {K : Type 0} (port : Port K) (t now_t : Tunables) (lines : List Line) (kernel : K) (w : World K) {now : World K} {before out : List ℕ} → now_t ≡ t → w ≡ started t kernel → (run : Run K) × (replayed port now_t lines w ≡ Ok run) × AppendsRecords before out now run → IsTiled now → GivesTiles port t lines kernel
-tiles_given port t now_t lines kernel w same first run tiled = record {
+pub tiles_given : {K : Type 0} (port : Port K) (t now_t : Tunables) (lines : List Line) (kernel : K) (w : World K) {now : World K} {before out : List ℕ} → now_t ≡ t → w ≡ started t kernel → (run : Run K) × (replayed port now_t lines w ≡ Ok run) × AppendsRecords before out now run → IsTiled now → FitsWithin lines now.own.names → GivesTiles port t lines kernel
+tiles_given port t now_t lines kernel w same first run tiled fit = record {
   run = run.0;
   gives = ap (replayed port t lines) (sym first) ∙ (ap (λ (u : Tunables). replayed port u lines w) (sym same) ∙ run.1);
   tiled = subst IsTiled (sym run.2.world) tiled;
+  fit = subst (λ (w : World _). FitsWithin lines w.own.names) (sym run.2.world) fit;
 }

@@ -196,6 +196,10 @@ pub if_ok : {A E : Type 0} (P Q : A → Type 0) (r : Result A E) → ((x : A) �
 if_ok P Q (Ok x) f h = f x h
 if_ok P Q (Err e) f h = tt
 
+pub if_ok₂ : {A E : Type 0} (P R Q : A → Type 0) (r : Result A E) → ((x : A) → P x → R x → Q x) → IfOk r P → IfOk r R → IfOk r Q
+if_ok₂ P R Q (Ok x) f h k = f x h k
+if_ok₂ P R Q (Err e) f h k = tt
+
 pub on_ok : {A E : Type 0} (X : Type 0) (r : Result A E) → (is_ok r ≡ true → X) → OnOk r X
 on_ok X (Ok x) f = f refl
 on_ok X (Err e) f = tt

@@ -1,6 +1,7 @@
 -- Which names hold blocks, beside what the lines of the trace say of them (this project's own). No public clause cites this
 -- file.
-use Rattle.std.specs.Prelude.{◌≡◌, ℕ, Bool, false, List, Option, None}
+use Rattle.std.specs.Prelude.{◌≡◌, ℕ, Bool, false, ◌≤◌, List, Option, Some, None}
+use Rattle.chunk_tags.specs.Sizes.{chunk_size_of}
 use Rattle.chunk_tags.specs.declared.block.Block.{Block}
 use Rattle.malloc_calls.specs.Names.{block_at}
 use Rattle.malloc_calls.specs.declared.own.Own.{Own}
@@ -10,6 +11,7 @@ use Rattle.trace_text.specs.declared.trace.Call.TheVariants.{Malloc}
 use Rattle.trace_text.specs.declared.trace.Line.{Line}
 use Rattle.trace_text.specs.Before.{held_after, is_held}
 use Rattle.trace_text.specs.Spelling.{IsCall}
+use Rattle.trace_replay.specs.Tiling.{IsFit, asked_next}
 
 -- a name of thread 0 that isn't held behind these lines holds no block
 abbrev pub HoldsWithin : List Line → List (Option Block) → Type 0
@@ -25,15 +27,19 @@ pub record MayRun (line : Line) (names : List (Option Block)) : Type 0 where
   pub call : IsCall line.thread line.call
   pub free : line.thread ≡ 0 → IsFree line.call names
 
--- what a line leaves: a name that isn't held behind it holds no block, where that was so before
+-- what a line leaves: a name that isn't held behind it holds no block, where that was so before,
+-- and a block that has a name is large enough, where those before were
 pub record LeavesNames (line : Line) (before now : List (Option Block)) : Type 0 where
   pub thread : line.thread ≡ 0
   pub held : (name : ℕ) (was : Bool) → (was ≡ false → block_at before name ≡ None) → held_after name was line.call ≡ false →
       block_at now name ≡ None
+  pub fit : (name : ℕ) (was : Option ℕ) → ((b : Block) → block_at before name ≡ Some b → IsFit was b) →
+      (b : Block) → block_at now name ≡ Some b → IsFit (asked_next name line.call was) b
 
--- what malloc leaves: all other names hold what they held
-pub record KeepsOthers (name : ℕ) (names : List (Option Block)) (r : Reply × Own) : Type 0 where
+-- what malloc of a size leaves: all other names hold what they held, and a block that the name then holds is large enough
+pub record MakesName (name size : ℕ) (names : List (Option Block)) (r : Reply × Own) : Type 0 where
   pub others : (n : ℕ) → (n ≡ name → ⊥) → block_at r.1.names n ≡ block_at names n
+  pub made : (b : Block) → block_at r.1.names name ≡ Some b → chunk_size_of size ≤ b.size
 
 -- what free leaves: that, and the name holds nothing
 pub record EmptiesName (name : ℕ) (names : List (Option Block)) (r : Reply × Own) : Type 0 where

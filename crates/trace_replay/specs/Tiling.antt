@@ -1,7 +1,9 @@
 -- What is true of the world that a report shows: main is sound and fills its ranges, each used chunk stands in one place,
 -- and the mapped chunks are those that are counted (this project's own).
-use Rattle.std.specs.Prelude.{◌≡◌, ℕ, ◌+◌, ◌≤◌, List, slice_get, Some, Result, Ok, sum_by}
+use Rattle.std.specs.Prelude.{◌≡◌, ℕ, ◌+◌, ◌≤◌, ◌==◌, List, fold, slice_get, Option, Some, None, Result, Ok, sum_by, if◌then◌else◌}
 use Rattle.chunk_tags.specs.BinOrder.{times_in}
+use Rattle.chunk_tags.specs.Sizes.{chunk_size_of}
+use Rattle.chunk_tags.specs.declared.block.Block.{Block}
 use Rattle.chunk_tags.specs.declared.tiles.Chunk.{Chunk}
 use Rattle.chunk_tags.specs.declared.tunables.Tunables.{Tunables}
 use Rattle.address_space.specs.Ports.{Port}
@@ -11,6 +13,9 @@ use Rattle.arena_rules.specs.PlainArena.{IsSound, times_used}
 use Rattle.heap_top.specs.MainRanges.{IsMainFilled}
 use Rattle.malloc_calls.specs.declared.own.Own.{Own}
 use Rattle.malloc_calls.specs.Places.{weight_of, in_names, in_own, as_chunk_of, as_mapped, as_mapped_bytes}
+use Rattle.malloc_calls.specs.Names.{block_at}
+use Rattle.trace_text.specs.declared.trace.Call.{Call}
+use Rattle.trace_text.specs.declared.trace.Call.TheVariants.{Malloc}
 use Rattle.trace_text.specs.declared.trace.Line.{Line}
 use Rattle.trace_replay.specs.declared.exit.Exit.{Exit}
 use Rattle.trace_replay.specs.World.{World}
@@ -43,11 +48,30 @@ pub record IsTiled {K : Type 0} (w : World K) : Type 0 where
   pub mapped : in_own w.own as_mapped ≡ w.serial.dials.mapped
   pub bytes : in_own w.own as_mapped_bytes ≡ w.serial.dials.bytes
 
--- lines give a run whose world is such
+-- the size that a call asks for under a name, else the one that was asked for before
+abbrev pub asked_next : ℕ → Call → Option ℕ → Option ℕ
+asked_next name (Malloc made size) was = if made == name then Some size else was
+asked_next name call was = was
+
+-- the size that thread 0 last asked for under a name
+unfoldable pub asked_size : List Line → ℕ → Option ℕ
+asked_size lines name = fold (λ was line. if line.thread == 0 then asked_next name line.call was else was) None lines
+
+-- a block is large enough for the size that was asked for
+abbrev pub IsFit : Option ℕ → Block → Type 0
+IsFit None b = ⊥
+IsFit (Some request) b = chunk_size_of request ≤ b.size
+
+-- each block that has a name is large enough for what was last asked for under it
+abbrev pub FitsWithin : List Line → List (Option Block) → Type 0
+FitsWithin lines names = (name : ℕ) (b : Block) → block_at names name ≡ Some b → IsFit (asked_size lines name) b
+
+-- lines give a run whose world is such, and whose blocks fit
 pub record GivesTiles {K : Type 0} (port : Port K) (t : Tunables) (lines : List Line) (kernel : K) : Type 0 where
   pub run : Run K
   pub gives : replayed port t lines (started t kernel) ≡ Ok run
   pub tiled : IsTiled run.world
+  pub fit : FitsWithin lines run.world.own.names
 
 -- so does a job, over the port of thread 0
 pub record ShowsTiles {K : Type 0} (port : Port K) (kernels : List K) (rules : Result Job Exit) : Type 0 where

@@ -28,7 +28,7 @@ impl<K: Kernel> Process<K> {
     ghost use Rattle.malloc_calls.specs.SerialWays.{EndsAs};
     ghost use Rattle.arena_rules.specs.Rules.{windows_of};
     ghost use Rattle.trace_replay.specs.Halts.{Yields};
-    ghost use Rattle.trace_replay.specs.Naming.{MayRun, LeavesNames, KeepsOthers, EmptiesName};
+    ghost use Rattle.trace_replay.specs.Naming.{MayRun, LeavesNames, MakesName, EmptiesName};
     ghost use Rattle.trace_replay.specs.Processes.{world_of, tells, IsSettled, Calls, Plays};
     ghost use Rattle.trace_replay.specs.World.{opening_world, with_place, is_answered, called, step};
 
@@ -62,7 +62,7 @@ impl<K: Kernel> Process<K> {
         requires settled { IsSettled self.old }
         ensures told { IsTrue (tells K.port self.old) → IfOk result (λ reply.
             Plays K.port line.now (malloc_call self.old.t 0 name size (with_place name (own_of self.old.thread))) self.old reply self.new) }
-        ensures names { IfOk result (λ reply. KeepsOthers name (readied name (names_of self.old.thread)) (reply, own_of self.new.thread)) }
+        ensures names { IfOk result (λ reply. MakesName name size (readied name (names_of self.old.thread)) (reply, own_of self.new.thread)) }
         ensures settled { OnOk result (IsSettled self.new) }
         ensures tunables { self.new.t ≡ self.old.t }
     {

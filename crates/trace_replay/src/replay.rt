@@ -5,6 +5,7 @@ ghost use Rattle.std.specs.List.{All};
 ghost use Rattle.malloc_calls.specs.Own.{names_of};
 ghost use Rattle.trace_replay.specs.Headline.{IsHalt, IsNumbered};
 ghost use Rattle.trace_replay.specs.Naming.{MayRun, LeavesNames, HoldsWithin};
+ghost use Rattle.trace_replay.specs.Tiling.{FitsWithin};
 ghost use Rattle.trace_replay.specs.Replays.{Serves, AppendsRecord, AppendsRecords};
 ghost use Rattle.trace_replay.specs.SerialText.{answer_of, replayed};
 ghost use Rattle.trace_text.specs.Spelling.{Allows, spelling_of, texts_of};
@@ -77,6 +78,7 @@ pub fn replay<K: Kernel>(
     requires texts { texts ≡ texts_of lines.now }
     ensures told { IsTrue (tells K.port process.old) → Serves (λ _ run. AppendsRecords out.old.items out.new.items (world_of process.new) run) result (replayed K.port process.old.t lines.now (world_of process.old)) }
     ensures settled { OnOk result (IsSettled process.new) }
+    ensures fit { OnOk result (FitsWithin lines.now (names_of process.new.thread)) }
     ensures kind { IfErr result IsHalt }
 {
     for line in lines {

@@ -1,8 +1,11 @@
-use Rattle.std.proofs.Common.{refl, subst, ◌∙◌}
-use Rattle.std.proofs.lemmas.List.{drop_all}
+use Rattle.std.proofs.Common.{List, refl, subst, ◌∙◌}
+use Rattle.std.proofs.lemmas.List.{drop_all, take_all}
 use Rattle.std.proofs.lemmas.Result.{err_from_is_err_and}
+use Rattle.malloc_calls.specs.Own.{names_of}
+use Rattle.trace_text.specs.declared.trace.Line.{Line}
+use Rattle.trace_replay.specs.Tiling.{FitsWithin}
 use Rattle.trace_replay.specs.Processes.{world_of}
-use Rattle.trace_replay.proofs.HeldNames.{nothing_named, names_next, may_run, fits_at}
+use Rattle.trace_replay.proofs.HeldNames.{nothing_named, nothing_fits, names_next, fits_next, may_run, fits_at}
 use Rattle.trace_replay.proofs.ReplayLoop.{SoFar, nothing_yet, goes_on, next_texts, ends, finished}
 use Rattle.trace_replay.proofs.replay.replay.Goals as goal
 
@@ -10,6 +13,7 @@ pub loop-line-init : goal.loop-line-init
 loop-line-init g c = record {
   texts = c.requires.texts;
   names = nothing_named _ c.requires.unnamed;
+  fit = nothing_fits _ c.requires.unnamed;
   settled = c.requires.settled;
   tunables = refl;
   told = λ h. (h, nothing_yet _ _ _ _ _);
@@ -23,6 +27,7 @@ pub loop-line-preserved : goal.loop-line-preserved
 loop-line-preserved g c = record {
   texts = next_texts _ _ _ _ c.take.result.now c.loop-line-test.true c.loop-line.invariant.texts c.take.ensures;
   names = names_next _ c.loop-line.line-index _ _ _ c.loop-line-test.true c.loop-line.invariant.names c.in_ok-replay_line.ensures.names;
+  fit = fits_next _ c.loop-line.line-index _ _ _ c.loop-line-test.true c.loop-line.invariant.fit c.in_ok-replay_line.ensures.names;
   settled = c.in_ok-replay_line.ensures.settled;
   tunables = c.replay_line.ensures.tunables ∙ c.loop-line.invariant.tunables;
   told = λ h.
@@ -44,3 +49,7 @@ returns-in_err-replay_line-clause-told g c h =
     let p = err_from_is_err_and c.from_residual.result c.from_residual.ensures.1 in
     let so_far = c.loop-line.invariant.told h in
     rw (p.1, p.2) (ends _ _ _ _ c.loop-line.line-index _ _ _ _ _ _ c.loop-line.invariant.tunables c.loop-line-test.true so_far.1 (c.in_err-replay_line.ensures.told so_far.0))
+
+pub returns-clause-fit : goal.returns-clause-fit
+returns-clause-fit g c =
+    subst (λ (lines : List Line). FitsWithin lines (names_of c.loop-line.process.thread)) (take_all c.loop-line.line-index c.args.lines.now c.loop-line-test.false) c.loop-line.invariant.fit

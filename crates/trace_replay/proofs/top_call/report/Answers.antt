@@ -28,4 +28,4 @@ returns-clause-tiled g c h =
     let first : world_of c.in_ok-process.process ≡ started c.args.t.now c.args.kernel = c.in_ok-process.ensures.world ∙ ap (opening_world c.args.t.now) c.new.ensures in
     tiles_given _ _ _ _ _ _ c.in_ok-process.ensures.tunables first
     (c.in_ok-replay.ensures.told (subst (λ (w : World _). IsTrue (g.K.Kernel.port.tells w.serial.space.kernel)) (sym first) h))
-    c.in_ok-shown.ensures.tiled
+    c.in_ok-shown.ensures.tiled c.in_ok-replay.ensures.fit
