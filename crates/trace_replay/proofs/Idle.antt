@@ -52,7 +52,7 @@ idle_tiles found (t ∷ ts) =
 pub idle_in_main : (a : Plain) (found : List Found) → IsMainFilled a → idle_bytes_of (shown_tiles found a.tiles) ≤ a.system
 idle_in_main a found filled = omega (arith, idle_tiles found a.tiles, filled.placed.system)
 
-pub system_fits : (a : Plain) → IsMainFilled a → a.system < 2 ^ 63
+pub system_fits : (a : Plain) → IsMainFilled a → a.system < 2 ^ 32
 system_fits a filled =
     omega (arith, filled.system, filled.placed.limit, filled.placed.piece_limit)
 

@@ -1,5 +1,5 @@
 -- The places serve the thread through its calls.
-use Rattle.std.proofs.Common.{◌≡◌, ℕ, zero, suc, ◌+◌, ◌-◌, ◌≤◌, Bool, true, false, List, [], ◌∷◌, ◌++◌, length, replicate, Option, Some, None, Result, Ok, Err, IsTrue, refl, sym, ap, ◌∙◌, subst, arith}
+use Rattle.std.proofs.Common.{◌≡◌, ℕ, zero, suc, ◌+◌, ◌-◌, ◌^◌, ◌<◌, ◌≤◌, Bool, true, false, List, [], ◌∷◌, ◌++◌, length, replicate, Option, Some, None, Result, Ok, Err, IsTrue, refl, sym, ap, ◌∙◌, subst, arith}
 use Rattle.std.specs.Prelude.{◌&&◌, nat_eq, is_some, sum_by, is_ok, IfOk, OnOk}
 use Rattle.std.proofs.lemmas.List.Sums.{sum_by-cons, sum_by-append}
 use Rattle.chunk_tags.specs.BinOrder.{times_in}
@@ -11,7 +11,10 @@ use Rattle.arena_rules.specs.Rules.{windows_of}
 use Rattle.chunk_tags.specs.declared.tunables.Tunables.{Tunables}
 use Rattle.address_space.specs.declared.space.Space.{Space}
 use Rattle.address_space.specs.Ports.{Port}
-use Rattle.address_space.specs.Spaces.{space_tells}
+use Rattle.address_space.specs.Spaces.{space_tells, map_place}
+use Rattle.arena_core.specs.declared.arena.Arena.{Arena}
+use Rattle.arena_ground.specs.Grounds.{GroundView}
+use Rattle.mapped_chunks.specs.declared.plain.DialState.{DialState}
 use Rattle.arena_core.specs.declared.journal.Who.{Who}
 use Rattle.malloc_calls.specs.declared.own.Own.{Own}
 use Rattle.malloc_calls.specs.declared.thread.Thread.{Thread}
@@ -22,7 +25,7 @@ use Rattle.malloc_calls.specs.Calls.{Call}
 use Rattle.malloc_calls.specs.Going.{Does}
 use Rattle.malloc_calls.specs.Places.{KeptArena, kept, Hands, weight_of, in_names, in_own, both_of, as_chunk_of, as_mapped, as_mapped_bytes, Covers, Standing, standing, IsServed, Carries}
 use Rattle.malloc_calls.specs.Playing.{PlainPort}
-use Rattle.malloc_calls.specs.SerialWays.{SerialState, SerialWorld, IsFirst, is_there, Serves, serial_ways, serial_setting, world_at, played_call}
+use Rattle.malloc_calls.specs.SerialWays.{SerialState, SerialWorld, IsFirst, EndsAs, is_there, Serves, serial_ways, serial_setting, world_at, played_call}
 use Rattle.malloc_calls.proofs.Serving.{IsAt, PlaysTo, plays_call}
 use Rattle.trace_replay.specs.Processes.{serial_world}
 use Rattle.trace_replay.specs.World.{with_place}
@@ -149,6 +152,18 @@ served_next well t given got old new c s = record {
   windows = c.windows ∙ s.windows;
   home = c.there 0 ∙ s.home;
 }
+
+-- ---- at the end
+
+some_same : {A : Type 0} {o : Option A} (x y : A) → o ≡ Some x → o ≡ Some y → x ≡ y
+some_same x y e f = cc
+
+-- the bytes of mapped chunks are no more than the threads were given
+pub bytes_fit : {K : Type 0} (t : Tunables) (hands : Hands) (st : SerialState) (space : Space K) (arenas : List (Arena GroundView)) (fast : List (List ℕ)) (words : DialState) →
+    EndsAs st arenas fast words → IsServed (serial_ways (λ (s : SerialState). s)) t hands (standing st space) → map_place space < 2 ^ 64 → words.bytes + 2 ^ 32 < 2 ^ 64
+bytes_fit t hands st space arenas fast words ends served place =
+    let same : served.notes.port ≡ ends.port = some_same served.notes.port ends.port served.notes.port_at ends.port_at in
+    omega (arith, served.notes.bytes, served.notes.windows, ap (λ (p : PlainPort). p.dials.state.bytes) same, ap (λ (d : DialState). d.bytes) ends.words_are)
 
 -- ---- over a kernel that tells
 

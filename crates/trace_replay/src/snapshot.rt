@@ -69,7 +69,7 @@ fn main_view(
     requires { length ground.now.arena.bins ≡ 127 }
     ensures shown { IfOk result (λ a. a ≡ main_with ground.now.arena finds.now (lists_of fast.items)) }
     ensures idle { IfOk result (λ a. idle_bytes_of a.tiles ≤ a.system) }
-    ensures fits { IfOk result (λ a. a.system < 2 ^ 63) }
+    ensures fits { IfOk result (λ a. a.system < 2 ^ 32) }
 {
     ground.laws();
     let bins = bins(alloc, ground)?;
