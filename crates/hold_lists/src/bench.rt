@@ -45,7 +45,7 @@ impl From<NoMemory> for Halt {
 
 /// What became of a block that was given back.
 #[derive(Clone, Copy, Debug, PartialEq, Eq)]
-pub enum Freed {
+pub enum FreeAnswer {
     /// There is none.
     Skipped,
     /// It is in the cache.
@@ -59,7 +59,7 @@ pub enum Freed {
 }
 
 /// The words as they start.
-fn starting(t: &Tunables) -> PlainDials {
+fn first_words(t: &Tunables) -> PlainDials {
     PlainDials {
         state: DialState {
             mmap_threshold: t.mmap_threshold,
@@ -101,7 +101,7 @@ impl Bench {
             },
             port: Both {
                 bins: PlainFast::new(alloc),
-                dials: starting(t),
+                dials: first_words(t),
             },
             cache: Cache::closed(),
             space: Space::new(budget, 0, windows),
@@ -142,7 +142,7 @@ impl Bench {
     }
 
     /// Main is searched, and where that is refused once more, as the only arena that there is.
-    fn taken(
+    fn search_twice(
         &mut self,
         alloc: Global,
         line: u64,
@@ -169,7 +169,7 @@ impl Bench {
         if self.cache.is_open() {
             return Ok(());
         }
-        let Some(structure) = self.taken(alloc, line, STRUCTURE_SIZE, t)? else {
+        let Some(structure) = self.search_twice(alloc, line, STRUCTURE_SIZE, t)? else {
             return Ok(());
         };
         if self.cache.is_open() {
@@ -185,7 +185,7 @@ impl Bench {
     }
 
     /// The newest cached block of a size.
-    fn cached(&mut self, nb: Size, t: &Tunables) -> Option<Block>
+    fn newest_cached(&mut self, nb: Size, t: &Tunables) -> Option<Block>
         requires kept { IsKept t.now self.old no_chunk }
         ensures { IsKept t.now self.new (chunks_of result) }
     {
@@ -209,9 +209,9 @@ impl Bench {
         ensures { IfOk result (λ found. IsKept t.now self.new (chunks_of found)) }
     {
         self.open_cache(alloc, line, t)?;
-        match self.cached(nb, t) {
+        match self.newest_cached(nb, t) {
             Some(block) => Ok(Some(block)),
-            None => self.taken(alloc, line, nb, t),
+            None => self.search_twice(alloc, line, nb, t),
         }
     }
 
@@ -262,14 +262,14 @@ impl Bench {
     }
 
     /// Puts a block into the cache, which has room for it.
-    fn cache_block(&mut self, block: Block, t: &Tunables) -> Result<Freed, Halt>
+    fn cache_block(&mut self, block: Block, t: &Tunables) -> Result<FreeAnswer, Halt>
         requires kept { IsKept t.now self.old (chunks_of (Some block)) }
         requires main { block.arena ≡ Some 0 }
         requires sound { IfSome self.old.cache IsSoundCache }
         ensures { OnOk result (IsKept t.now self.new no_chunk) }
     {
         match self.cache.put(block) {
-            Ok(()) => Ok(Freed::Cached),
+            Ok(()) => Ok(FreeAnswer::Cached),
             Err(_back) => Err(Halt::Odd),
         }
     }
@@ -309,7 +309,7 @@ impl Bench {
         line: u64,
         block: Block,
         t: &Tunables,
-    ) -> Result<Freed, Halt>
+    ) -> Result<FreeAnswer, Halt>
         requires kept { IsKept t.now self.old (chunks_of (Some block)) }
         requires main { block.arena ≡ Some 0 }
         requires tuned { IsTuned t.now }
@@ -320,10 +320,10 @@ impl Bench {
         }
         if block.size.0 <= t.max_fast {
             self.push(&block, t)?;
-            return Ok(Freed::Fast);
+            return Ok(FreeAnswer::Fast);
         }
         self.give(alloc, line, block, t)?;
-        Ok(Freed::Given)
+        Ok(FreeAnswer::Given)
     }
 
     /// free of the block that was taken at an index.
@@ -333,7 +333,7 @@ impl Bench {
         line: u64,
         index: usize,
         t: &Tunables,
-    ) -> Result<Freed, Halt>
+    ) -> Result<FreeAnswer, Halt>
         requires kept { IsKept t.now self.old no_chunk }
         requires tuned { IsTuned t.now }
         ensures { OnOk result (IsKept t.now self.new no_chunk) }
@@ -342,11 +342,11 @@ impl Bench {
             self.open_cache(alloc, line, t)?;
         }
         let Some(block) = self.take_back(index, t) else {
-            return Ok(Freed::Skipped);
+            return Ok(FreeAnswer::Skipped);
         };
         if block.arena.is_none() {
             self.unmap(block, t)?;
-            return Ok(Freed::Unmapped);
+            return Ok(FreeAnswer::Unmapped);
         }
         if block.arena != Some(0) {
             return Err(Halt::Odd);

@@ -5,8 +5,8 @@ ghost use Rattle.chunk_tags.specs.Tunables.{IsTuned};
 ghost use Rattle.consolidate_trim.specs.Holds.{no_chunk};
 ghost use Rattle.hold_lists.specs.Kept.{IsKept};
 
-use crate::bench::{Bench, Freed, Halt};
-use Freed::{Cached, Fast, Given, Unmapped};
+use crate::bench::{Bench, FreeAnswer, Halt};
+use FreeAnswer::{Cached, Fast, Given, Unmapped};
 use Step::{Free, Malloc};
 use address_space::Budget;
 use arena_core::Arena;
@@ -21,7 +21,7 @@ enum Step {
     /// malloc of so many bytes gives a block at an address, of a size.
     Malloc(u64, u64, u64),
     /// What becomes of the block of an earlier step.
-    Free(usize, Freed),
+    Free(usize, FreeAnswer),
 }
 
 /// What main is at the end of a list.

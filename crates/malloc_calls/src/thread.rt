@@ -4,7 +4,7 @@ ghost use Rattle.std.specs.Prelude.{◌≡◌, ◌-◌, ◌^◌, ◌<◌, ◌≤
 ghost use Rattle.std.specs.Option.{option_map};
 ghost use Rattle.chunk_tags.specs.Tunables.{IsTuned};
 ghost use Rattle.address_space.specs.Ports.{Rose};
-ghost use Rattle.address_space.specs.Spaces.{space_refusals};
+ghost use Rattle.address_space.specs.Spaces.{space_refusals, map_place};
 ghost use Rattle.consolidate_trim.specs.Outside.{means};
 ghost use Rattle.malloc_calls.specs.Calls.{malloc_call, free_call, FitsReply};
 ghost use Rattle.malloc_calls.specs.declared.reply.Reply.TheVariants.{Null};
@@ -75,6 +75,13 @@ impl<K: Kernel> Thread<K> {
         ensures { result.now ≡ (own_of self.now).cache }
     {
         &self.own.cache
+    }
+
+    /// A law; the call does nothing. The place of the next mapping is an address.
+    pub fn laws(&self)
+        ensures { map_place (space_of self.now) < 2 ^ 64 }
+    {
+        let _ = self.space.map_place();
     }
 
     /// malloc, where the cache has a chunk for it. `None` exactly where the size is past `MAX_REQUEST`, its chunk is too large
