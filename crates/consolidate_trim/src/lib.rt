@@ -14,3 +14,6 @@ pub use consolidating::consolidate;
 pub use merging::{Merged, merge};
 pub use releasing::{give, release, settle};
 pub use trimming::trim_main;
+
+#[cfg(test)]
+mod tests;
