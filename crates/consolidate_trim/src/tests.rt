@@ -92,6 +92,32 @@ fn expect_sizes(
     Ok(())
 }
 
+/// Unsorted has these chunks, front first.
+fn expect_unsorted(
+    rt: &impl Abort,
+    alloc: Global,
+    g: &Ground,
+    want: &[u64],
+) -> Result<(), NoMemory> {
+    let unsorted = g.bin(alloc, 1)?;
+    assert_eq!(rt; unsorted.len(), want.len());
+    for (at, want) in unsorted.iter().zip(want) {
+        assert_eq!(rt; at.0, *want);
+    }
+    Ok(())
+}
+
+/// The first answers are these chunks of the fast bins, 0 for none.
+fn expect_given(rt: &impl Abort, said: &[Said], want: &[u64]) {
+    for (answer, want) in said.iter().zip(want) {
+        let at = match answer {
+            Said::Own(Some(at)) => at.0,
+            _ => 0,
+        };
+        assert_eq!(rt; at, *want);
+    }
+}
+
 #[test]
 fn neighbours_are_merged(rt: HostRuntime) -> Result<(), Fail> {
     let alloc = rt.alloc();
@@ -114,8 +140,7 @@ fn neighbours_are_merged(rt: HostRuntime) -> Result<(), Fail> {
     assert_eq!(rt; merged, Merged::Unsorted(Size(800)));
     let merged = merge_own(&rt, alloc, &mut g, a)?;
     assert_eq!(rt; merged, Merged::Unsorted(Size(960)));
-    let unsorted = g.bin(alloc, 1)?;
-    assert_eq!(rt; unsorted.as_slice(), [Addr(START)].as_slice());
+    expect_unsorted(&rt, alloc, &g, &[START])?;
     expect_sizes(
         &rt,
         alloc,
@@ -130,7 +155,7 @@ fn neighbours_are_merged(rt: HostRuntime) -> Result<(), Fail> {
     // a free one before it, and top behind it
     let merged = merge_own(&rt, alloc, &mut g, f)?;
     assert_eq!(rt; merged, Merged::Top(Size(135_168)));
-    assert_eq!(rt; g.bin(alloc, 1)?.len(), 0);
+    expect_unsorted(&rt, alloc, &g, &[])?;
     expect_sizes(&rt, alloc, &g, &[(135_168, TileKind::Top)])?;
     Ok(())
 }
@@ -199,27 +224,22 @@ fn two_fast_bins_are_merged(rt: HostRuntime) -> Result<(), Fail> {
     for nb in [32, 48, 64, 32, 48, 64, 48] {
         cut(&rt, &mut g, nb);
     }
-    let mut said = answers(&rt, alloc, &mut g)?;
+    let said = answers(&rt, alloc, &mut g)?;
     assert_eq!(rt; said.len(), 15);
-    said.truncate(7);
-    assert_eq!(rt;
-        said.as_slice(),
-        [
-            Said::Own(Some(Addr(0x5555_5555_9090))),
-            Said::Own(Some(Addr(0x5555_5555_9000))),
-            Said::Own(None),
-            Said::Own(Some(Addr(0x5555_5555_9120))),
-            Said::Own(Some(Addr(0x5555_5555_90b0))),
-            Said::Own(Some(Addr(0x5555_5555_9020))),
-            Said::Own(None),
-        ]
-        .as_slice()
+    expect_given(
+        &rt,
+        &said,
+        &[
+            0x5555_5555_9090,
+            0x5555_5555_9000,
+            0,
+            0x5555_5555_9120,
+            0x5555_5555_90b0,
+            0x5555_5555_9020,
+            0,
+        ],
     );
-    let unsorted = g.bin(alloc, 1)?;
-    assert_eq!(rt;
-        unsorted.as_slice(),
-        [Addr(0x5555_5555_9000), Addr(0x5555_5555_9090)].as_slice()
-    );
+    expect_unsorted(&rt, alloc, &g, &[0x5555_5555_9000, 0x5555_5555_9090])?;
     expect_sizes(
         &rt,
         alloc,
