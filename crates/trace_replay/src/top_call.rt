@@ -184,10 +184,10 @@ pub fn run<S: Source, W: Sink, K: Kernel, G: Gate>(
     // Nothing is written where the words are refused, whatever the source tells.
     ensures word { IsErr (asked_of words.now) → IsUnwritten result }
 
-    // A text that was written shows a world in which main is sound and fills its ranges, and each used chunk stands in one
-    // place.
-    ensures tiled { (bytes : List ℕ) → Told S.supply K.port source.old kernels.items bytes → result ≡ Exit.Done →
-        ShowsTiles K.port kernels.items (job_of (asked_of words.now) bytes) }
+    // A text that was written shows a world in which main is sound and fills its ranges, and each used
+    // chunk stands in one place.
+    ensures tiled { (bytes : List ℕ) → Told S.supply K.port source.old kernels.items bytes →
+        result ≡ Exit.Done → ShowsTiles K.port kernels.items (job_of (asked_of words.now) bytes) }
 {
     match text(alloc, words, source, kernels) {
         Ok(text) => match write_text(sink, text.as_slice()) {
