@@ -1,6 +1,6 @@
 //! The places of one order of calls.
 
-ghost use Rattle.std.specs.Prelude.{map, IfOk};
+ghost use Rattle.std.specs.Prelude.{◌≡◌, length, map, IfOk};
 ghost use Rattle.chunk_tags.specs.Tunables.{IsTuned};
 ghost use Rattle.malloc_calls.specs.SerialWays.{IsIdle, IsFirst, EndsAs};
 
@@ -75,7 +75,8 @@ impl Serial {
     /// What it has at the end.
     pub fn end(self, alloc: Global) -> Result<SerialEnd, NoMemory>
         requires { IsIdle self }
-        ensures { IfOk result (λ e. EndsAs self e.arenas.items (map (λ l. l.items) e.fast.items) e.dials) }
+        ensures ends { IfOk result (λ e. EndsAs self e.arenas.items (map (λ l. l.items) e.fast.items) e.dials) }
+        ensures ten { IfOk result (λ e. length e.fast.items ≡ 10) }
     {
         let port = self.port.unwrap();
         let main = self.main.unwrap();

@@ -4,6 +4,7 @@ mod HeldNames
 mod Refusals
 mod Idle
 mod Placing
+mod Finding
 mod Tiles
 mod Serving
 mod ReplayLoop

@@ -1,10 +1,12 @@
 -- What is true of the world that a report shows: main is sound and fills its ranges, each used chunk stands in one place,
--- and the mapped chunks are those that are counted (this project's own).
-use Rattle.std.specs.Prelude.{◌≡◌, ℕ, ◌+◌, ◌≤◌, ◌==◌, List, fold, slice_get, Option, Some, None, Result, Ok, sum_by, if◌then◌else◌}
+-- the mapped chunks are those that are counted, no tile of main is left out of the report, and the blocks fit (this
+-- project's own).
+use Rattle.std.specs.Prelude.{◌≡◌, ℕ, ◌+◌, ◌≤◌, ◌==◌, List, map, fold, slice_get, Option, Some, None, Result, Ok, sum_by, if◌then◌else◌}
 use Rattle.chunk_tags.specs.BinOrder.{times_in}
 use Rattle.chunk_tags.specs.Sizes.{chunk_size_of}
 use Rattle.chunk_tags.specs.declared.block.Block.{Block}
 use Rattle.chunk_tags.specs.declared.tiles.Chunk.{Chunk}
+use Rattle.chunk_tags.specs.declared.tiles.Tile.{Tile}
 use Rattle.chunk_tags.specs.declared.tunables.Tunables.{Tunables}
 use Rattle.address_space.specs.Ports.{Port}
 use Rattle.thread_cache.specs.Caches.{blocks_of, structure_of}
@@ -16,8 +18,11 @@ use Rattle.malloc_calls.specs.Places.{weight_of, in_names, in_own, as_chunk_of, 
 use Rattle.malloc_calls.specs.Names.{block_at}
 use Rattle.trace_text.specs.declared.trace.Call.{Call}
 use Rattle.trace_text.specs.declared.trace.Call.TheVariants.{Malloc}
+use Rattle.stats_text.specs.declared.views.TileView.{TileView}
+use Rattle.stats_text.specs.Totals.{in_use_of, in_use_bytes_of}
 use Rattle.trace_text.specs.declared.trace.Line.{Line}
 use Rattle.trace_replay.specs.declared.exit.Exit.{Exit}
+use Rattle.trace_replay.specs.Places.{main_of}
 use Rattle.trace_replay.specs.World.{World}
 use Rattle.trace_replay.specs.SerialText.{Run, Job, started, replayed}
 
@@ -37,8 +42,16 @@ times_structure own e = weight_of (structure_of own.cache) (as_chunk_of 0 e)
 abbrev pub times_fast : FastState → Chunk → ℕ
 times_fast s e = times_in e (chunks_of s)
 
+-- where a tile of main lies, and where one of the report does: address and size
+abbrev pub tile_span : Tile → ℕ × ℕ
+tile_span t = (t.addr, t.size)
+
+abbrev pub view_span : TileView → ℕ × ℕ
+view_span t = (t.addr, t.size)
+
 -- Main is sound, and its tiles fill its break and its pieces. A used chunk stands just once: under a name, in the cache, as
--- its structure, or in a fast bin; and what stands there is used. The mapped chunks are those that the words count.
+-- its structure, or in a fast bin; and what stands there is used. The mapped chunks are those that the words count. Each
+-- tile of main is shown, and the bytes in use are those of the tiles that are neither free nor top nor in a fast bin.
 pub record IsTiled {K : Type 0} (w : World K) : Type 0 where
   pub sound : IsSound w.serial.main.arena
   pub filled : IsMainFilled w.serial.main.arena
@@ -47,6 +60,8 @@ pub record IsTiled {K : Type 0} (w : World K) : Type 0 where
       ≡ times_used e w.serial.main.arena
   pub mapped : in_own w.own as_mapped ≡ w.serial.dials.mapped
   pub bytes : in_own w.own as_mapped_bytes ≡ w.serial.dials.bytes
+  pub shown : map view_span (main_of w).tiles ≡ map tile_span w.serial.main.arena.tiles
+  pub in_use : in_use_of (main_of w) ≡ in_use_bytes_of (main_of w).tiles
 
 -- the size that a call asks for under a name, else the one that was asked for before
 abbrev pub asked_next : ℕ → Call → Option ℕ → Option ℕ

@@ -1,6 +1,6 @@
 //! Thread 0 over the places of one order of calls: a line of a trace is a call.
 
-ghost use Rattle.std.specs.Prelude.{◌≡◌, ◌≤◌, ◌<◌, ◌+◌, ◌^◌, map, None, IsTrue, IfOk, OnOk};
+ghost use Rattle.std.specs.Prelude.{◌≡◌, ◌≤◌, ◌<◌, ◌+◌, ◌^◌, length, map, None, IsTrue, IfOk, OnOk};
 ghost use Rattle.chunk_tags.specs.Tunables.{IsTuned};
 ghost use Rattle.malloc_calls.specs.Own.{number_of};
 
@@ -103,6 +103,7 @@ impl<K: Kernel> Process<K> {
     pub fn end(self, alloc: Global) -> Result<SerialEnd, NoMemory>
         requires { IsSettled self }
         ensures ends { IfOk result (λ e. EndsAs self.serial e.arenas.items (map (λ l. l.items) e.fast.items) e.dials) }
+        ensures ten { IfOk result (λ e. length e.fast.items ≡ 10) }
         ensures bytes { IfOk result (λ e. e.dials.bytes + 2 ^ 32 < 2 ^ 64) }
     {
         self.thread.laws();
