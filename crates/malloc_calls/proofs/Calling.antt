@@ -1,11 +1,12 @@
 -- Laws of the parts of a call: opening the cache, and a chunk from an arena.
-use Rattle.std.proofs.Common.{◌≡◌, ℕ, ◌+◌, ◌<◌, ◌≤◌, Bool, true, false, List, [], ◌∷◌, Option, Some, None, length, ◌⊎◌, inl, inr, refl, sym, ap, ◌∙◌, subst, arith}
-use Rattle.std.specs.Prelude.{Result, Ok, Err, IfOk, IfSome, OnErr, nat_le}
-use Rattle.chunk_tags.specs.Sizes.{structure_size, padded_request, fast_index_of}
+use Rattle.std.proofs.Common.{◌≡◌, ℕ, zero, suc, ◌+◌, ◌<◌, ◌≤◌, Bool, true, false, cond, List, [], ◌∷◌, Option, Some, None, length, ◌⊎◌, inl, inr, refl, sym, ap, ◌∙◌, subst, arith}
+use Rattle.std.specs.Prelude.{Result, Ok, Err, IfOk, IsSome, IfSome, OnErr, nat_le}
+use Rattle.chunk_tags.specs.Sizes.{structure_size, padded_request, chunk_size_of, fast_index_of}
 use Rattle.chunk_tags.specs.declared.block.Block.{Block}
 use Rattle.chunk_tags.specs.declared.tunables.Tunables.{Tunables}
 use Rattle.address_space.specs.declared.space.Space.{Space}
 use Rattle.thread_cache.specs.Caches.{CacheValue, is_open, takes, with_newest}
+use Rattle.arena_core.specs.Arenas.{need_of}
 use Rattle.arena_core.specs.declared.journal.Who.{Who}
 use Rattle.malloc_calls.specs.Names.{block_at, with_block, without_block}
 use Rattle.malloc_calls.specs.Own.{newest_of_size, without_newest_of}
@@ -15,8 +16,8 @@ use Rattle.malloc_calls.specs.declared.reply.To.TheVariants as sinks
 use Rattle.malloc_calls.specs.declared.reply.Origin.TheVariants.{Cached}
 use Rattle.malloc_calls.specs.declared.own.Own.{Own}
 use Rattle.malloc_calls.specs.declared.reply.Reply.{Reply}
-use Rattle.malloc_calls.specs.Places.{PlaceWays, Setting, Standing, standing, Hands, both_of, Carries, weight_of, in_names, in_cache, in_own}
-use Rattle.malloc_calls.specs.Calls.{to_cache, past_cache, free_call, freed_block, without_name, from_arena, from_cache, malloc_call, opening, opened_in, answered, reply_of, named_as, taken_of, with_cache, FitsChunk}
+use Rattle.malloc_calls.specs.Places.{PlaceWays, Setting, Standing, standing, both_of, Carries, weight_of, in_names, in_cache, in_own}
+use Rattle.malloc_calls.specs.Calls.{to_cache, past_cache, free_call, freed_block, without_name, from_arena, from_cache, malloc_call, opening, opened_in, answered, reply_of, named_as, taken_of, with_cache, FitsName}
 use Rattle.malloc_calls.specs.Going as going
 use Rattle.malloc_calls.specs.Going.{Does, Pushed, here, idled, pushed, freed}
 use Rattle.malloc_calls.specs.Holding.{Takes, Gives, FreesMapped, PushesWithRoom}
@@ -82,11 +83,44 @@ pub own_unnamed : (own : Own) (name : ℕ) (b : Block) (cache : CacheValue) (lef
     in_own own weigh ≡ both_of (λ w. w b) (in_own (record { cache = cache; names = left })) weigh
 own_unnamed own name b cache left at same e weigh = rw (same, e) (omega (arith, in_names-without name b own.names at weigh))
 
--- what a hold found is large enough, and nothing is answered only where nothing was found
-pub fits_found : (nb place : ℕ) (block : Option Block) (reply : Reply) → reply ≡ reply_of place block → IfSome block (λ b. nb ≤ b.size) → FitsChunk nb reply
-fits_found nb place None reply e fits = rw e tt
-fits_found nb place (Some b) reply e fits = rw e fits
+-- ---- what a name has is large enough
 
+-- the block that a name was given
+pub given_name : (names : List (Option Block)) (name : ℕ) (a b : Block) → block_at (with_block name a names) name ≡ Some b → a ≡ b
+given_name [] name a b e = absurd cc
+given_name (o ∷ os) zero a b e = cc
+given_name (o ∷ os) (suc name) a b e = given_name os name a b e
+
+pub nothing_fits : (nb name : ℕ) (names : List (Option Block)) → block_at names name ≡ None → FitsName nb name names
+nothing_fits nb name names empty = λ b is. let no : None ≡ Some b = sym empty ∙ is in absurd cc
+
+given_fits : (nb name : ℕ) (a : Block) (names : List (Option Block)) → need_of a.arena nb ≤ a.size → FitsName nb name (with_block name a names)
+given_fits nb name a names enough = λ b is. subst (λ (x : Block). need_of x.arena nb ≤ x.size) (given_name names name a b is) enough
+
+pub found_fits : (nb name : ℕ) (block : Option Block) (names now : List (Option Block)) → block_at names name ≡ None → now ≡ named_as name block names →
+    IfSome block (λ b. need_of b.arena nb ≤ b.size) → FitsName nb name now
+found_fits nb name None names now empty e enough = rw e (nothing_fits nb name names empty)
+found_fits nb name (Some a) names now empty e enough = rw e (given_fits nb name a names enough)
+
+pub cached_fits : (nb name : ℕ) (a : Block) (names now : List (Option Block)) → now ≡ with_block name a names → IsSome a.arena → a.size ≡ nb → FitsName nb name now
+cached_fits nb name a names now e arena size =
+    let cases : (o : Option ℕ) → IsSome o → need_of o nb ≤ a.size = elim [
+      | None ↦ λ h. absurd cc
+      | Some n ↦ λ h. omega (arith, size)
+    ] in
+    rw e (given_fits nb name a names (cases a.arena arena))
+
+padded_is : (size nb : ℕ) → padded_request size ≡ Some nb → nb ≡ chunk_size_of size
+padded_is size nb e =
+    let cases : (v : Bool) → cond v None (Some (chunk_size_of size)) ≡ Some nb → nb ≡ chunk_size_of size = elim [ true ↦ λ h. absurd cc | false ↦ λ h. cc ] in
+    cases _ e
+
+-- so where a request has this size
+pub fits_padded : {E : Type 0} (size nb name : ℕ) (names : List (Option Block)) (r : Result Reply E) → padded_request size ≡ Some nb →
+    IfOk r (λ reply. FitsName nb name names) → IfOk r (λ reply. FitsName (chunk_size_of size) name names)
+fits_padded size nb name names r e fits = subst (λ n. IfOk r (λ reply. FitsName n name names)) (padded_is size nb e) fits
+
+-- nothing is answered only where nothing was found
 pub refused_found : {R : Type 0} (place : ℕ) (block : Option Block) (reply : Reply) → reply ≡ reply_of place block → (block ≡ None → R) → reply ≡ Null Refused → R
 refused_found place None reply e none is = none refl
 refused_found place (Some b) reply e none is = let no : reply_of place (Some b) ≡ Null Refused = sym e ∙ is in absurd cc

@@ -1,7 +1,7 @@
 -- What a hold of an arena needs of what was lent, and what it keeps.
-use Rattle.std.proofs.Common.{◌≡◌, ℕ, ◌+◌, ◌<◌, ◌≤◌, Bool, true, false, ◌&&◌, cond, List, [], ◌∷◌, ◌++◌, length, Option, Some, None, ◌⊎◌, inl, inr, Result, Ok, Err, IsTrue, refl, sym, ap, ◌∙◌, subst, arith}
+use Rattle.std.proofs.Common.{◌≡◌, ℕ, ◌+◌, ◌<◌, ◌≤◌, Bool, true, false, ◌&&◌, cond, List, [], Option, Some, None, inl, inr, Result, Ok, Err, refl, sym, ap, ◌∙◌, subst, arith}
 use Rattle.std.proofs.Math.Bool.{and-false}
-use Rattle.std.specs.Prelude.{nat_eq, nat_lt, is_some, IfSome, IsSome, IfOk, IfErr, OnOk, OnErr, sum_by}
+use Rattle.std.specs.Prelude.{nat_eq, IfSome, IsSome, IfOk, IfErr, OnOk, OnErr}
 use Rattle.std.proofs.lemmas.Bool.{ltb-false}
 use Rattle.chunk_tags.specs.BinOrder.{once, same_chunk}
 use Rattle.chunk_tags.specs.Sizes.{IsChunkSize}
@@ -10,9 +10,9 @@ use Rattle.chunk_tags.specs.declared.block.Block.{Block}
 use Rattle.chunk_tags.specs.declared.refusals.NoMemory.{NoMemory}
 use Rattle.chunk_tags.specs.declared.tiles.Chunk.{Chunk}
 use Rattle.chunk_tags.specs.declared.tunables.Tunables.{Tunables}
-use Rattle.address_space.specs.Spaces.{map_length, map_passes}
+use Rattle.address_space.specs.Spaces.{map_length}
 use Rattle.address_space.specs.declared.space.Space.{Space}
-use Rattle.thread_cache.specs.Caches.{CacheValue, blocks_of, structure_of, is_open}
+use Rattle.thread_cache.specs.Caches.{CacheValue, structure_of}
 use Rattle.thread_cache.specs.Held.{IsSound as IsSoundCache}
 use Rattle.arena_rules.specs.PlainArena.{Plain, IsSound, times_used}
 use Rattle.arena_rules.specs.MainPlaces.{IsPlaced}
@@ -26,13 +26,13 @@ use Rattle.chunk_tags.specs.declared.tiles.TileKind.TheVariants.{Used}
 use Rattle.arena_rules.specs.Growth as growth
 use Rattle.fast_bins.specs.FastPorts.{Fast}
 use Rattle.mapped_chunks.specs.DialPorts.{Dialled}
-use Rattle.consolidate_trim.specs.Holds.{Chunks, no_chunk, one_chunk, IsBacked, is_block_of, times_cached}
-use Rattle.consolidate_trim.specs.Outside.{Means, Outside, means}
+use Rattle.consolidate_trim.specs.Holds.{Chunks, no_chunk, one_chunk, IsBacked, times_cached}
+use Rattle.consolidate_trim.specs.Outside.{Means, Outside}
 use Rattle.consolidate_trim.proofs.HoldSteps.{block_is, block_other}
-use Rattle.arena_core.specs.Arenas.{Held, held, Takes, Records, RecordsShort, FailsShort, GivesShort, take_of, mapped_block, recorded}
+use Rattle.arena_core.specs.Arenas.{Held, held, Takes, Records, RecordsShort, FailsShort, GivesShort, mapped_block}
 use Rattle.arena_core.specs.Asking.{IsReady, IsSearchable, AllowsMaps, beside_arena, found_of, chunks_found}
-use Rattle.arena_core.specs.Ledgers.{stage, full, Balances, Loses}
-use Rattle.arena_core.specs.Replay.{IsReplay, chunk_at, rules_of, ended_of}
+use Rattle.arena_core.specs.Ledgers.{stage}
+use Rattle.arena_core.specs.Replay.{IsReplay, chunk_at}
 use Rattle.arena_core.specs.Shown.{Shown, ShowsMapped, EndsCounted, StopsCounted}
 use Rattle.arena_core.specs.Journal.{Recorded}
 use Rattle.arena_core.proofs.Mapped.{IsFramed, walked_frame, walked_to_end, walked_short, rules_map_once, request_of}
@@ -43,8 +43,7 @@ use Rattle.arena_core.specs.declared.journal.Act.TheVariants as acts
 use Rattle.arena_core.specs.declared.journal.Who.{Who}
 use Rattle.arena_core.specs.declared.take.GiveShort.{GiveShort}
 use Rattle.arena_core.specs.declared.take.Take.{Take}
-use Rattle.arena_core.specs.declared.take.Take.TheVariants as takes
-use Rattle.malloc_calls.specs.Places.{KeptArena, kept, PlaceWays, PlaceLaws, IsLent, IsServed, Carries, Standing, standing, Hands, both_of, weight_of, in_cache, as_chunk_of, as_mapped, as_mapped_bytes, Covers, unopened}
+use Rattle.malloc_calls.specs.Places.{KeptArena, PlaceWays, PlaceLaws, IsLent, IsServed, Carries, standing, Hands, both_of, weight_of, in_cache, as_chunk_of, as_mapped, as_mapped_bytes, Covers, unopened}
 use Rattle.malloc_calls.specs.Names.{IsHeld}
 use Rattle.malloc_calls.specs.Returning.{IsReturn, IsUnlocked, IsAccounted, IsNoted}
 use Rattle.malloc_calls.proofs.Weights.{in_lists-nothing}

@@ -1,5 +1,5 @@
 -- A walk over a plain world whose kernel tells is what the world plays; other crates may cite this file.
-use Rattle.std.proofs.Common.{◌≡◌, ℕ, Bool, true, false, ◌&&◌, nat_eq, IsTrue, List, [], ◌∷◌, Option, Some, None, refl, sym, ap, ◌∙◌, subst, arith}
+use Rattle.std.proofs.Common.{◌≡◌, ℕ, Bool, true, false, ◌&&◌, IsTrue, List, ◌∷◌, Option, Some, refl, sym, ap, ◌∙◌, subst, arith}
 use Rattle.std.specs.Option.{option_map}
 use Rattle.std.proofs.lemmas.Bool.Decides.{nat_tests}
 use Rattle.chunk_tags.specs.Dials.{Dial, MmapThreshold, TrimThreshold, MappedCount}
@@ -11,7 +11,6 @@ use Rattle.address_space.specs.declared.asks.Answer.{Answer}
 use Rattle.address_space.specs.declared.asks.Answer.TheVariants.{Granted, Refused}
 use Rattle.address_space.specs.Ports.{Port}
 use Rattle.address_space.specs.Spaces.{space_tells, granted_place, place_answer, map_ask, map_place}
-use Rattle.thread_cache.specs.Caches.{CacheValue}
 use Rattle.fast_bins.specs.PlainBins.{FastState, state_of}
 use Rattle.mapped_chunks.specs.DialPorts.{Reads as reading}
 use Rattle.mapped_chunks.specs.PlainDials.{Tells}

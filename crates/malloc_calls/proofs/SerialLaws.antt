@@ -1,7 +1,6 @@
 -- What lending and giving back keeps of the places of one order of calls; other crates may cite this file.
-use Rattle.std.proofs.Common.{◌≡◌, ℕ, zero, suc, ◌+◌, ◌-◌, ◌*◌, ◌/◌, ◌<◌, ◌≤◌, Bool, true, false, ◌&&◌, cond, List, [], ◌∷◌, Option, Some, None, IsTrue, refl, sym, ap, ◌∙◌, subst, arith}
-use Rattle.std.specs.Prelude.{nat_eq, is_some, IfSome, IsSome}
-use Rattle.std.proofs.lemmas.Bool.{eq-eqb}
+use Rattle.std.proofs.Common.{◌≡◌, ℕ, ◌+◌, ◌-◌, ◌*◌, ◌/◌, ◌<◌, ◌≤◌, Bool, true, false, List, [], ◌∷◌, Option, Some, None, IsTrue, refl, sym, ap, ◌∙◌, subst, arith}
+use Rattle.std.specs.Prelude.{IfSome, IsSome}
 use Rattle.chunk_tags.specs.Sizes.{IsChunkSize, fast_index_of}
 use Rattle.chunk_tags.specs.BinOrder.{once, fast_chunk, times_in}
 use Rattle.chunk_tags.specs.declared.block.Block.{Block}
@@ -10,8 +9,8 @@ use Rattle.address_space.specs.Spaces.{map_length}
 use Rattle.fast_bins.specs.FastPorts.{Pushes, Did, Idles}
 use Rattle.fast_bins.specs.PlainBins.{PlainBins, FastState, plain_fast, state_of, empty_state, chunks_of}
 use Rattle.mapped_chunks.specs.DialPorts.{DialStep, Reads, Raises, Maps, Unmaps, Remaps}
-use Rattle.mapped_chunks.specs.Mappings.{mapping_bytes, AllSteps}
-use Rattle.mapped_chunks.specs.PlainDials.{MayUnmap, plain_dials}
+use Rattle.mapped_chunks.specs.Mappings.{AllSteps}
+use Rattle.mapped_chunks.specs.PlainDials.{plain_dials}
 use Rattle.mapped_chunks.specs.declared.plain.DialState.{DialState}
 use Rattle.mapped_chunks.specs.declared.plain.PlainDials.{PlainDials}
 use Rattle.arena_rules.specs.PlainArena.{Plain, times_used, empty_main}
@@ -20,13 +19,11 @@ use Rattle.arena_rules.proofs.MainPlaces.{empty_placed}
 use Rattle.arena_ground.specs.Grounds.{GroundView}
 use Rattle.arena_core.specs.Journal.{Recorded}
 use Rattle.chunk_tags.specs.declared.tunables.Tunables.{Tunables}
-use Rattle.arena_rules.proofs.Bins.{once_self}
-use Rattle.consolidate_trim.proofs.HoldSteps.{block_is}
-use Rattle.malloc_calls.specs.Places.{KeptArena, kept, Hands, both_of, as_chunk_of, as_mapped, as_mapped_bytes, Covers, IsLent, PlaceLaws}
+use Rattle.malloc_calls.specs.Places.{KeptArena, kept, Hands, both_of, as_chunk_of, as_mapped, as_mapped_bytes, Covers}
 use Rattle.malloc_calls.specs.Returning.{IsUnlocked, AreReturned, IsUnseen, maps_in, unmaps_in}
-use Rattle.malloc_calls.specs.Joined.{joined_fast, joined_dials}
+use Rattle.malloc_calls.specs.Joined.{joined_fast}
 use Rattle.malloc_calls.specs.Playing.{PlainPort}
-use Rattle.malloc_calls.specs.SerialWays.{SerialState, IsSerial, IsFirst, HasPortRoom, with_main, Serves, Notes, LentMain, DialsOut, IsKeptMain, is_there, serial_ways, shown_of}
+use Rattle.malloc_calls.specs.SerialWays.{SerialState, IsSerial, IsFirst, HasPortRoom, with_main, Serves, Notes, LentMain, DialsOut, IsKeptMain, serial_ways}
 use Rattle.malloc_calls.specs.SerialPlaces.{covers_same, same_some, serves_same, is_main_block, chunk_in}
 use Rattle.malloc_calls.proofs.Holds.{chunk_is, mapped_none, bytes_none, covers_any}
 

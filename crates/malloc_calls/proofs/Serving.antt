@@ -1,6 +1,7 @@
 -- A call over the places for one order of calls, and a kernel that tells, is what the plain world plays; other crates may
 -- cite this file.
-use Rattle.std.proofs.Common.{◌≡◌, ℕ, Bool, true, false, IsTrue, List, [], ◌∷◌, ◌++◌, length, Option, Some, None, refl, sym, ap, ◌∙◌, subst}
+use Rattle.std.proofs.Common.{◌≡◌, ℕ, Bool, true, false, cond, IsTrue, List, [], ◌∷◌, ◌++◌, length, Option, Some, None, refl, sym, ap, ◌∙◌, subst}
+use Rattle.std.specs.Prelude.{nat_eq}
 use Rattle.std.specs.Option.{option_and_then}
 use Rattle.chunk_tags.specs.Sizes.{fast_index_of}
 use Rattle.chunk_tags.specs.declared.block.Block.{Block}
@@ -22,12 +23,12 @@ use Rattle.arena_core.specs.declared.journal.Ended.{Ended}
 use Rattle.arena_core.specs.Journal.{Recorded}
 use Rattle.arena_core.specs.Replay.{rules_of, ended_of}
 use Rattle.arena_rules.specs.Growth.{Took}
-use Rattle.malloc_calls.specs.Playing.{PlainPort, PlayedHold}
+use Rattle.malloc_calls.specs.Playing.{PlainPort, PlayedHold, played_hold}
 use Rattle.malloc_calls.specs.Places.{KeptArena, kept, Standing}
 use Rattle.malloc_calls.specs.Calls.{Call, Done, Holds}
 use Rattle.malloc_calls.specs.Going as going
 use Rattle.malloc_calls.specs.Going.{Told}
-use Rattle.malloc_calls.specs.SerialWays.{SerialState, serial_setting, SerialWorld, world_at, world_held, entry_of, after_steps, world_freed, played_call}
+use Rattle.malloc_calls.specs.SerialWays.{SerialState, serial_setting, SerialWorld, world_at, world_held, hold_world, after_steps, world_freed, played_call}
 use Rattle.malloc_calls.proofs.Playing.{plays, tells_after}
 
 -- the places are idle, with this arena and this port, and the kernel tells
@@ -84,7 +85,7 @@ plays_call {K = K} view kernel {t = t} {who = who} {c = c} {o = o} {z = z} x mai
     ∙ (ap (λ v. let r : SerialWorld K = record { main = main; bins = state_of i.idle.port.bins; dials = v.state; space = p.space } in r) i.idle.idle.1
     ∙ (ap (λ v. world_at main i.idle.port v) i.space ∙ ap (λ v. world_at main v o.space) (sym same))) in
     record { main = r.main; port = r.port; at = r.at; played = ap (played_call kernel t who c) (sym w) ∙ r.played }
-plays_call {K = K} view kernel {t = t} {who = who} {o = o} {z = z} x main port e at
+plays_call {K = K} {A = A} view kernel {t = t} {who = who} {o = o} {z = z} x main port e at
     (going.held {a = a} {act = act} {cache = cache} {left = left} {next = next} {p = p} {place = place} {before = before} {entry = entry} h rest) =
     let main' : KeptArena = kept h.took.arena (h.journal ++ entry ∷ []) in
     let here : IsAt view kernel p main' h.last_hold = record {
@@ -101,10 +102,14 @@ plays_call {K = K} view kernel {t = t} {who = who} {o = o} {z = z} x main port e
     let F : PlayedHold K Took → _ = λ k. played_call kernel t who
     (next (length h.journal) (ended_of act k.result.found) k.world.cache)
     (world_held who act (world_at (kept before h.journal) h.hold o.space) k) in
-    let canonical : played_call kernel t who (Holds a act cache next) (world_at (kept before h.journal) h.hold o.space) ≡ Some (x, world_at r.main r.port z.space) =
+    let holds : Option (A × SerialWorld K) = option_and_then F
+    (played_hold kernel before.number (rules_of t act before) (hold_world (world_at (kept before h.journal) h.hold o.space) cache)) in
+    let in_main : holds ≡ Some (x, world_at r.main r.port z.space) =
     ap (option_and_then F) (plays kernel before.number h.took refl at.tells h.walk)
     ∙ subst (S (length h.journal) ended) (entry_same entry who act ended h.whose h.acts h.ended)
     (subst (λ d. S (length h.journal) d entry) h.ended (subst (λ n. S n entry.ended entry) (sym h.at) r.played)) in
+    let canonical : played_call kernel t who (Holds a act cache next) (world_at (kept before h.journal) h.hold o.space) ≡ Some (x, world_at r.main r.port z.space) =
+    subst (λ (v : Bool). cond v holds None ≡ Some (x, world_at r.main r.port z.space)) (sym (ap (λ n. nat_eq n 0) h.lent.number)) in_main in
     let Q : KeptArena → PlainPort → Type 0 = λ m k. played_call kernel t who (Holds a act cache next) (world_at m k o.space) ≡ Some (x, world_at r.main r.port z.space) in
     record {
       main = r.main;

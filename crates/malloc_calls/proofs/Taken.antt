@@ -1,25 +1,20 @@
 -- A hold as a step of a call: what was recorded is what the call is told.
-use Rattle.std.proofs.Common.{◌≡◌, ℕ, ◌+◌, ◌≤◌, Bool, true, false, List, [], ◌∷◌, ◌++◌, length, Option, Some, None, ◌⊎◌, inl, inr, Result, Ok, Err, IsTrue, refl, sym, ap, ◌∙◌, subst, arith}
-use Rattle.std.specs.Prelude.{IfSome, IfOk, OnErr}
+use Rattle.std.proofs.Common.{◌≡◌, ℕ, ◌+◌, ◌≤◌, true, false, List, [], ◌∷◌, length, Option, Some, None, inl, inr, refl, sym, ap, ◌∙◌, subst, arith}
+use Rattle.std.specs.Prelude.{IfSome}
 use Rattle.chunk_tags.specs.declared.block.Block.{Block}
-use Rattle.chunk_tags.specs.declared.refusals.NoMemory.{NoMemory}
-use Rattle.chunk_tags.specs.declared.tiles.Chunk.{Chunk}
 use Rattle.chunk_tags.specs.declared.tunables.Tunables.{Tunables}
 use Rattle.address_space.specs.declared.space.Space.{Space}
 use Rattle.thread_cache.specs.Caches.{CacheValue, structure_of, is_open}
 use Rattle.thread_cache.specs.Held.{IsSound as IsSoundCache}
-use Rattle.fast_bins.specs.FastPorts.{Fast}
 use Rattle.mapped_chunks.specs.DialPorts.{Dialled}
-use Rattle.arena_rules.specs.PlainArena.{Plain, times_used}
+use Rattle.arena_rules.specs.PlainArena.{times_used}
 use Rattle.arena_rules.specs.Rules.{Stop}
-use Rattle.arena_rules.specs.Growth.{Took}
-use Rattle.arena_rules.specs.Walks.{Walks, Reaches}
+use Rattle.arena_rules.specs.Walks.{Walks}
 use Rattle.arena_rules.specs.declared.said.Said.{Said}
 use Rattle.consolidate_trim.specs.Holds.{Chunks, no_chunk, one_chunk}
-use Rattle.consolidate_trim.specs.Outside.{Outside, ways}
+use Rattle.consolidate_trim.specs.Outside.{ways}
 use Rattle.arena_core.specs.Arenas as arenas
 use Rattle.arena_core.specs.Arenas.{Held, held, Records, FailsShort, FitsRequest, GivesShort, need_of, take_of, recorded}
-use Rattle.arena_core.specs.Steps.{IsEnough}
 use Rattle.arena_core.proofs.Refusals.{reached_refusals}
 use Rattle.arena_core.specs.declared.take.Take.TheVariants as takes
 use Rattle.address_space.specs.Ports.{Rose}
@@ -34,14 +29,13 @@ use Rattle.arena_core.specs.declared.journal.Act.{Act}
 use Rattle.arena_core.specs.declared.journal.Act.TheVariants as acts
 use Rattle.arena_core.specs.declared.journal.Who.{Who}
 use Rattle.arena_core.specs.declared.take.Take.{Take}
-use Rattle.malloc_calls.specs.Names.{IsHeld}
 use Rattle.malloc_calls.specs.Calls as calls
 use Rattle.malloc_calls.specs.Calls.{hold_end, taken_of}
 use Rattle.malloc_calls.specs.Going as going
 use Rattle.malloc_calls.specs.Going.{Does, HoldStep, Held as HeldTold, here}
 use Rattle.malloc_calls.specs.Holding.{Takes, Gives, block_in}
-use Rattle.malloc_calls.specs.Places.{KeptArena, kept, PlaceWays, PlaceLaws, IsLent, IsServed, Carries, Setting, Standing, standing, Hands, both_of, weight_of, in_cache, as_chunk_of}
-use Rattle.malloc_calls.specs.Returning.{IsUnlocked, IsAccounted, IsNoted}
+use Rattle.malloc_calls.specs.Places.{KeptArena, kept, PlaceLaws, IsLent, IsServed, Carries, Setting, Standing, standing, Hands, both_of, weight_of, in_cache, as_chunk_of}
+use Rattle.malloc_calls.specs.Returning.{IsUnlocked, IsAccounted}
 use Rattle.malloc_calls.proofs.Holds.{block_found, held_found, account_taken, noted_taken, account_short, noted_short, account_given, noted_given, account_given_short, account_none, carries_held, only_least}
 
 found_block : (nb a n : ℕ) (found : Found) → n ≡ a → block_found n found ≡ taken_of a (ended_of (acts.Take nb) (found_of found))
@@ -84,13 +78,8 @@ open_same None (Some d) e = absurd cc
 open_same (Some c) None e = absurd cc
 open_same (Some c) (Some d) e = refl
 
-enough : (nb : ℕ) (take : Take) → FitsRequest nb take → IfSome (block_in take) (λ b. nb ≤ b.size)
-enough nb (takes.Got b) fits =
-    let cases : (o : Option ℕ) → IsEnough (need_of o nb) b.size → nb ≤ b.size = elim [
-      | None ↦ λ e. omega (arith, e.room)
-      | Some n ↦ λ e. omega (arith, e.room)
-    ] in
-    cases b.arena fits
+enough : (nb : ℕ) (take : Take) → FitsRequest nb take → IfSome (block_in take) (λ b. need_of b.arena nb ≤ b.size)
+enough nb (takes.Got b) fits = fits.room
 enough nb takes.Refused fits = tt
 
 no_block : (take : Take) → block_in take ≡ None → take ≡ takes.Refused

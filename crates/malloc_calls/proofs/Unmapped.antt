@@ -1,5 +1,5 @@
 -- A mapped chunk is freed: what the words count, and what is given up.
-use Rattle.std.proofs.Common.{◌≡◌, ℕ, ◌+◌, Bool, true, false, ◌&&◌, cond, List, [], ◌∷◌, Option, Some, None, refl, sym, ap, ◌∙◌, subst, arith}
+use Rattle.std.proofs.Common.{◌≡◌, ℕ, Bool, true, false, ◌&&◌, cond, List, [], ◌∷◌, Option, Some, None, refl, sym, ap, ◌∙◌, arith}
 use Rattle.std.proofs.Math.Bool.{and-false}
 use Rattle.std.specs.Prelude.{nat_eq, is_some}
 use Rattle.chunk_tags.specs.BinOrder.{same_chunk}
@@ -8,11 +8,10 @@ use Rattle.chunk_tags.specs.declared.block.Block.{Block}
 use Rattle.chunk_tags.specs.declared.tiles.Chunk.{Chunk}
 use Rattle.chunk_tags.specs.declared.tunables.Tunables.{Tunables}
 use Rattle.address_space.specs.declared.space.Space.{Space}
-use Rattle.mapped_chunks.specs.DialPorts.{DialStep, Reads, Raises, Unmaps, Dialled}
+use Rattle.mapped_chunks.specs.DialPorts.{DialStep, Reads, Raises, Unmaps}
 use Rattle.mapped_chunks.specs.Mappings.{IsMapped, FreesChunk, AllSteps, freeing_steps, is_raise, mapping_bytes}
-use Rattle.malloc_calls.specs.Going.{FreeStep}
 use Rattle.malloc_calls.specs.Holding.{FreesMapped}
-use Rattle.malloc_calls.specs.Places.{Setting, Standing, standing, Carries, as_chunk_of, as_mapped, as_mapped_bytes}
+use Rattle.malloc_calls.specs.Places.{Setting, Standing, standing, as_chunk_of, as_mapped, as_mapped_bytes}
 use Rattle.malloc_calls.specs.Returning.{AreReturned, IsSettled, maps_in, unmaps_in}
 use Rattle.arena_core.specs.Shown.{Shown}
 

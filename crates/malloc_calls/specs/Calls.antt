@@ -5,6 +5,7 @@ use Rattle.chunk_tags.specs.Sizes.{padded_request, structure_size, fast_index_of
 use Rattle.chunk_tags.specs.declared.block.Block.{Block}
 use Rattle.chunk_tags.specs.declared.tunables.Tunables.{Tunables}
 use Rattle.thread_cache.specs.Caches.{CacheValue, opened, is_open, with_newest, takes}
+use Rattle.arena_core.specs.Arenas.{need_of}
 use Rattle.arena_core.specs.declared.journal.Act.{Act}
 use Rattle.arena_core.specs.declared.journal.Act.TheVariants.{Take, Give}
 use Rattle.arena_core.specs.declared.journal.Ended.{Ended}
@@ -146,15 +147,8 @@ freed t home name (Some b) own = freed_block t home name b b.arena own
 abbrev pub free_call : Tunables → ℕ → ℕ → Own → Call (Reply × Own)
 free_call t home name own = freed t home name (block_at own.names name) own
 
--- ---- what an answer promises
+-- ---- what malloc promises of a name
 
--- a block that was got has at least so many bytes
-abbrev pub FitsChunk : ℕ → Reply → Type 0
-FitsChunk nb (Got addr size from) = nb ≤ size
-FitsChunk nb (Null why) = Unit {0}
-FitsChunk nb (Freed to) = Unit {0}
-FitsChunk nb NotYours = Unit {0}
-
--- it is large enough for the request
-abbrev pub FitsReply : ℕ → Reply → Type 0
-FitsReply size reply = (nb : ℕ) → padded_request size ≡ Some nb → FitsChunk nb reply
+-- the block that a name has, if any, is large enough for a chunk of nb bytes: a mapped one has 8 more
+abbrev pub FitsName : ℕ → ℕ → List (Option Block) → Type 0
+FitsName nb name names = (b : Block) → block_at names name ≡ Some b → need_of b.arena nb ≤ b.size

@@ -1,5 +1,5 @@
 -- Words for worked examples (this project's own).
-use Rattle.std.specs.Prelude.{ℕ, true, List, [], ◌∷◌, Option, Some, None}
+use Rattle.std.specs.Prelude.{true, List, [], ◌∷◌, Some, None}
 use Rattle.chunk_tags.specs.Tunables.{serial_values}
 use Rattle.address_space.specs.declared.asks.Answer.TheVariants.{Granted}
 use Rattle.address_space.specs.Ports.{Port}

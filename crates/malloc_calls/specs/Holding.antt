@@ -1,10 +1,11 @@
 -- What a hold of an arena within a call promises (this project's own).
-use Rattle.std.specs.Prelude.{◌≡◌, ℕ, ◌+◌, ◌≤◌, true, Option, Some, None, IfSome}
+use Rattle.std.specs.Prelude.{◌≡◌, ℕ, ◌≤◌, true, Option, Some, None, IfSome}
 use Rattle.chunk_tags.specs.declared.block.Block.{Block}
 use Rattle.chunk_tags.specs.declared.tunables.Tunables.{Tunables}
 use Rattle.address_space.specs.Ports.{Rose}
 use Rattle.address_space.specs.Spaces.{space_refusals}
 use Rattle.thread_cache.specs.Caches.{CacheValue, is_open}
+use Rattle.arena_core.specs.Arenas.{need_of}
 use Rattle.arena_core.specs.declared.journal.Act.TheVariants.{Take, Give}
 use Rattle.arena_core.specs.declared.journal.Who.{Who}
 use Rattle.arena_core.specs.declared.take.Take as take
@@ -27,7 +28,7 @@ pub record Takes {P H D K : Type 0} (s : Setting P H D K) (t : Tunables) (who : 
   pub found : block ≡ taken_of a ended
   pub does : Does s t who (held a (Take nb) cache) old (hold_end place ended left) new
   pub held : IfSome block IsHeld
-  pub fits : IfSome block (λ b. nb ≤ b.size)
+  pub fits : IfSome block (λ b. need_of b.arena nb ≤ b.size)
   pub refused : block ≡ None → Rose (space_refusals s.means.kernel old.space) (space_refusals s.means.kernel new.space)
   pub later : space_refusals s.means.kernel old.space ≤ space_refusals s.means.kernel new.space
   pub opens : is_open left ≡ is_open cache

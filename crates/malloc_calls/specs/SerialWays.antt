@@ -1,6 +1,6 @@
 -- The places for one order of calls, with main alone (this project's own): the arena and its port stand in them, or are
 -- lent to the hold.
-use Rattle.std.specs.Prelude.{◌≡◌, ℕ, ◌+◌, ◌<◌, ◌≤◌, Bool, false, ◌&&◌, ◌*◌, nat_eq, List, [], ◌∷◌, ◌++◌, length, map, Option, Some, None, is_some, IsSome, IfSome, option_map, if◌then◌else◌}
+use Rattle.std.specs.Prelude.{◌≡◌, ℕ, ◌+◌, ◌≤◌, Bool, ◌&&◌, ◌*◌, nat_eq, List, [], ◌∷◌, ◌++◌, length, map, Option, Some, None, is_some, IsSome, IfSome, option_map, if◌then◌else◌}
 use Rattle.std.specs.Option.{option_and_then}
 use Rattle.chunk_tags.specs.Sizes.{fast_index_of}
 use Rattle.chunk_tags.specs.declared.block.Block.{Block}
@@ -55,7 +55,7 @@ pub record IsKeptMain (t : Tunables) (k : KeptArena) : Type 0 where
 abbrev pub state_at : Option (Arena GroundView) → Option PlainPort → Tunables → SerialState
 state_at main port t = record { main = option_map (kept_of (λ g. g.arena)) main; port = port; tunables = t }
 
--- what is always so: main, where it isn't lent, is such, and its tiles fill its break and its pieces
+-- what is always so: main, where it isn't lent, is such
 pub record IsSerial (st : SerialState) : Type 0 where
   pub main : IfSome st.main (IsKeptMain st.tunables)
 
@@ -64,7 +64,7 @@ pub record IsIdle (st : SerialState) : Type 0 where
   pub main : IsSome st.main
   pub port : IsSome st.port
 
--- the places before the first call
+-- the words as they start; no chunk is mapped
 abbrev pub first_words : Tunables → DialState
 first_words t = record {
   mmap_threshold = t.mmap_threshold;
@@ -75,6 +75,7 @@ first_words t = record {
   max_bytes = 0;
 }
 
+-- the places before the first call
 pub record IsFirst (t : Tunables) (st : SerialState) : Type 0 where
   pub main : st.main ≡ Some (kept empty_main [])
   pub port : PlainPort
@@ -221,13 +222,15 @@ world_freed port t b w = record w {
   space = record w.space { kernel = port.given w.space.kernel (unmapping b) };
 }
 
--- a call from a world on: its result, and the world
+-- A call from a world on: its result, and the world. There is no arena but main to hold.
 abbrev pub played_call : {K A : Type 0} → Port K → Tunables → Who → Call A → SerialWorld K → Option (A × SerialWorld K)
 played_call port t who (Done x) w = Some (x, w)
 played_call port t who (Holds a act cache next) w =
-    option_and_then
+    if nat_eq a 0
+    then option_and_then
     (λ p. played_call port t who (next (length w.main.journal) (ended_of act p.result.found) p.world.cache) (world_held who act w p))
     (played_hold port w.main.arena.number (rules_of t act w.main.arena) (hold_world w cache))
+    else None
 played_call port t who (Pushes b c) w =
     played_call port t who c (record w { bins = bins.after_step (fasts.Pushes (fast_index_of b.size) b.addr) w.bins })
 played_call port t who (Frees b c) w = played_call port t who c (world_freed port t b w)

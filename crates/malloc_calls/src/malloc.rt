@@ -1,13 +1,13 @@
 //! malloc.
 
 ghost use Rattle.std.specs.Prelude.{◌≡◌, ◌<◌, None, IfOk, OnErr, IfSome, is_ok, length};
-ghost use Rattle.chunk_tags.specs.Sizes.{IsRequestSize};
+ghost use Rattle.chunk_tags.specs.Sizes.{IsRequestSize, chunk_size_of};
 ghost use Rattle.chunk_tags.specs.Tunables.{IsTuned};
 ghost use Rattle.address_space.specs.Ports.{Rose};
 ghost use Rattle.address_space.specs.Spaces.{space_refusals};
 ghost use Rattle.consolidate_trim.specs.Outside.{means};
 ghost use Rattle.malloc_calls.specs.Names.{IsHeld, block_at};
-ghost use Rattle.malloc_calls.specs.Calls.{from_arena, from_cache, malloc_call, origin_of, reply_of, named_as, FitsChunk, FitsReply};
+ghost use Rattle.malloc_calls.specs.Calls.{from_arena, from_cache, malloc_call, origin_of, reply_of, named_as, FitsName};
 ghost use Rattle.malloc_calls.specs.declared.reply.Reply.TheVariants.{Null};
 ghost use Rattle.malloc_calls.specs.declared.reply.Why.TheVariants.{Refused};
 ghost use Rattle.malloc_calls.specs.Going.{Does};
@@ -76,7 +76,7 @@ fn malloc_from_main<P: Places, K: Kernel>(
     ensures does { IfOk result (λ reply.
         Does (setting P.ways (means P.Hold.fast P.Hold.dials K.port) P.Dial.dials) t.now who.now (from_arena 0 name nb own.old)
         (standing p.old space.old) (reply, own.new) (standing p.new space.new)) }
-    ensures fits { IfOk result (FitsChunk nb) }
+    ensures fits { IfOk result (λ _. FitsName nb name own.new.names) }
     ensures refused { IfOk result (λ reply. reply ≡ Null Refused
         → Rose (space_refusals K.port space.old) (space_refusals K.port space.new)) }
     ensures carries { Carries P.ways (is_ok result) (in_own own.old) (standing p.old space.old)
@@ -106,7 +106,7 @@ pub fn malloc<P: Places, K: Kernel>(
     ensures does { IfOk result (λ reply.
         Does (setting P.ways (means P.Hold.fast P.Hold.dials K.port) P.Dial.dials) t.now who.now (malloc_call t.now 0 name size own.old)
         (standing p.old space.old) (reply, own.new) (standing p.new space.new)) }
-    ensures fits { IfOk result (FitsReply size) }
+    ensures fits { IfOk result (λ _. FitsName (chunk_size_of size) name own.new.names) }
     ensures refused { IfOk result (λ reply. reply ≡ Null Refused
         → Rose (space_refusals K.port space.old) (space_refusals K.port space.new)) }
     ensures carries { Carries P.ways (is_ok result) (in_own own.old) (standing p.old space.old)
@@ -142,7 +142,7 @@ fn malloc_open<P: Places, K: Kernel>(
         Does (setting P.ways (means P.Hold.fast P.Hold.dials K.port) P.Dial.dials) t.now who.now
         (from_cache 0 name nb (newest_of_size nb own.old.cache) own.old)
         (standing p.old space.old) (reply, own.new) (standing p.new space.new)) }
-    ensures fits { IfOk result (FitsChunk nb) }
+    ensures fits { IfOk result (λ _. FitsName nb name own.new.names) }
     ensures refused { IfOk result (λ reply. reply ≡ Null Refused
         → Rose (space_refusals K.port space.old) (space_refusals K.port space.new)) }
     ensures carries { Carries P.ways (is_ok result) (in_own own.old) (standing p.old space.old)

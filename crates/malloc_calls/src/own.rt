@@ -1,6 +1,6 @@
 //! What a thread has of its own.
 
-ghost use Rattle.std.specs.Prelude.{◌≡◌, ◌<◌, None, IfSome, IfNone, length};
+ghost use Rattle.std.specs.Prelude.{◌≡◌, ◌<◌, None, IsSome, IfSome, IfNone, length};
 ghost use Rattle.std.specs.Option.{option_map};
 ghost use Rattle.chunk_tags.specs.Sizes.{IsChunkSize};
 ghost use Rattle.malloc_calls.specs.Names.{block_at, IsHeld};
@@ -27,6 +27,7 @@ pub fn take_newest(cache: &mut Cache, nb: Size) -> Option<Block>
     ensures rest { cache.new ≡ without_newest_of nb cache.old }
     ensures held { IfSome result IsHeld }
     ensures size { IfSome result (λ b. b.size ≡ nb) }
+    ensures arena { IfSome result (λ b. IsSome b.arena) }
     ensures unchanged { IfNone result (cache.new ≡ cache.old) }
 {
     if nb > MAX_CACHED {

@@ -2,11 +2,12 @@
 
 ghost use Rattle.std.specs.Prelude.{◌≡◌, ◌-◌, ◌^◌, ◌<◌, ◌≤◌, ◌⊎◌, None, IsTrue, IfSome, IfOk, OnOk, OnErr, is_ok, option_copied, length};
 ghost use Rattle.std.specs.Option.{option_map};
+ghost use Rattle.chunk_tags.specs.Sizes.{chunk_size_of};
 ghost use Rattle.chunk_tags.specs.Tunables.{IsTuned};
 ghost use Rattle.address_space.specs.Ports.{Rose};
 ghost use Rattle.address_space.specs.Spaces.{space_refusals, map_place};
 ghost use Rattle.consolidate_trim.specs.Outside.{means};
-ghost use Rattle.malloc_calls.specs.Calls.{malloc_call, free_call, FitsReply};
+ghost use Rattle.malloc_calls.specs.Calls.{malloc_call, free_call, FitsName};
 ghost use Rattle.malloc_calls.specs.declared.reply.Reply.TheVariants.{Null};
 ghost use Rattle.malloc_calls.specs.declared.reply.Why.TheVariants.{Refused};
 ghost use Rattle.malloc_calls.specs.Going.{Does};
@@ -151,7 +152,7 @@ impl<K: Kernel> Thread<K> {
             Does (setting P.ways (means P.Hold.fast P.Hold.dials K.port) P.Dial.dials) t.now (who_of line self.old)
             (malloc_call t.now 0 name size (own_of self.old)) (standing p.old (space_of self.old))
             (reply, own_of self.new) (standing p.new (space_of self.new))) }
-        ensures fits { IfOk result (FitsReply size) }
+        ensures fits { IfOk result (λ _. FitsName (chunk_size_of size) name (names_of self.new)) }
 
         // No block is answered only where the kernel refused an ask of this call.
         ensures refused { IfOk result (λ reply. reply ≡ Null Refused

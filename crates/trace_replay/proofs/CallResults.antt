@@ -1,22 +1,22 @@
 -- What is true of each result that a call may come to, and of the names that it leaves.
-use Rattle.std.proofs.Common.{◌≡◌, ℕ, zero, suc, ◌+◌, ◌<◌, ◌≤◌, ◌≢◌, Bool, true, false, cond, List, [], ◌∷◌, ◌++◌, Option, Some, None, length, get_or, set, replicate, refl, sym, ap, ◌∙◌, subst, arith}
+use Rattle.std.proofs.Common.{◌≡◌, ℕ, zero, suc, Bool, true, false, cond, List, [], ◌∷◌, Option, Some, None, refl, subst}
 use Rattle.std.specs.Prelude.{nat_le}
 use Rattle.std.proofs.lemmas.List.{get_or-set_other}
-use Rattle.chunk_tags.specs.Sizes.{padded_request, chunk_size_of}
+use Rattle.chunk_tags.specs.Sizes.{padded_request}
 use Rattle.chunk_tags.specs.declared.block.Block.{Block}
 use Rattle.chunk_tags.specs.declared.tunables.Tunables.{Tunables}
-use Rattle.thread_cache.specs.Caches.{CacheValue, is_open, takes}
+use Rattle.thread_cache.specs.Caches.{CacheValue, takes}
 use Rattle.arena_core.specs.declared.journal.Ended.{Ended}
 use Rattle.malloc_calls.specs.declared.own.Own.{Own}
 use Rattle.malloc_calls.specs.declared.reply.Reply.{Reply}
-use Rattle.malloc_calls.specs.Names.{block_at, with_block, without_block}
+use Rattle.malloc_calls.specs.Names.{block_at, without_block}
 use Rattle.malloc_calls.specs.Own.{newest_of_size}
 use Rattle.malloc_calls.specs.Going as going
 use Rattle.malloc_calls.specs.Going.{Told, Does}
 use Rattle.malloc_calls.specs.Places.{Setting, Standing}
 use Rattle.trace_replay.specs.Naming.{EmptiesName}
 use Rattle.arena_core.specs.declared.journal.Who.{Who}
-use Rattle.malloc_calls.specs.Calls.{Call, Done, Holds, Pushes, Frees, then_call, HoldEnd, opening, reply_of, named_as, FitsReply, taken_of, from_cache, padded_malloc, malloc_call, past_cache, to_cache, freed_block, freed, free_call}
+use Rattle.malloc_calls.specs.Calls.{Call, Done, Holds, Pushes, Frees, then_call, opening, named_as, taken_of, from_cache, padded_malloc, malloc_call, to_cache, freed_block, freed, free_call}
 
 abbrev pub AllResults : {A : Type 0} → (A → Type 0) → Call A → Type 0
 AllResults P (Done x) = P x
@@ -33,60 +33,25 @@ results_then P (Frees b c) f h = results_then P c f h
 
 -- ---- the names
 
--- what malloc comes to, as far as its name goes: all other names hold what they held, and a block that it then holds is the
--- one that was answered, for a request that isn't refused
-pub record NamesReply (name size : ℕ) (names : List (Option Block)) (r : Reply × Own) : Type 0 where
-  pub others : (n : ℕ) → (n ≡ name → ⊥) → block_at r.1.names n ≡ block_at names n
-  pub answered : (b : Block) → block_at r.1.names name ≡ Some b → FitsReply size r.0 → chunk_size_of size ≤ b.size
+-- what a call leaves of all names but its own: they hold what they held
+abbrev pub KeepsOthers : ℕ → List (Option Block) → Reply × Own → Type 0
+KeepsOthers name names r = (n : ℕ) → (n ≡ name → ⊥) → block_at r.1.names n ≡ block_at names n
 
 named_others : (name : ℕ) (o : Option Block) (names : List (Option Block)) (n : ℕ) → (n ≡ name → ⊥) → block_at (named_as name o names) n ≡ block_at names n
 named_others name None names n other = refl
 named_others name (Some b) names n other = get_or-set_other names name n (Some b) None other
 
--- the block that a name was given
-given_name : (names : List (Option Block)) (name : ℕ) (a b : Block) → block_at (with_block name a names) name ≡ Some b → a ≡ b
-given_name [] name a b e = absurd cc
-given_name (o ∷ os) zero a b e = cc
-given_name (o ∷ os) (suc name) a b e = given_name os name a b e
+from_cache_names : (home name nb : ℕ) (o : Option Block) (own : Own) → AllResults (KeepsOthers name own.names) (from_cache home name nb o own)
+from_cache_names home name nb None own = λ place ended left. named_others name (taken_of home ended) own.names
+from_cache_names home name nb (Some a) own = named_others name (Some a) own.names
 
-padded_is : (size nb : ℕ) → padded_request size ≡ Some nb → nb ≡ chunk_size_of size
-padded_is size nb e =
-    let cases : (v : Bool) → cond v None (Some (chunk_size_of size)) ≡ Some nb → nb ≡ chunk_size_of size = elim [ true ↦ λ h. absurd cc | false ↦ λ h. cc ] in
-    cases _ e
+padded_names : (t : Tunables) (home name : ℕ) (o : Option ℕ) (own : Own) → AllResults (KeepsOthers name own.names) (padded_malloc t home name o own)
+padded_names t home name None own = λ n other. refl
+padded_names t home name (Some nb) own =
+    results_then _ (opening t home own.cache) _ (λ cache. from_cache_names home name nb (newest_of_size nb cache) (record own { cache = cache }))
 
-free_still : (names : List (Option Block)) (name : ℕ) (b : Block) {R : Type 0} → block_at names name ≡ None → block_at names name ≡ Some b → R
-free_still names name b e f = let no : None ≡ Some b = sym e ∙ f in absurd cc
-
-found_names : (name size nb place : ℕ) (o : Option Block) (names : List (Option Block)) (cache : CacheValue) → block_at names name ≡ None → padded_request size ≡ Some nb →
-    NamesReply name size names (reply_of place o, record { cache = cache; names = named_as name o names })
-found_names name size nb place None names cache free padded = record { others = λ n other. refl; answered = λ b is fits. free_still names name b free is }
-found_names name size nb place (Some a) names cache free padded = record {
-  others = named_others name (Some a) names;
-  answered = λ b is fits.
-      let same : a ≡ b = given_name names name a b is in
-      let enough : nb ≤ a.size = fits nb padded in
-      omega (arith, enough, padded_is size nb padded, ap (λ (x : Block). x.size) same);
-}
-
-from_cache_names : (home name size nb : ℕ) (o : Option Block) (own : Own) → block_at own.names name ≡ None → padded_request size ≡ Some nb →
-    AllResults (NamesReply name size own.names) (from_cache home name nb o own)
-from_cache_names home name size nb None own free padded = λ place ended left. found_names name size nb place (taken_of home ended) own.names left free padded
-from_cache_names home name size nb (Some a) own free padded = record {
-  others = named_others name (Some a) own.names;
-  answered = λ b is fits.
-      let same : a ≡ b = given_name own.names name a b is in
-      let enough : nb ≤ a.size = fits nb padded in
-      omega (arith, enough, padded_is size nb padded, ap (λ (x : Block). x.size) same);
-}
-
-padded_names : (t : Tunables) (home name size : ℕ) (o : Option ℕ) (own : Own) → block_at own.names name ≡ None → padded_request size ≡ o →
-    AllResults (NamesReply name size own.names) (padded_malloc t home name o own)
-padded_names t home name size None own free padded = record { others = λ n other. refl; answered = λ b is fits. free_still own.names name b free is }
-padded_names t home name size (Some nb) own free padded =
-    results_then _ (opening t home own.cache) _ (λ cache. from_cache_names home name size nb (newest_of_size nb cache) (record own { cache = cache }) free padded)
-
-pub malloc_names : (t : Tunables) (home name size : ℕ) (own : Own) → block_at own.names name ≡ None → AllResults (NamesReply name size own.names) (malloc_call t home name size own)
-malloc_names t home name size own free = padded_names t home name size (padded_request size) own free refl
+pub malloc_names : (t : Tunables) (home name size : ℕ) (own : Own) → AllResults (KeepsOthers name own.names) (malloc_call t home name size own)
+malloc_names t home name size own = padded_names t home name (padded_request size) own
 
 without_gone : (name : ℕ) (names : List (Option Block)) → block_at (without_block name names) name ≡ None
 without_gone name [] = refl

@@ -1,11 +1,12 @@
 -- Names that hold blocks are held in the text too.
-use Rattle.std.proofs.Common.{◌≡◌, ℕ, zero, suc, ◌+◌, ◌-◌, ◌<◌, ◌≤◌, ◌==◌, ◌⊎◌, inl, inr, Bool, true, false, not, ◌&&◌, ◌||◌, cond, eqb, List, [], ◌∷◌, ◌++◌, Option, Some, None, Result, Ok, Err, length, get_or, drop, take, replicate, refl, sym, ap, ◌∙◌, subst, arith, append-nil, append_assoc}
+use Rattle.std.proofs.Common.{◌≡◌, ℕ, zero, suc, ◌+◌, ◌-◌, ◌<◌, ◌≤◌, ◌==◌, ◌⊎◌, inl, inr, Bool, true, false, not, ◌&&◌, ◌||◌, cond, eqb, List, [], ◌∷◌, ◌++◌, Option, Some, None, Ok, length, get_or, take, replicate, refl, sym, ap, ◌∙◌, subst, arith, append-nil, append_assoc}
 use Rattle.std.proofs.lemmas.Bool.Decides.{nat_tests, eqb_tells}
 use Rattle.std.proofs.lemmas.Bool.{eq-eqb}
 use Rattle.std.proofs.lemmas.List.{take_more}
 use Rattle.std.proofs.lemmas.List.Sums.{fold-append}
 use Rattle.chunk_tags.specs.Sizes.{chunk_size_of}
 use Rattle.chunk_tags.specs.declared.block.Block.{Block}
+use Rattle.arena_core.specs.Arenas.{need_of}
 use Rattle.malloc_calls.specs.Names.{block_at, readied}
 use Rattle.malloc_calls.specs.declared.own.Own.{Own}
 use Rattle.malloc_calls.specs.declared.reply.Reply.{Reply}
@@ -43,7 +44,7 @@ or_false true y h = absurd cc
 or_false false y h = (refl, h)
 
 -- what was asked for under the name of a call, and under another
-asked_here : (name size : ℕ) (was : Option ℕ) (b : Block) → chunk_size_of size ≤ b.size → IsFit (asked_next name (Malloc name size) was) b
+asked_here : (name size : ℕ) (was : Option ℕ) (b : Block) → need_of b.arena (chunk_size_of size) ≤ b.size → IsFit (asked_next name (Malloc name size) was) b
 asked_here name size was b le = subst (λ (v : Bool). IsFit (cond v (Some size) was) b) (sym (eq-eqb name name refl)) le
 
 pub malloc_leaves : (line : Line) (name size : ℕ) (names : List (Option Block)) (r : Reply × Own) → line.thread ≡ 0 → line.call ≡ Malloc name size →

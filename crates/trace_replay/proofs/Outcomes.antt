@@ -1,8 +1,8 @@
 -- A run that writes nothing.
-use Rattle.std.proofs.Common.{◌≡◌, ℕ, List, Result, refl}
+use Rattle.std.proofs.Common.{ℕ, List, Result, refl}
 use Rattle.byte_edge.specs.Streams.{Store}
 use Rattle.trace_replay.specs.declared.exit.Exit.{Exit}
-use Rattle.trace_replay.specs.declared.exit.Exit.TheVariants.{Done, Usage, BadTrace, TooLong, TooLarge, ReadFault, WriteFault, NoMemory, NotBuilt}
+use Rattle.trace_replay.specs.declared.exit.Exit.TheVariants.{Done, WriteFault}
 use Rattle.trace_replay.specs.Headline.{LeavesSink, IsUnwritten, Answers, Refuses}
 
 pub untouched : {W : Type 0} (store : Store W) (sink : W) (exit : Exit) → IsUnwritten exit → LeavesSink store sink exit sink

@@ -5,7 +5,7 @@ use Rattle.std.specs.Global.{Vec}
 use Rattle.std.specs.List.{range_with_len}
 use Rattle.std.proofs.Math.ListN.{get_or-map}
 use Rattle.std.proofs.lemmas.List.FromFn.{map-range_with_len_more}
-use Rattle.fast_bins.specs.PlainBins.{FastState, FastBin, empty_bin, listed}
+use Rattle.fast_bins.specs.PlainBins.{FastState, empty_bin, listed}
 use Rattle.stats_text.specs.Views.{lists_of}
 use Rattle.trace_replay.specs.Places.{fast_bin_of}
 

@@ -1,5 +1,5 @@
 -- Refusals that are handed on.
-use Rattle.std.proofs.Common.{◌≡◌, Result, Ok, Err, ap, ◌∙◌}
+use Rattle.std.proofs.Common.{◌≡◌, Result, Err, ap, ◌∙◌}
 use Rattle.trace_replay.specs.declared.exit.Exit.{Exit}
 use Rattle.trace_replay.specs.declared.exit.Exit.TheVariants.{NoMemory}
 use Rattle.trace_replay.specs.Replays.{RefusesAs}

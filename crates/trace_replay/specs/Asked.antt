@@ -1,5 +1,5 @@
 -- What the words of the command line ask for (this project's own).
-use Rattle.std.specs.Prelude.{ℕ, List, [], ◌∷◌, map, Result, Ok, Err, String}
+use Rattle.std.specs.Prelude.{ℕ, List, ◌∷◌, map, Result, Ok, Err, String}
 use Rattle.std.specs.String.{string_bytes}
 use Rattle.chunk_tags.specs.Tunables.{defaults_of}
 use Rattle.chunk_tags.specs.declared.tunables.Mode.TheVariants.{Serial}

@@ -1,9 +1,10 @@
 -- Which names hold blocks, beside what the lines of the trace say of them (this project's own). No public clause cites this
 -- file.
-use Rattle.std.specs.Prelude.{◌≡◌, ℕ, Bool, false, ◌≤◌, List, Option, Some, None}
+use Rattle.std.specs.Prelude.{◌≡◌, ℕ, Bool, false, List, Option, Some, None}
 use Rattle.chunk_tags.specs.Sizes.{chunk_size_of}
 use Rattle.chunk_tags.specs.declared.block.Block.{Block}
 use Rattle.malloc_calls.specs.Names.{block_at}
+use Rattle.malloc_calls.specs.Calls.{FitsName}
 use Rattle.malloc_calls.specs.declared.own.Own.{Own}
 use Rattle.malloc_calls.specs.declared.reply.Reply.{Reply}
 use Rattle.trace_text.specs.declared.trace.Call.{Call}
@@ -39,7 +40,7 @@ pub record LeavesNames (line : Line) (before now : List (Option Block)) : Type 0
 -- what malloc of a size leaves: all other names hold what they held, and a block that the name then holds is large enough
 pub record MakesName (name size : ℕ) (names : List (Option Block)) (r : Reply × Own) : Type 0 where
   pub others : (n : ℕ) → (n ≡ name → ⊥) → block_at r.1.names n ≡ block_at names n
-  pub made : (b : Block) → block_at r.1.names name ≡ Some b → chunk_size_of size ≤ b.size
+  pub made : FitsName (chunk_size_of size) name r.1.names
 
 -- what free leaves: that, and the name holds nothing
 pub record EmptiesName (name : ℕ) (names : List (Option Block)) (r : Reply × Own) : Type 0 where

@@ -7,7 +7,6 @@ use Rattle.std.specs.BTreeMap.{insert_entry}
 use Rattle.std.specs.Map.{values_of}
 use Rattle.chunk_tags.specs.declared.block.Block.{Block}
 use Rattle.chunk_tags.specs.declared.tiles.Tile.{Tile}
-use Rattle.chunk_tags.specs.declared.tiles.TileKind.{TileKind}
 use Rattle.chunk_tags.specs.declared.tiles.TileKind.TheVariants as kinds
 use Rattle.list_laws.specs.Rising.{at}
 use Rattle.thread_cache.specs.Caches.{addresses_of, tiles_of, structure_of}

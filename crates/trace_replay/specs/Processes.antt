@@ -1,5 +1,5 @@
 -- A process of the code, as the world that it stands for (this project's own). No public clause cites this file.
-use Rattle.std.specs.Prelude.{◌≡◌, ℕ, Bool, true, [], IsTrue, Option, Some, None, Result, Ok, Err}
+use Rattle.std.specs.Prelude.{◌≡◌, Bool, true, [], IsTrue, Option, Some, None, Result, Ok, Err}
 use Rattle.address_space.specs.declared.space.Space.{Space}
 use Rattle.address_space.specs.Ports.{Port}
 use Rattle.address_space.specs.Spaces.{space_tells}
@@ -11,13 +11,12 @@ use Rattle.malloc_calls.specs.declared.reply.Reply.{Reply}
 use Rattle.malloc_calls.specs.Calls.{Call}
 use Rattle.malloc_calls.specs.Own.{own_of, space_of}
 use Rattle.malloc_calls.specs.Places.{KeptArena, kept, in_own, IsServed, standing}
-use Rattle.malloc_calls.specs.Playing.{PlainPort}
-use Rattle.malloc_calls.specs.SerialWays.{SerialState, SerialWorld, Serves, serial_ways, played_call}
+use Rattle.malloc_calls.specs.SerialWays.{SerialState, SerialWorld, Serves, first_words, serial_ways, played_call}
 use Rattle.trace_text.specs.declared.trace.Line.{Line}
 use Rattle.trace_replay.specs.declared.halt.Halt.{Halt}
 use Rattle.trace_replay.specs.declared.halt.Halt.TheVariants.{NoMemory, NotBuilt}
 use Rattle.trace_replay.specs.declared.process.Process.{Process}
-use Rattle.trace_replay.specs.World.{World, first_dials, who_in}
+use Rattle.trace_replay.specs.World.{World, who_in}
 
 -- what stands in the places between two calls; it is there then
 abbrev pub main_in : SerialState → KeptArena
@@ -27,7 +26,7 @@ abbrev pub bins_in : SerialState → FastState
 bins_in st = elim st.port [ None ↦ empty_state | Some port ↦ state_of port.bins ]
 
 abbrev pub words_in : SerialState → DialState
-words_in st = elim st.port [ None ↦ first_dials st.tunables | Some port ↦ port.dials.state ]
+words_in st = elim st.port [ None ↦ first_words st.tunables | Some port ↦ port.dials.state ]
 
 -- the places and an address space as a world
 abbrev pub serial_world : {K : Type 0} → SerialState → Space K → SerialWorld K

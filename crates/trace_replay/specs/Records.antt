@@ -1,5 +1,5 @@
 -- What a reply is in a report (this project's own).
-use Rattle.std.specs.Prelude.{ℕ, false, List, ◌++◌}
+use Rattle.std.specs.Prelude.{ℕ, false, List}
 use Rattle.std.specs.List.{flat_map}
 use Rattle.malloc_calls.specs.declared.reply.Reply.{Reply}
 use Rattle.malloc_calls.specs.declared.reply.Reply.TheVariants.{Got, Null, Freed, NotYours}

@@ -1,6 +1,6 @@
 -- The text that a serial run writes for the words, the bytes read and the ports; or how it refuses them
 -- (this project's own).
-use Rattle.std.specs.Prelude.{ℕ, ◌==◌, Bool, false, not, nat_lt, List, [], ◌∷◌, ◌++◌, length, codes, slice_get, Option, Some, None, Result, Ok, Err, if◌then◌else◌}
+use Rattle.std.specs.Prelude.{ℕ, ◌==◌, Bool, not, nat_lt, List, [], ◌∷◌, ◌++◌, length, codes, slice_get, Option, Some, None, Result, Ok, Err, if◌then◌else◌}
 use Rattle.std.specs.Option.{ok_or}
 use Rattle.chunk_tags.specs.declared.tunables.Tunables.{Tunables}
 use Rattle.address_space.specs.Ports.{Port}

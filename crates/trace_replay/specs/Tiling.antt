@@ -13,6 +13,7 @@ use Rattle.thread_cache.specs.Caches.{blocks_of, structure_of}
 use Rattle.fast_bins.specs.PlainBins.{FastState, chunks_of}
 use Rattle.arena_rules.specs.PlainArena.{IsSound, times_used}
 use Rattle.heap_top.specs.MainRanges.{IsMainFilled}
+use Rattle.arena_core.specs.Arenas.{need_of}
 use Rattle.malloc_calls.specs.declared.own.Own.{Own}
 use Rattle.malloc_calls.specs.Places.{weight_of, in_names, in_own, as_chunk_of, as_mapped, as_mapped_bytes}
 use Rattle.malloc_calls.specs.Names.{block_at}
@@ -72,10 +73,10 @@ asked_next name call was = was
 unfoldable pub asked_size : List Line → ℕ → Option ℕ
 asked_size lines name = fold (λ was line. if line.thread == 0 then asked_next name line.call was else was) None lines
 
--- a block is large enough for the size that was asked for
+-- a block is large enough for the size that was asked for: a mapped one has 8 bytes more than its chunk
 abbrev pub IsFit : Option ℕ → Block → Type 0
 IsFit None b = ⊥
-IsFit (Some request) b = chunk_size_of request ≤ b.size
+IsFit (Some request) b = need_of b.arena (chunk_size_of request) ≤ b.size
 
 -- each block that has a name is large enough for what was last asked for under it
 abbrev pub FitsWithin : List Line → List (Option Block) → Type 0

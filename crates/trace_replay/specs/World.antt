@@ -8,7 +8,6 @@ use Rattle.address_space.specs.Ports.{Port}
 use Rattle.thread_cache.specs.Caches.{is_open}
 use Rattle.arena_rules.specs.PlainArena.{empty_main}
 use Rattle.fast_bins.specs.PlainBins.{empty_state}
-use Rattle.mapped_chunks.specs.declared.plain.DialState.{DialState}
 use Rattle.arena_core.specs.declared.journal.Who.{Who}
 use Rattle.malloc_calls.specs.declared.own.Own.{Own}
 use Rattle.malloc_calls.specs.declared.reply.Reply.{Reply}
@@ -18,7 +17,7 @@ use Rattle.malloc_calls.specs.Names.{readied}
 use Rattle.malloc_calls.specs.Own.{new_own}
 use Rattle.malloc_calls.specs.Places.{kept}
 use Rattle.malloc_calls.specs.Calls.{Call, malloc_call, free_call}
-use Rattle.malloc_calls.specs.SerialWays.{SerialWorld, played_call}
+use Rattle.malloc_calls.specs.SerialWays.{SerialWorld, first_words, played_call}
 use Rattle.trace_text.specs.declared.trace.Call.TheVariants as calls
 use Rattle.trace_text.specs.declared.trace.Call as traced
 use Rattle.trace_text.specs.declared.trace.Line.{Line}
@@ -28,22 +27,11 @@ pub record World (K : Type 0) : Type 0 where
   pub own : Own
   pub serial : SerialWorld K
 
--- the words as they start; no chunk is mapped
-abbrev pub first_dials : Tunables → DialState
-first_dials t = record {
-  mmap_threshold = t.mmap_threshold;
-  trim_threshold = t.trim_threshold;
-  mapped = 0;
-  bytes = 0;
-  max_mapped = 0;
-  max_bytes = 0;
-}
-
 -- the world that a run begins with
 abbrev pub opening_world : {K : Type 0} → Tunables → Space K → World K
 opening_world t space = record {
   own = new_own;
-  serial = record { main = kept empty_main []; bins = empty_state; dials = first_dials t; space = space };
+  serial = record { main = kept empty_main []; bins = empty_state; dials = first_words t; space = space };
 }
 
 -- who thread 0 is in a line

@@ -1,7 +1,7 @@
-use Rattle.std.proofs.Common.{◌+◌, ◌≤◌, false, refl, sym, arith}
-use Rattle.malloc_calls.specs.Places.{in_own, both_of, standing}
+use Rattle.std.proofs.Common.{refl, sym, arith}
+use Rattle.malloc_calls.specs.Places.{in_own, both_of}
 use Rattle.malloc_calls.proofs.Calling.{carries_given, past_cache_fast, past_cache_given}
-use Rattle.malloc_calls.proofs.Carrying.{carries_as, carries_err, carries_fewer, carries_unseen, carries_beside, served_fewer}
+use Rattle.malloc_calls.proofs.Carrying.{carries_as, carries_err, carries_unseen, carries_beside, served_fewer}
 use Rattle.malloc_calls.proofs.Weights.{in_names-with}
 use Rattle.malloc_calls.proofs.free.free_past_cache.Goals as goal
 

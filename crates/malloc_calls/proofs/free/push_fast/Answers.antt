@@ -1,5 +1,3 @@
-use Rattle.std.proofs.Common.{ℕ, ◌+◌, ◌∙◌, false, arith}
-use Rattle.malloc_calls.specs.Places.{both_of}
 use Rattle.malloc_calls.proofs.Carrying.{unseen_then, unseen_keeps}
 use Rattle.malloc_calls.proofs.free.push_fast.Goals as goal
 

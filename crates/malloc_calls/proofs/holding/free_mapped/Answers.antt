@@ -1,4 +1,4 @@
-use Rattle.std.proofs.Common.{ℕ, ◌+◌, arith}
+use Rattle.std.proofs.Common.{arith}
 use Rattle.consolidate_trim.specs.Outside.{means}
 use Rattle.malloc_calls.specs.Places.{setting, standing, both_of}
 use Rattle.malloc_calls.proofs.Unmapped.{frees_mapped}

@@ -1,9 +1,8 @@
-use Rattle.std.proofs.Common.{◌≡◌, ℕ, ◌+◌, Some, None, length, subst, sym, arith}
+use Rattle.std.proofs.Common.{◌≡◌, Some, None, length, subst, arith}
 use Rattle.std.specs.Prelude.{option_map}
 use Rattle.consolidate_trim.specs.Outside.{means}
 use Rattle.arena_core.specs.Arenas.{held}
-use Rattle.arena_core.specs.declared.journal.Act.TheVariants.{Give}
-use Rattle.malloc_calls.specs.Places.{setting, kept_of, unopened, both_of}
+use Rattle.malloc_calls.specs.Places.{setting, kept_of, both_of}
 use Rattle.malloc_calls.proofs.Holds.{left_given, is_return}
 use Rattle.malloc_calls.proofs.Taken.{gives_held, gives_short}
 use Rattle.malloc_calls.proofs.holding.give_held.Goals as goal

@@ -1,7 +1,7 @@
 use Rattle.std.proofs.Common.{sym, ◌∙◌, arith}
 use Rattle.malloc_calls.proofs.Going.{does_here}
 use Rattle.malloc_calls.specs.Places.{in_cache}
-use Rattle.malloc_calls.proofs.Calling.{malloc_does, carries_cache}
+use Rattle.malloc_calls.proofs.Calling.{malloc_does, carries_cache, nothing_fits, fits_padded}
 use Rattle.malloc_calls.proofs.Carrying.{carries_err, carries_here, carries_then, served_after, served_fewer}
 use Rattle.malloc_calls.proofs.malloc.malloc.Goals as goal
 
@@ -32,3 +32,10 @@ pub returns-in_ok-open_cache-in-Some-clause-does : goal.returns-in_ok-open_cache
 returns-in_ok-open_cache-in-Some-clause-does g c =
     malloc_does 0 c.args.name c.in-Some.nb _ c.args.size c.args.own.now c.open_cache.new.cache c.malloc_open.result c.malloc_open.new.own
     (sym c.request_size.ensures ∙ c.in-Some.is) c.in_ok-open_cache-in-Some.ensures.does c.malloc_open.ensures.does
+
+pub returns-in-None-clause-fits : goal.returns-in-None-clause-fits
+returns-in-None-clause-fits g c = nothing_fits _ c.args.name c.args.own.now.names c.requires.empty
+
+pub returns-in_ok-open_cache-in-Some-clause-fits : goal.returns-in_ok-open_cache-in-Some-clause-fits
+returns-in_ok-open_cache-in-Some-clause-fits g c =
+    fits_padded c.args.size c.in-Some.nb c.args.name c.malloc_open.new.own.names c.malloc_open.result (sym c.request_size.ensures ∙ c.in-Some.is) c.malloc_open.ensures.fits

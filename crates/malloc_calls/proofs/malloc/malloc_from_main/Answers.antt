@@ -1,6 +1,6 @@
-use Rattle.std.proofs.Common.{◌+◌, ◌≤◌, arith}
-use Rattle.malloc_calls.specs.Places.{in_own, in_cache}
-use Rattle.malloc_calls.proofs.Calling.{from_arena_does, carries_named, carries_cache, fits_found, refused_found}
+use Rattle.std.proofs.Common.{arith}
+use Rattle.malloc_calls.specs.Places.{in_cache}
+use Rattle.malloc_calls.proofs.Calling.{from_arena_does, carries_named, carries_cache, found_fits, refused_found}
 use Rattle.malloc_calls.proofs.Carrying.{carries_err, served_fewer}
 use Rattle.malloc_calls.proofs.malloc.malloc_from_main.Goals as goal
 
@@ -20,7 +20,7 @@ returns-in_err-hold-clause-carries g c =
     carries_err c.from_residual.result c.from_residual.ensures.0 (carries_cache g.met.P.Places.laws.same c.args.own.now.cache c.take_held.new.cache c.args.own.now.names c.in_err-hold.ensures.short)
 
 pub returns-clause-fits : goal.returns-clause-fits
-returns-clause-fits g c = fits_found c.args.nb c.in_ok-hold.field-0.hold c.in_ok-hold.field-0.block c.answer.result c.answer.ensures.reply c.in_ok-hold.ensures.takes.fits
+returns-clause-fits g c = found_fits c.args.nb c.args.name c.in_ok-hold.field-0.block c.args.own.now.names c.answer.new.names c.requires.empty c.answer.ensures.names c.in_ok-hold.ensures.takes.fits
 
 pub returns-clause-refused : goal.returns-clause-refused
 returns-clause-refused g c = refused_found c.in_ok-hold.field-0.hold c.in_ok-hold.field-0.block c.answer.result c.answer.ensures.reply c.in_ok-hold.ensures.takes.refused

@@ -1,6 +1,6 @@
 use Rattle.std.proofs.Common.{sym, refl, ◌∙◌, arith}
 use Rattle.malloc_calls.specs.Places.{in_own}
-use Rattle.malloc_calls.proofs.Calling.{from_cache_none, from_cache_some}
+use Rattle.malloc_calls.proofs.Calling.{from_cache_none, from_cache_some, cached_fits}
 use Rattle.malloc_calls.proofs.Carrying.{carries_here, carries_as}
 use Rattle.malloc_calls.proofs.Weights.{in_names-with, in_cache-taken}
 use Rattle.malloc_calls.proofs.malloc.malloc_open.Goals as goal
@@ -26,3 +26,7 @@ returns-in-Some-clause-carries g c =
       in_cache-taken c.args.nb c.args.own.now.cache c.in-Some.block found w,
     ))
     (carries_here g.P.Places.ways _ (in_own c.args.own.now) _))
+
+pub returns-in-Some-clause-fits : goal.returns-in-Some-clause-fits
+returns-in-Some-clause-fits g c =
+    cached_fits c.args.nb c.args.name c.in-Some.block c.args.own.now.names c.put.new.self c.put.ensures c.in-Some.ensures.arena c.in-Some.ensures.size

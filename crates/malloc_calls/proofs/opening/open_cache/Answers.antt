@@ -1,6 +1,5 @@
-use Rattle.std.proofs.Common.{false, refl, sym, ◌∙◌, arith}
-use Rattle.std.specs.Prelude.{Some, None}
-use Rattle.malloc_calls.specs.Places.{both_of, weight_of, in_cache}
+use Rattle.std.proofs.Common.{refl, sym, ◌∙◌, arith}
+use Rattle.malloc_calls.specs.Places.{in_cache}
 use Rattle.malloc_calls.proofs.Calling.{opening_here, opening_taken}
 use Rattle.malloc_calls.proofs.Carrying.{carries_here, carries_as, carries_short, carries_fewer}
 use Rattle.malloc_calls.proofs.Weights.{in_cache-closed, in_cache-opened}

@@ -1,4 +1,4 @@
-use Rattle.std.proofs.Common.{◌≡◌, map, take}
+use Rattle.std.proofs.Common.{◌≡◌, take}
 use Rattle.std.specs.Prelude.{fold}
 use Rattle.stats_text.specs.Views.{lists_of}
 use Rattle.stats_text.specs.declared.views.Place.TheVariants as places

@@ -1,4 +1,4 @@
-use Rattle.std.proofs.Common.{◌≡◌, map, take}
+use Rattle.std.proofs.Common.{◌≡◌, take}
 use Rattle.std.specs.Prelude.{fold}
 use Rattle.trace_replay.specs.Places.{put_found, finds_found}
 use Rattle.trace_replay.proofs.places.put_finds.Given as goal

@@ -1,6 +1,4 @@
-use Rattle.std.proofs.Common.{ap}
-use Rattle.trace_replay.proofs.Idle.{idle_in_main, system_fits}
-use Rattle.trace_replay.specs.Places.{shown_tiles}
+use Rattle.trace_replay.proofs.Idle.{idle_in_main}
 use Rattle.trace_replay.proofs.snapshot.main_view.Goals as goal
 
 pub returns-clause-idle : goal.returns-clause-idle

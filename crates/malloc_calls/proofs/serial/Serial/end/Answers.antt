@@ -1,4 +1,4 @@
-use Rattle.std.proofs.Common.{◌≡◌, List, [], ◌∷◌, ◌++◌, Some, ap, ◌∙◌, subst}
+use Rattle.std.proofs.Common.{[], ◌∷◌, ◌++◌, ap, ◌∙◌, subst}
 use Rattle.malloc_calls.specs.Places.{kept_of}
 use Rattle.malloc_calls.specs.SerialWays.{IsSerial}
 use Rattle.malloc_calls.proofs.SerialLaws.{ends_as}

@@ -1,4 +1,4 @@
-use Rattle.std.proofs.Common.{◌≡◌, ◌<◌, Some, ap, arith}
+use Rattle.std.proofs.Common.{Some, ap, arith}
 use Rattle.malloc_calls.specs.SerialWays.{SerialState}
 use Rattle.malloc_calls.proofs.SerialLaws.{gone, room_at}
 use Rattle.malloc_calls.proofs.serial.SerialPlaces.push.Goals as goal

@@ -1,9 +1,6 @@
-use Rattle.std.proofs.Common.{true, sym, ap, subst}
+use Rattle.std.proofs.Common.{true, sym, subst}
 use Rattle.malloc_calls.specs.declared.thread.Thread.{Thread}
-use Rattle.malloc_calls.specs.declared.own.Own.{Own}
-use Rattle.malloc_calls.specs.declared.reply.Reply.{Reply}
 use Rattle.malloc_calls.specs.Calls.{free_call}
-use Rattle.malloc_calls.specs.Names.{readied}
 use Rattle.malloc_calls.specs.Own.{own_of, names_of, space_of}
 use Rattle.malloc_calls.specs.Places.{Hands, in_own, Standing, standing}
 use Rattle.malloc_calls.specs.SerialWays.{SerialState, Serves}

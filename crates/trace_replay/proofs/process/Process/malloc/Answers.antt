@@ -1,15 +1,11 @@
-use Rattle.std.proofs.Common.{◌≡◌, None, true, sym, ap, ◌∙◌, subst}
+use Rattle.std.proofs.Common.{true, sym, subst}
 use Rattle.malloc_calls.specs.declared.thread.Thread.{Thread}
-use Rattle.malloc_calls.specs.declared.own.Own.{Own}
-use Rattle.malloc_calls.specs.declared.reply.Reply.{Reply}
 use Rattle.malloc_calls.specs.Calls.{malloc_call}
-use Rattle.malloc_calls.specs.Names.{readied, block_at}
 use Rattle.malloc_calls.specs.Own.{own_of, names_of, space_of}
 use Rattle.malloc_calls.specs.Places.{Hands, in_own, Standing, standing}
 use Rattle.malloc_calls.specs.SerialWays.{SerialState, Serves}
 use Rattle.trace_replay.specs.Naming.{MakesName}
-use Rattle.trace_replay.proofs.HeldNames.{block_at-readied}
-use Rattle.trace_replay.proofs.CallResults.{NamesReply, malloc_names, does_result}
+use Rattle.trace_replay.proofs.CallResults.{KeepsOthers, malloc_names, does_result}
 use Rattle.trace_replay.proofs.Serving.{served_there, exact_readied, serves_after, served_next, call_plays, if_ok, if_ok₂, on_ok}
 use Rattle.trace_replay.proofs.process.Process.malloc.Goals as goal
 
@@ -30,14 +26,12 @@ returns-clause-told g c = λ tells.
 pub returns-clause-names : goal.returns-clause-names
 returns-clause-names g c =
     let p = c.args.self.now in
-    let free = block_at-readied c.args.name c.args.name (names_of p.thread) ∙ c.requires.free in
     if_ok₂ _ _ _ c.malloc.result
     (λ reply d fits.
-    let free_now = subst (λ (th : Thread _). block_at (names_of th) c.args.name ≡ None) (sym c.in_ok-ready.ensures.ok) free in
-    let named = does_result _ _ _ _ _ _ (NamesReply c.args.name c.args.size (names_of c.ready.new.self)) (reply, own_of c.malloc.new.self)
-    (malloc_names c.args.self.now.t 0 c.args.name c.args.size (own_of c.ready.new.self) free_now) d in
+    let others = does_result _ _ _ _ _ _ (KeepsOthers c.args.name (names_of c.ready.new.self)) (reply, own_of c.malloc.new.self)
+    (malloc_names c.args.self.now.t 0 c.args.name c.args.size (own_of c.ready.new.self)) d in
     subst (λ (th : Thread _). MakesName c.args.name c.args.size (names_of th) (reply, own_of c.malloc.new.self)) c.in_ok-ready.ensures.ok
-    (record { others = named.others; made = λ b is. named.answered b is fits }))
+    (record { others = others; made = fits }))
     c.malloc.ensures.does c.malloc.ensures.fits
 
 pub returns-clause-settled : goal.returns-clause-settled
