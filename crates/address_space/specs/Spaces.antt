@@ -1,7 +1,7 @@
 -- A thread's address space: its kernel behind the windows (this project's own).
-use Rattle.std.specs.Prelude.{◌≡◌, ℕ, ◌+◌, ◌*◌, ◌≤◌, nat_lt, Bool, false, IsTrue, Option, Some, None, IfSome, if◌then◌else◌}
+use Rattle.std.specs.Prelude.{◌≡◌, ℕ, ◌+◌, ◌*◌, ◌%◌, ◌≤◌, nat_lt, Bool, false, ◌&&◌, IsTrue, Option, Some, None, IfSome, if◌then◌else◌}
 use Rattle.address_space.specs.declared.asks.Ask.{Ask}
-use Rattle.address_space.specs.declared.asks.Ask.TheVariants.{Map}
+use Rattle.address_space.specs.declared.asks.Ask.TheVariants.{Map, Remap}
 use Rattle.address_space.specs.declared.asks.Answer.{Answer}
 use Rattle.address_space.specs.declared.asks.Answer.TheVariants.{Granted, Refused}
 use Rattle.address_space.specs.declared.asks.Back.{Back}
@@ -109,9 +109,10 @@ space_mapped port s len =
     let passes = map_passes s len in
     used_up (space_answer port s passes (map_ask s len)) len (space_asked port s passes (map_ask s len))
 
--- a place that is granted: the next one, the one after it behind it, and both in the thread's window
+-- a place that is granted: the next one, a page's, the one after it behind it, and both in the thread's window
 pub record IsNextPlace {K : Type 0} (before : Space K) (len : ℕ) (now : Space K) (place : ℕ) : Type 0 where
   pub told : place ≡ map_place before
+  pub page : place % 4096 ≡ 0
   pub behind : place + len ≡ map_place now
   pub inside : now.mapped ≤ map_length
   pub limit : place + len ≤ map_limit
@@ -131,6 +132,68 @@ pub record MapsWithin {K : Type 0} (port : Port K) (before : Space K) (len : ℕ
   pub tells : IsTrue (space_tells port before) → IsTrue (space_tells port now)
   pub answered : IsTrue (space_tells port before) → place ≡ space_place port before len
   pub left : IsTrue (space_tells port before) → now ≡ space_mapped port before len
+
+-- Remaps. One that grows goes to the next place of the window, one that shrinks stays where it is.
+
+-- a mapping that shall have another length, and whether that is a larger one
+pub record LengthChange : Type 0 where
+  pub grows : Bool
+  pub addr : ℕ
+  pub old_len : ℕ
+  pub new_len : ℕ
+
+abbrev pub length_change : ℕ → ℕ → ℕ → LengthChange
+length_change addr old_len new_len = record { grows = nat_lt old_len new_len; addr = addr; old_len = old_len; new_len = new_len }
+
+-- where the mapping then is
+abbrev pub remap_place : {K : Type 0} → Space K → LengthChange → ℕ
+remap_place s change = if change.grows then map_place s else change.addr
+
+-- a mapping that grows and would end behind its thread's window
+abbrev pub remap_passes : {K : Type 0} → Space K → LengthChange → Bool
+remap_passes s change = change.grows && map_passes s change.new_len
+
+-- the ask for another length
+abbrev pub remap_ask : {K : Type 0} → Space K → LengthChange → Ask
+remap_ask s change = Remap change.addr change.old_len (remap_place s change) change.new_len
+
+-- a granted mapping that grows uses its place up, any other uses none up
+abbrev pub remap_uses : {K : Type 0} → Answer → LengthChange → Space K → Space K
+remap_uses answer change s = if change.grows then used_up answer change.new_len s else s
+
+-- the place that is granted, and the space after it, over a kernel that tells
+abbrev pub space_remap_place : {K : Type 0} → Port K → Space K → LengthChange → Option ℕ
+space_remap_place port s change =
+    granted_place (remap_place s change) (space_answer port s (remap_passes s change) (remap_ask s change))
+
+abbrev pub space_remapped : {K : Type 0} → Port K → Space K → LengthChange → Space K
+space_remapped port s change =
+    let passes = remap_passes s change in
+    remap_uses (space_answer port s passes (remap_ask s change)) change (space_asked port s passes (remap_ask s change))
+
+-- a place that is kept: the old one, with no byte behind the old mapping, and no place is used up
+pub record IsKeptPlace {K : Type 0} (before : Space K) (change : LengthChange) (now : Space K) (place : ℕ) : Type 0 where
+  pub told : place ≡ change.addr
+  pub inside : place + change.new_len ≤ change.addr + change.old_len
+  pub next : map_place now ≡ map_place before
+
+-- another length that a space is asked for
+pub record RemapsWithin {K : Type 0} (port : Port K) (before : Space K) (change : LengthChange) (place : Option ℕ) (now : Space K) : Type 0 where
+  pub later : space_refusals port before ≤ space_refusals port now
+  -- refused only where the count rose
+  pub cause : place ≡ None → Rose (space_refusals port before) (space_refusals port now)
+  -- a mapping that grows gets a place that is given once
+  pub fresh : IsTrue change.grows → IfSome place (IsNextPlace before change.new_len now)
+  -- one that shrinks stays
+  pub kept : change.grows ≡ false → IfSome place (IsKeptPlace before change now)
+  -- one that would pass the window is refused, and isn't put to the kernel
+  pub passed : IsTrue (remap_passes before change) → (place ≡ None) × (now ≡ record before { passed = counted before.passed })
+  -- any other is answered by the kernel
+  pub put : remap_passes before change ≡ false → Asks port before.kernel (remap_ask before change) (place_answer place) now.kernel × (now ≡ remap_uses (place_answer place) change (record before { kernel = now.kernel }))
+  -- and over a kernel that tells, this is what was told
+  pub tells : IsTrue (space_tells port before) → IsTrue (space_tells port now)
+  pub answered : IsTrue (space_tells port before) → place ≡ space_remap_place port before change
+  pub left : IsTrue (space_tells port before) → now ≡ space_remapped port before change
 
 -- one giving back through a space
 pub record GivesWithin {K : Type 0} (port : Port K) (before : Space K) (back : Back) (now : Space K) : Type 0 where

@@ -1,6 +1,6 @@
 //! How far a thread's window for mappings is used up.
 
-ghost use Rattle.std.specs.Prelude.{◌≡◌, ◌+◌, ◌≤◌, nat_lt};
+ghost use Rattle.std.specs.Prelude.{◌≡◌, ◌+◌, ◌%◌, ◌≤◌, nat_lt};
 ghost use Rattle.address_space.specs.Spaces.{map_length};
 
 use std::marker::Model;
@@ -8,18 +8,18 @@ use std::marker::Model;
 /// The bytes of a thread's window for mappings.
 pub const MAP_LENGTH: u64 = 1 << 36;
 
-/// The bytes of a window for mappings that were given, from its start on: never more than it has.
+/// The bytes of a window for mappings that were given, from its start on: whole pages, and never more than it has.
 #[derive(Drop)]
 pub struct Mapped(u64);
 
 impl Model for Mapped {
-    ghost use Rattle.std.specs.Prelude.{ℕ, ◌≤◌};
+    ghost use Rattle.std.specs.Prelude.{ℕ, ◌≡◌, ◌%◌, ◌≤◌};
 
     ghost Value = { ℕ };
 
     ghost view = { λ m. m.0 };
 
-    ghost invariant = { λ m. m.0 ≤ 0x1000000000 };
+    ghost invariant = { λ m. (m.0 ≤ 0x1000000000) × (m.0 % 4096 ≡ 0) };
 }
 
 impl Mapped {
@@ -34,6 +34,7 @@ impl Mapped {
     pub fn bytes(&self) -> u64
         ensures value { result ≡ self.now }
         ensures inside { result ≤ map_length }
+        ensures pages { result % 4096 ≡ 0 }
     {
         self.0
     }
@@ -47,7 +48,8 @@ impl Mapped {
 
     /// Gives `len` more bytes.
     pub fn add(&mut self, len: u64)
-        requires { self.old + len ≤ map_length }
+        requires inside { self.old + len ≤ map_length }
+        requires pages { len % 4096 ≡ 0 }
         ensures { self.new ≡ self.old + len }
     {
         self.0 += len;

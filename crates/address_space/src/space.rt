@@ -1,6 +1,6 @@
 //! The address space of one thread: its kernel, behind the windows.
 
-ghost use Rattle.std.specs.Prelude.{◌≡◌, ◌+◌, ◌<◌, nat_lt};
+ghost use Rattle.std.specs.Prelude.{◌≡◌, ◌≢◌, ◌+◌, ◌%◌, ◌^◌, ◌<◌, nat_lt};
 ghost use Rattle.address_space.specs.declared.asks.Ask.{Ask};
 ghost use Rattle.address_space.specs.declared.asks.Ask.TheVariants.{Break, Piece};
 
@@ -54,7 +54,7 @@ fn ends_behind(start: u64, window: u64, at: u64, len: u64) -> bool
 }
 
 impl<K: Kernel> Space<K> {
-    ghost use Rattle.address_space.specs.Spaces.{AsksWithin, MapsWithin, GivesWithin, new_space, break_passes, piece_passes, map_place};
+    ghost use Rattle.address_space.specs.Spaces.{AsksWithin, MapsWithin, RemapsWithin, GivesWithin, new_space, break_passes, piece_passes, map_place, length_change};
 
     /// The space of a thread, over its kernel.
     pub fn new(kernel: K, thread: u8, windows: Windows) -> Space<K>
@@ -103,14 +103,17 @@ impl<K: Kernel> Space<K> {
     fn next_place(&self) -> u64
         ensures place { result ≡ map_place self.now }
         ensures thread { self.now.thread < 256 }
+        ensures page { result % 4096 ≡ 0 }
     {
         MAP_START + u64::from(self.thread) * MAP_LENGTH + self.mapped.bytes()
     }
 
-    /// Asks for a mapping of `len` bytes at the next place of the thread's window. `None` exactly where it would end
-    /// behind the window or the kernel refused; then the count of refusals rose and the place stays the next one.
-    /// A place that was given is never given again.
+    /// Asks for a mapping of `len` bytes, whole pages, at the next place of the thread's window. `None` exactly where it
+    /// would end behind the window or the kernel refused; then the count of refusals rose and the place stays the next
+    /// one. A place is a multiple of a page, and one that was given is never given again.
     pub fn map(&mut self, len: u64) -> Option<u64>
+        requires some { 0 < len }
+        requires pages { len % 4096 ≡ 0 }
         ensures { MapsWithin K.port self.old len result self.new }
     {
         let addr = self.next_place();
@@ -120,6 +123,61 @@ impl<K: Kernel> Space<K> {
                 self.mapped.add(len);
                 Some(addr)
             }
+            Answer::Refused => None,
+        }
+    }
+
+    /// Asks for another length of a mapping, `old_len` bytes at `addr`. One that shrinks keeps its address, one that grows
+    /// gets the next place of the thread's window. `None` exactly where that would end behind the window or the kernel
+    /// refused; then the count of refusals rose and the place stays the next one.
+    pub fn remap(&mut self, addr: u64, old_len: u64, new_len: u64) -> Option<u64>
+        requires fits { addr + old_len < 2 ^ 64 }
+        requires some { (0 < old_len) × (0 < new_len) }
+        requires pages { new_len % 4096 ≡ 0 }
+        requires differ { old_len ≢ new_len }
+        ensures { RemapsWithin K.port self.old (length_change addr old_len new_len) result self.new }
+    {
+        if old_len < new_len {
+            self.lengthen(addr, old_len, new_len)
+        } else {
+            self.shorten(addr, old_len, new_len)
+        }
+    }
+
+    fn lengthen(&mut self, addr: u64, old_len: u64, new_len: u64) -> Option<u64>
+        requires longer { old_len < new_len }
+        requires pages { new_len % 4096 ≡ 0 }
+        ensures { RemapsWithin K.port self.old (length_change addr old_len new_len) result self.new }
+    {
+        let new_addr = self.next_place();
+        let passes = self.mapped.passes(new_len);
+        let ask = Ask::Remap {
+            old_addr: addr,
+            old_len,
+            new_addr,
+            new_len,
+        };
+        match self.put(passes, ask) {
+            Answer::Granted => {
+                self.mapped.add(new_len);
+                Some(new_addr)
+            }
+            Answer::Refused => None,
+        }
+    }
+
+    fn shorten(&mut self, addr: u64, old_len: u64, new_len: u64) -> Option<u64>
+        requires { new_len < old_len }
+        ensures { RemapsWithin K.port self.old (length_change addr old_len new_len) result self.new }
+    {
+        let ask = Ask::Remap {
+            old_addr: addr,
+            old_len,
+            new_addr: addr,
+            new_len,
+        };
+        match self.put(false, ask) {
+            Answer::Granted => Some(addr),
             Answer::Refused => None,
         }
     }

@@ -53,10 +53,36 @@ fn a_refused_mapping_keeps_its_place(rt: HostRuntime) {
 #[test]
 fn a_mapping_stays_in_its_window(rt: HostRuntime) {
     let mut space = Space::new(Always, 0, windows());
-    assert_eq!(rt; space.map(MAP_LENGTH + 1), None);
-    assert_eq!(rt; space.map(u64::MAX), None);
+    assert_eq!(rt; space.map(MAP_LENGTH + 4096), None);
+    assert_eq!(rt; space.map(u64::MAX - 4095), None);
     assert_eq!(rt; space.map(MAP_LENGTH), Some(MAP_START));
-    assert_eq!(rt; space.map(1), None);
+    assert_eq!(rt; space.map(4096), None);
+}
+
+#[test]
+fn a_longer_mapping_moves_and_a_shorter_one_stays(rt: HostRuntime) {
+    let mut space = Space::new(Budget::new(16_384, Vec::new(rt.alloc())), 1, windows());
+    assert_eq!(rt; space.map(8192), Some(0x6010_0000_0000));
+    assert_eq!(rt;
+        space.remap(0x6010_0000_0000, 8192, 12_288),
+        Some(0x6010_0000_2000)
+    );
+    assert_eq!(rt;
+        space.remap(0x6010_0000_2000, 12_288, 4096),
+        Some(0x6010_0000_2000)
+    );
+    assert_eq!(rt; space.map_place(), 0x6010_0000_5000);
+    assert_eq!(rt; space.remap(0x6010_0000_2000, 4096, 20_480), None);
+    assert_eq!(rt; space.map(12_288), Some(0x6010_0000_5000));
+}
+
+#[test]
+fn a_full_window_refuses_longer_mappings_alone(rt: HostRuntime) {
+    let mut space = Space::new(Always, 0, windows());
+    assert_eq!(rt; space.map(MAP_LENGTH), Some(MAP_START));
+    assert_eq!(rt; space.remap(MAP_START, MAP_LENGTH, 4096), Some(MAP_START));
+    assert_eq!(rt; space.remap(MAP_START, 4096, 8192), None);
+    assert_eq!(rt; space.remap(MAP_START, 4096, u64::MAX - 4095), None);
 }
 
 #[test]

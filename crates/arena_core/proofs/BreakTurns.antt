@@ -12,7 +12,7 @@ use Rattle.address_space.specs.declared.space.Space.{Space}
 use Rattle.thread_cache.specs.Caches.{CacheValue}
 use Rattle.arena_rules.specs.declared.said.Said.{Said}
 use Rattle.arena_rules.specs.PlainArena.{Plain, IsSound, is_main, once_of}
-use Rattle.arena_rules.specs.MainPlaces.{IsMainPlaced}
+use Rattle.arena_rules.proofs.MainPlaces.{placed_beside}
 use Rattle.arena_rules.specs.Moves.{top_start, cut_from_top}
 use Rattle.arena_rules.specs.Growth as growth
 use Rattle.arena_rules.specs.Growth.{main_growth, has_top_for, closing, break_rest, break_taken, piece_grown, main_grown, noted, from_top, grown, heaps_grown, maps_else}
@@ -133,9 +133,7 @@ noted_balances : {O : Type 0} {l : Ledger O} {x : Stage O} {b : Plain} {o : O} {
 noted_balances {b = b} m = record {
   sound = record { row = m.sound.row; one_top = m.sound.one_top; listed = record { once = m.sound.listed.once; width = m.sound.listed.width; bins = m.sound.listed.bins } };
   number = m.number;
-  placed = λ p main.
-      let q : IsMainPlaced b = m.placed p main in
-      record { outside = λ n out. q.outside n (record { break = out.break; pieces = out.pieces }); start = q.start; limit = q.limit; pieces = q.pieces; piece_limit = q.piece_limit; break_page = q.break_page; piece_page = q.piece_page; system = q.system };
+  placed = λ p main. placed_beside b b.bins b.last (noted b).most (m.placed p main);
   cached = m.cached;
   others = m.others;
   kept = m.kept;

@@ -23,7 +23,7 @@ use Rattle.arena_rules.specs.Walks.{Walks, here, idled, done, told as walked, Re
 use Rattle.arena_rules.proofs.Walks.{reaches_told, short_here}
 use Rattle.consolidate_trim.specs.Holds.{Chunks, no_chunk}
 use Rattle.consolidate_trim.specs.Outside.{Means, Outside, Goes, Does, ways}
-use Rattle.arena_core.specs.Asking.{IsSearchable, AsksFor, answer_of, beside_arena}
+use Rattle.arena_core.specs.Asking.{IsSearchable, AsksFor, granted_answer, beside_arena}
 use Rattle.arena_core.specs.Ledgers.{Stage, stage, Works, full}
 use Rattle.arena_core.proofs.Balance.{balances_here, loses_from, works_short}
 use Rattle.arena_core.proofs.Parts.{Passes}
@@ -74,26 +74,26 @@ walks_windows {m = m} (walked {n = need} {s = s} f h a) = walks_windows a ∙ go
 
 -- ---- an ask
 
-answer_flag : (ask : Ask) (granted : Bool) → flag_of (told.Asked ask (answer_of granted)) ≡ granted
+answer_flag : (ask : Ask) (granted : Bool) → flag_of (told.Asked ask (granted_answer granted)) ≡ granted
 answer_flag ask true = refl
 answer_flag ask false = refl
 
-fit_asked : {K : Type 0} {kernel : Port K} {space space' : Space K} (t : Tunables) (ask : Ask) (granted : Bool) → same_ask ask ask ≡ true → space.windows ≡ windows_of t → AsksWithin kernel space (passes_window space.windows ask) ask (answer_of granted) space' →
-    fits t (Asks ask) (told.Asked ask (answer_of granted)) ≡ true
+fit_asked : {K : Type 0} {kernel : Port K} {space space' : Space K} (t : Tunables) (ask : Ask) (granted : Bool) → same_ask ask ask ≡ true → space.windows ≡ windows_of t → AsksWithin kernel space (passes_window space.windows ask) ask (granted_answer granted) space' →
+    fits t (Asks ask) (told.Asked ask (granted_answer granted)) ≡ true
 fit_asked {space = space} t ask granted same windows a =
-    let refused : (passes : Bool) → passes_window space.windows ask ≡ passes → (not passes || is_refused (answer_of granted)) ≡ true = elim [
+    let refused : (passes : Bool) → passes_window space.windows ask ≡ passes → (not passes || is_refused (granted_answer granted)) ≡ true = elim [
       | true ↦ λ is. ap (λ (r : Answer). is_refused r) (a.passed is).0
       | false ↦ λ is. refl
     ] in
-    let here : (not (passes_window (windows_of t) ask) || is_refused (answer_of granted)) ≡ true =
-    subst (λ w. (not (passes_window w ask) || is_refused (answer_of granted)) ≡ true) windows (refused (passes_window space.windows ask) refl) in
-    ap (λ (b : Bool). b && (not (passes_window (windows_of t) ask) || is_refused (answer_of granted))) same ∙ here
+    let here : (not (passes_window (windows_of t) ask) || is_refused (granted_answer granted)) ≡ true =
+    subst (λ w. (not (passes_window w ask) || is_refused (granted_answer granted)) ≡ true) windows (refused (passes_window space.windows ask) refl) in
+    ap (λ (b : Bool). b && (not (passes_window (windows_of t) ask) || is_refused (granted_answer granted))) same ∙ here
 
 pub asked_passes : {P K A : Type 0} (m : Means P K) (t : Tunables) (a : Plain) (ask : Ask) (granted : Bool) (port : P) (cache : CacheValue) (space space' : Space K) (said said' : List Said) (f : Bool → Rules A) → let ok : Result Bool NoMemory = Ok granted in
     IsSound a → same_ask ask ask ≡ true → space.windows ≡ windows_of t → AsksFor m.kernel ask space said ok space' said' →
     Passes (full m) t (asks_for a ask f) (stage a (beside_arena port cache space) said) no_chunk (f granted) (stage a (beside_arena port cache space') said')
 asked_passes m t a ask granted port cache space space' said said' f s same windows asked =
-    let answer : Said = told.Asked ask (answer_of granted) in
+    let answer : Said = told.Asked ask (granted_answer granted) in
     let reaches : Reaches t ((full m).ways a.number) (asks_for a ask f) (beside_arena port cache space) said (f (flag_of answer)) (said ++ answer ∷ []) (beside_arena port cache space') =
     reaches_told {t = t} {w = (full m).ways a.number} {a = a} {n = Asks ask} {f = λ s. f (flag_of s)} {o = beside_arena port cache space} {z = beside_arena port cache space'} answer (fit_asked t ask granted same windows asked.asks) (record { asks = asked.asks; others = refl }) in
     let flagged = subst (λ b. Reaches t ((full m).ways a.number) (asks_for a ask f) (beside_arena port cache space) said (f b) (said ++ answer ∷ []) (beside_arena port cache space')) (answer_flag ask granted) reaches in

@@ -1,13 +1,13 @@
 -- What a hold leaves of its outside, and what it does to the mapped chunks that the port shows (public for the crates
 -- above).
-use Rattle.std.proofs.Common.{◌≡◌, ℕ, ◌+◌, ◌≤◌, Bool, true, false, List, Some, None, IsTrue, inl, inr, refl, sym, ap, ◌∙◌, subst, arith}
+use Rattle.std.proofs.Common.{◌≡◌, ℕ, ◌+◌, ◌%◌, ◌≤◌, Bool, true, false, List, Some, None, IsTrue, inl, inr, refl, sym, ap, ◌∙◌, subst, arith}
 use Rattle.std.specs.Prelude.{◌⊎◌}
 use Rattle.chunk_tags.specs.Pages.{mapping_length}
 use Rattle.chunk_tags.specs.declared.block.Block.{Block}
 use Rattle.chunk_tags.specs.declared.tiles.Chunk.{Chunk}
 use Rattle.chunk_tags.specs.declared.tunables.Tunables.{Tunables}
 use Rattle.address_space.specs.Ports.{Port}
-use Rattle.address_space.specs.Spaces.{space_tells, AsksWithin, MapsWithin, map_passes, map_limit}
+use Rattle.address_space.specs.Spaces.{space_tells, AsksWithin, MapsWithin, map_passes, map_limit, map_start, map_place as next_place}
 use Rattle.address_space.specs.declared.asks.Ask.{Ask}
 use Rattle.address_space.specs.declared.asks.Answer.{Answer}
 use Rattle.address_space.specs.declared.asks.Answer.TheVariants.{Granted, Refused}
@@ -19,7 +19,7 @@ use Rattle.arena_rules.specs.declared.said.Said.{Said}
 use Rattle.arena_rules.specs.declared.said.Said.TheVariants as told
 use Rattle.arena_rules.specs.PlainArena.{Plain}
 use Rattle.arena_rules.specs.Growth.{Found, InArena, InMapping, Nowhere, Took}
-use Rattle.arena_rules.specs.Rules.{Rules, Stop, Misfit, Does, Needs, Need, Flagged, Pops, Owns, Rooms, Asks, Maps, Reads, Deed, Clears, Gathers, Pushes, Stashes, Draws, Gives, Counts, map_place, place_told}
+use Rattle.arena_rules.specs.Rules.{Rules, Stop, Misfit, Does, Needs, Need, Flagged, Pops, Owns, Rooms, Asks, Maps, Reads, Deed, Clears, Gathers, Pushes, Stashes, Draws, Gives, Counts, mapping_place_in, place_told}
 use Rattle.arena_rules.specs.Mapped.{MapsOnce, EndsMapped}
 use Rattle.arena_rules.specs.Walks as walks
 use Rattle.arena_rules.specs.Walks.{Walks}
@@ -29,7 +29,7 @@ use Rattle.consolidate_trim.specs.Outside.{Means, Outside, Goes, ways}
 use Rattle.arena_core.specs.declared.journal.Act.{Act}
 use Rattle.arena_core.specs.declared.journal.Act.TheVariants.{Take, Give}
 use Rattle.arena_core.specs.Replay.{rules_of, found_nothing, chunk_at}
-use Rattle.arena_core.specs.Shown.{Shown, ShowsMapped, EndsCounted, StopsCounted, counted_in}
+use Rattle.arena_core.specs.Shown.{MappedShown, ShowsMapped, EndsCounted, StopsCounted, IsCounted, counted_in}
 use Rattle.arena_rules.specs.Release.{given}
 
 -- ---- what an ask leaves of an address space
@@ -138,31 +138,43 @@ walked_frame {m = m} {z = z} (walks.told {n = n} {s = s} {o = o} {p = p} f h a) 
 -- ---- what a step of rules that map once does
 
 -- nothing was counted, and nothing mapped
-record Same {P K : Type 0} (shown : P → Shown) (o p : Outside P K) : Type 0 where
+record Same {P K : Type 0} (shown : P → MappedShown) (o p : Outside P K) : Type 0 where
   port : shown p.port ≡ shown o.port
   mapped : p.space.mapped ≡ o.space.mapped
+  place : next_place p.space ≡ next_place o.space
 
 -- a mapping was granted, which the rules then count
-record IsGrant {P K : Type 0} (shown : P → Shown) (nb : ℕ) (o p : Outside P K) (s : Said) (r : Rules Took) : Type 0 where
+record IsGrant {P K : Type 0} (shown : P → MappedShown) (nb : ℕ) (o p : Outside P K) (s : Said) (r : Rules Took) : Type 0 where
   len : ℕ
   length : len ≡ mapping_length nb
   ends : EndsMapped len s r
   port : shown p.port ≡ shown o.port
   mapped : p.space.mapped ≡ o.space.mapped + len
+  place : place_told s ≡ next_place o.space
+  behind : place_told s + len ≡ next_place p.space
+  page : place_told s % 4096 ≡ 0
   limit : place_told s + len ≤ map_limit
 
-same_port : {P K : Type 0} (shown : P → Shown) (o p : Outside P K) → shown p.port ≡ shown o.port → p ≡ record o { port = p.port } → Same shown o p
-same_port {P = P} {K = K} shown o p port others = record { port = port; mapped = ap (λ (x : Outside P K). x.space.mapped) others }
+same_port : {P K : Type 0} (shown : P → MappedShown) (o p : Outside P K) → shown p.port ≡ shown o.port → p ≡ record o { port = p.port } → Same shown o p
+same_port {P = P} {K = K} shown o p port others = record { port = port; mapped = ap (λ (x : Outside P K). x.space.mapped) others; place = ap (λ (x : Outside P K). next_place x.space) others }
 
-same_asked : {P K : Type 0} (shown : P → Shown) (o p : Outside P K) → rest_of p.space ≡ rest_of o.space → p ≡ record o { space = p.space } → Same shown o p
+same_asked : {P K : Type 0} (shown : P → MappedShown) (o p : Outside P K) → rest_of p.space ≡ rest_of o.space → p ≡ record o { space = p.space } → Same shown o p
 same_asked {P = P} {K = K} shown o p rest others =
-    record { port = ap (λ (x : Outside P K). shown x.port) others; mapped = ap (λ (r : ℕ × Windows × ℕ). r.2) rest }
+    record {
+      port = ap (λ (x : Outside P K). shown x.port) others;
+      mapped = ap (λ (r : ℕ × Windows × ℕ). r.2) rest;
+      place = ap (λ (r : ℕ × Windows × ℕ). map_start r.0 + r.2) rest;
+    }
 
-same_space : {P K : Type 0} (shown : P → Shown) (o p : Outside P K) (cache : CacheValue) → p ≡ record o { cache = cache } → Same shown o p
+same_space : {P K : Type 0} (shown : P → MappedShown) (o p : Outside P K) (cache : CacheValue) → p ≡ record o { cache = cache } → Same shown o p
 same_space {P = P} {K = K} shown o p cache is =
-    record { port = ap (λ (x : Outside P K). shown x.port) is; mapped = ap (λ (x : Outside P K). x.space.mapped) is }
+    record {
+      port = ap (λ (x : Outside P K). shown x.port) is;
+      mapped = ap (λ (x : Outside P K). x.space.mapped) is;
+      place = ap (λ (x : Outside P K). next_place x.space) is;
+    }
 
-does_same : {P K : Type 0} (m : Means P K) (number : ℕ) (shown : P → Shown) → ShowsMapped m.fast m.dials shown → (nb : ℕ) (o p : Outside P K) (d : Deed) (r : Rules Took) → MapsOnce nb (Does d r) → outside.Does m number o d p → MapsOnce nb r × Same shown o p
+does_same : {P K : Type 0} (m : Means P K) (number : ℕ) (shown : P → MappedShown) → ShowsMapped m.fast m.dials shown → (nb : ℕ) (o p : Outside P K) (d : Deed) (r : Rules Took) → MapsOnce nb (Does d r) → outside.Does m number o d p → MapsOnce nb r × Same shown o p
 does_same m number shown shows nb o p Clears r once h = (once, same_port shown o p (shows.steps o.port p.port fasts.Clears h.did.step) h.others)
 does_same m number shown shows nb o p (Gathers bin) r once h = (once, same_port shown o p (shows.steps o.port p.port (fasts.Gathers bin) h.did.step) h.others)
 does_same m number shown shows nb o p (Pushes bin at) r once h = (once, same_port shown o p (shows.steps o.port p.port (fasts.Pushes bin at) h.did.step) h.others)
@@ -171,7 +183,7 @@ does_same m number shown shows nb o p (Draws size) r once h = (once, same_space 
 does_same m number shown shows nb o p (Gives back) r once h = (once, same_asked shown o p (ap rest_of h.gives.others) h.others)
 does_same m number shown shows nb o p (Counts len) r once h = absurd once
 
-goes_same : {P K : Type 0} (m : Means P K) (shown : P → Shown) → ShowsMapped m.fast m.dials shown → (nb : ℕ) (o p : Outside P K) (a : Plain) (n : Need) (f : Said → Rules Took) (s : Said) → MapsOnce nb (Needs a n f) → Goes m o n s p → (MapsOnce nb (f s) × Same shown o p) ⊎ (IsGrant shown nb o p s (f s))
+goes_same : {P K : Type 0} (m : Means P K) (shown : P → MappedShown) → ShowsMapped m.fast m.dials shown → (nb : ℕ) (o p : Outside P K) (a : Plain) (n : Need) (f : Said → Rules Took) (s : Said) → MapsOnce nb (Needs a n f) → Goes m o n s p → (MapsOnce nb (f s) × Same shown o p) ⊎ (IsGrant shown nb o p s (f s))
 goes_same m shown shows nb o p a Flagged f (told.Flag b) once h = inl (once (told.Flag b), same_port shown o p (shows.steps o.port p.port (fasts.Flags b) h.did.step) h.others)
 goes_same m shown shows nb o p a (Pops bin) f (told.Popped at) once h = inl (once (told.Popped at), same_port shown o p (shows.steps o.port p.port (fasts.Pops bin at) h.did.step) h.others)
 goes_same m shown shows nb o p a (Owns bin) f (told.Own at) once h = inl (once (told.Own at), same_port shown o p (shows.steps o.port p.port (fasts.Owns bin at) h.did.step) h.others)
@@ -184,7 +196,10 @@ goes_same {P = P} {K = K} m shown shows nb o p a (Maps len) f (told.Asked asked 
   ends = (once.1 (told.Asked asked Granted)).0 refl;
   port = ap (λ (x : Outside P K). shown x.port) h.others;
   mapped = ap (λ (r : ℕ × Windows × ℕ). r.2) (granted_rest m.kernel o.space p.space len _ h.maps);
-  limit = omega (arith, ap map_place h.place, h.maps.fresh.limit);
+  place = ap mapping_place_in h.place;
+  behind = omega (arith, ap mapping_place_in h.place, h.maps.fresh.behind);
+  page = subst (λ n. n % 4096 ≡ 0) (sym (ap mapping_place_in h.place)) h.maps.fresh.page;
+  limit = omega (arith, ap mapping_place_in h.place, h.maps.fresh.limit);
 })
 goes_same m shown shows nb o p a (Maps len) f (told.Asked asked Refused) once h =
     inl ((once.1 (told.Asked asked Refused)).1 refl, same_asked shown o p (refused_rest m.kernel o.space p.space len h.maps) h.others)
@@ -205,59 +220,67 @@ chunk_found (InMapping c) = c
 chunk_found Nowhere = record { at = 0; size = 0 }
 
 -- rules that have ended: only room is made
-stopped_walk : {P K : Type 0} (m : Means P K) (number : ℕ) (shown : P → Shown) → ShowsMapped m.fast m.dials shown → {t : Tunables} {x : Took} {q : Rules Took} {o z : Outside P K} {ss : List Said} →
+stopped_walk : {P K : Type 0} (m : Means P K) (number : ℕ) (shown : P → MappedShown) → ShowsMapped m.fast m.dials shown → {t : Tunables} {x : Took} {q : Rules Took} {o z : Outside P K} {ss : List Said} →
     Walks t (ways m number) (Stop x) o ss q z → (q ≡ Stop x) × Same shown o z
-stopped_walk m number shown shows walks.here = (refl, record { port = refl; mapped = refl })
+stopped_walk m number shown shows walks.here = (refl, record { port = refl; mapped = refl; place = refl })
 stopped_walk m number shown shows {z = z} (walks.idled {o = o} {p = p} i a) =
     let k = stopped_walk m number shown shows a in
     let s : Same shown o p = same_port shown o p (shows.idles o.port p.port i.idles.idle) i.others in
-    (k.0, record { port = k.1.port ∙ s.port; mapped = k.1.mapped ∙ s.mapped })
+    (k.0, record { port = k.1.port ∙ s.port; mapped = k.1.mapped ∙ s.mapped; place = k.1.place ∙ s.place })
 
 -- rules that count a mapping and end: they do so, or the count is still to come
-counted_walk : {P K : Type 0} (m : Means P K) (number : ℕ) (shown : P → Shown) → ShowsMapped m.fast m.dials shown → {t : Tunables} {len : ℕ} {x : Took} {q : Rules Took} {o z : Outside P K} {ss : List Said} →
+counted_walk : {P K : Type 0} (m : Means P K) (number : ℕ) (shown : P → MappedShown) → ShowsMapped m.fast m.dials shown → {t : Tunables} {len : ℕ} {x : Took} {q : Rules Took} {o z : Outside P K} {ss : List Said} →
     Walks t (ways m number) (Does (Counts len) (Stop x)) o ss q z →
-    (q ≡ Does (Counts len) (Stop x)) ⊎ ((q ≡ Stop x) × (shown z.port ≡ counted_in len (shown o.port)) × (z.space.mapped ≡ o.space.mapped))
+    (q ≡ Does (Counts len) (Stop x)) ⊎ ((q ≡ Stop x) × (shown z.port ≡ counted_in len (shown o.port)) × (z.space.mapped ≡ o.space.mapped) × (next_place z.space ≡ next_place o.space))
 counted_walk m number shown shows walks.here = inl refl
 counted_walk m number shown shows {len = len} {z = z} (walks.idled {o = o} {p = p} i a) =
     let s : Same shown o p = same_port shown o p (shows.idles o.port p.port i.idles.idle) i.others in
     elim (counted_walk m number shown shows a) [
       | inl k ↦ inl k
-      | inr k ↦ inr (k.0, k.1 ∙ ap (counted_in len) s.port, k.2 ∙ s.mapped)
+      | inr k ↦ inr (k.0, k.1 ∙ ap (counted_in len) s.port, k.2 ∙ s.mapped, k.3 ∙ s.place)
     ]
 counted_walk {P = P} {K = K} m number shown shows {len = len} (walks.done {o = o} {p = p} h a) =
     let k = stopped_walk m number shown shows a in
-    inr (k.0, k.1.port ∙ shows.maps o.port p.port len h.step, k.1.mapped ∙ ap (λ (x : Outside P K). x.space.mapped) h.others)
+    inr (
+      k.0,
+      k.1.port ∙ shows.maps o.port p.port len h.step,
+      k.1.mapped ∙ ap (λ (x : Outside P K). x.space.mapped) h.others,
+      k.1.place ∙ ap (λ (x : Outside P K). next_place x.space) h.others,
+    )
 
 -- a mapping was counted, and the rules have ended with its chunk
-record IsCounted {P K : Type 0} (shown : P → Shown) (nb : ℕ) (o z : Outside P K) (q : Rules Took) : Type 0 where
+record IsMapEnd {P K : Type 0} (shown : P → MappedShown) (nb : ℕ) (o z : Outside P K) (q : Rules Took) : Type 0 where
   chunk : Chunk
   arena : Plain
   is : q ≡ Stop (record { found = InMapping chunk; arena = arena })
-  port : shown z.port ≡ counted_in chunk.size (shown o.port)
   mapped : z.space.mapped ≡ o.space.mapped + chunk.size
-  length : chunk.size ≡ mapping_length nb
-  limit : chunk.at + chunk.size ≤ map_limit
+  counted : IsCounted shown nb o z chunk
 
 -- nothing was counted yet; or a granted mapping is about to be; or one was
-data Progress {P K : Type 0} (shown : P → Shown) (nb : ℕ) (o z : Outside P K) (q : Rules Took) : Type 0 where
+data Progress {P K : Type 0} (shown : P → MappedShown) (nb : ℕ) (o z : Outside P K) (q : Rules Took) : Type 0 where
   uncounted : MapsOnce nb q → Same shown o z → Progress shown nb o z q
   granted : (d : Deed) (r : Rules Took) → q ≡ Does d r → Progress shown nb o z q
-  counted : IsCounted shown nb o z q → Progress shown nb o z q
+  counted : IsMapEnd shown nb o z q → Progress shown nb o z q
 
-progress_from : {P K : Type 0} (shown : P → Shown) (nb : ℕ) (o p z : Outside P K) (q : Rules Took) → Same shown o p → Progress shown nb p z q → Progress shown nb o z q
-progress_from shown nb o p z q s (uncounted once k) = uncounted once (record { port = k.port ∙ s.port; mapped = k.mapped ∙ s.mapped })
+progress_from : {P K : Type 0} (shown : P → MappedShown) (nb : ℕ) (o p z : Outside P K) (q : Rules Took) → Same shown o p → Progress shown nb p z q → Progress shown nb o z q
+progress_from shown nb o p z q s (uncounted once k) = uncounted once (record { port = k.port ∙ s.port; mapped = k.mapped ∙ s.mapped; place = k.place ∙ s.place })
 progress_from shown nb o p z q s (granted d r is) = granted d r is
 progress_from shown nb o p z q s (counted k) = counted (record {
   chunk = k.chunk;
   arena = k.arena;
   is = k.is;
-  port = k.port ∙ ap (counted_in k.chunk.size) s.port;
   mapped = omega (arith, k.mapped, s.mapped);
-  length = k.length;
-  limit = k.limit;
+  counted = let i = k.counted in record {
+    shows = i.shows ∙ ap (counted_in k.chunk.size) s.port;
+    length = i.length;
+    place = i.place ∙ s.place;
+    behind = i.behind;
+    page = i.page;
+    limit = i.limit;
+  };
 })
 
-progress_granted : {P K : Type 0} (m : Means P K) (number : ℕ) (shown : P → Shown) → ShowsMapped m.fast m.dials shown → (nb : ℕ) {t : Tunables} {r q : Rules Took} {o p z : Outside P K} {s : Said} {ss : List Said} →
+progress_granted : {P K : Type 0} (m : Means P K) (number : ℕ) (shown : P → MappedShown) → ShowsMapped m.fast m.dials shown → (nb : ℕ) {t : Tunables} {r q : Rules Took} {o p z : Outside P K} {s : Said} {ss : List Said} →
     IsGrant shown nb o p s r → Walks t (ways m number) r p ss q z → Progress shown nb o z q
 progress_granted m number shown shows nb {t = t} {q = q} {p = p} {z = z} {s = s} {ss = ss} g a =
     let c : Chunk = record { at = place_told s; size = g.len } in
@@ -268,16 +291,21 @@ progress_granted m number shown shows nb {t = t} {q = q} {p = p} {z = z} {s = s}
         chunk = c;
         arena = g.ends.arena;
         is = k.0;
-        port = k.1 ∙ ap (counted_in g.len) g.port;
         mapped = k.2 ∙ g.mapped;
-        length = g.length;
-        limit = g.limit;
+        counted = record {
+          shows = k.1 ∙ ap (counted_in g.len) g.port;
+          length = g.length;
+          place = g.place;
+          behind = g.behind ∙ sym k.3;
+          page = g.page;
+          limit = g.limit;
+        };
       })
     ]
 
-walked_progress : {P K : Type 0} (m : Means P K) (number : ℕ) (shown : P → Shown) → ShowsMapped m.fast m.dials shown → (nb : ℕ) {t : Tunables} {r q : Rules Took} {o z : Outside P K} {ss : List Said} →
+walked_progress : {P K : Type 0} (m : Means P K) (number : ℕ) (shown : P → MappedShown) → ShowsMapped m.fast m.dials shown → (nb : ℕ) {t : Tunables} {r q : Rules Took} {o z : Outside P K} {ss : List Said} →
     MapsOnce nb r → Walks t (ways m number) r o ss q z → Progress shown nb o z q
-walked_progress m number shown shows nb once walks.here = uncounted once (record { port = refl; mapped = refl })
+walked_progress m number shown shows nb once walks.here = uncounted once (record { port = refl; mapped = refl; place = refl })
 walked_progress m number shown shows nb {q = q} {z = z} once (walks.idled {o = o} {p = p} i a) =
     progress_from shown nb o p z q (same_port shown o p (shows.idles o.port p.port i.idles.idle) i.others) (walked_progress m number shown shows nb once a)
 walked_progress m number shown shows nb {q = q} {z = z} once (walks.done {d = d} {r = r} {o = o} {p = p} h a) =
@@ -291,14 +319,14 @@ walked_progress m number shown shows nb {q = q} {z = z} once (walks.told {a = a}
 
 -- ---- where a hold ended, and where it was left
 
-pub walked_to_end : {P K : Type 0} (m : Means P K) (number : ℕ) (shown : P → Shown) → ShowsMapped m.fast m.dials shown → (nb : ℕ) {t : Tunables} {r : Rules Took} {o z : Outside P K} {ss : List Said} {x : Took} →
+pub walked_to_end : {P K : Type 0} (m : Means P K) (number : ℕ) (shown : P → MappedShown) → ShowsMapped m.fast m.dials shown → (nb : ℕ) {t : Tunables} {r : Rules Took} {o z : Outside P K} {ss : List Said} {x : Took} →
     MapsOnce nb r → Walks t (ways m number) r o ss (Stop x) z → EndsCounted shown nb o z x
 walked_to_end {P = P} {K = K} m number shown shows nb {o = o} {z = z} {x = x} once a =
     let ends : Progress shown nb o z (Stop x) → EndsCounted shown nb o z x = elim [
       | uncounted still same ↦ record {
         none = λ _. same.port;
         one = λ c is. absurd (still c is);
-        bytes = omega (arith, ap (λ (s : Shown). s.bytes) same.port, same.mapped);
+        bytes = omega (arith, ap (λ (s : MappedShown). s.bytes) same.port, same.mapped);
       }
       | granted d r is ↦ absurd cc
       | counted k ↦
@@ -307,17 +335,17 @@ walked_to_end {P = P} {K = K} m number shown shows nb {o = o} {z = z} {x = x} on
             none = λ none. absurd (none k.chunk found);
             one = λ c is.
                 let same : k.chunk ≡ c = ap chunk_found (sym found ∙ is) in
-                subst (λ (e : Chunk). (shown z.port ≡ counted_in e.size (shown o.port)) × (e.size ≡ mapping_length nb) × (e.at + e.size ≤ map_limit)) same (k.port, k.length, k.limit);
-            bytes = omega (arith, ap (λ (s : Shown). s.bytes) k.port, k.mapped);
+                subst (λ (e : Chunk). IsCounted shown nb o z e) same k.counted;
+            bytes = omega (arith, ap (λ (s : MappedShown). s.bytes) k.counted.shows, k.mapped);
           }
     ] in
     ends (walked_progress m number shown shows nb once a)
 
-pub walked_short : {P K : Type 0} (m : Means P K) (number : ℕ) (shown : P → Shown) → ShowsMapped m.fast m.dials shown → (nb : ℕ) {t : Tunables} {r : Rules Took} {o z : Outside P K} {ss : List Said} {left : Plain} {need : Need} {next : Said → Rules Took} →
+pub walked_short : {P K : Type 0} (m : Means P K) (number : ℕ) (shown : P → MappedShown) → ShowsMapped m.fast m.dials shown → (nb : ℕ) {t : Tunables} {r : Rules Took} {o z : Outside P K} {ss : List Said} {left : Plain} {need : Need} {next : Said → Rules Took} →
     MapsOnce nb r → Walks t (ways m number) r o ss (Needs left need next) z → StopsCounted shown o z
 walked_short m number shown shows nb {o = o} {z = z} {left = left} {need = need} {next = next} once a =
     let stops : Progress shown nb o z (Needs left need next) → StopsCounted shown o z = elim [
-      | uncounted still same ↦ record { same = same.port; bytes = omega (arith, ap (λ (s : Shown). s.bytes) same.port, same.mapped) }
+      | uncounted still same ↦ record { same = same.port; bytes = omega (arith, ap (λ (s : MappedShown). s.bytes) same.port, same.mapped) }
       | granted d r is ↦ absurd cc
       | counted k ↦ let is = k.is in absurd (cc is)
     ] in

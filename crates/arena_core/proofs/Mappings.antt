@@ -9,7 +9,7 @@ use Rattle.chunk_tags.specs.Dials.{Dial, MmapThreshold, MappedCount}
 use Rattle.chunk_tags.specs.declared.refusals.NoMemory.{NoMemory}
 use Rattle.chunk_tags.specs.declared.tiles.Chunk.{Chunk}
 use Rattle.chunk_tags.specs.declared.tunables.Tunables.{Tunables}
-use Rattle.address_space.specs.Spaces.{MapsWithin, map_passes, map_place}
+use Rattle.address_space.specs.Spaces.{MapsWithin, map_place}
 use Rattle.address_space.specs.declared.asks.Ask.TheVariants as asks
 use Rattle.address_space.specs.declared.asks.Answer.TheVariants.{Granted, Refused}
 use Rattle.address_space.specs.declared.space.Space.{Space}
@@ -27,7 +27,7 @@ use Rattle.arena_rules.proofs.Walks.{reaches_then, reaches_told, reaches_done, s
 use Rattle.consolidate_trim.specs.Holds.{no_chunk}
 use Rattle.consolidate_trim.specs.Outside.{Means, Apart}
 use Rattle.arena_core.specs.Ledgers.{stage, full, word_ledger}
-use Rattle.arena_core.specs.Asking.{AllowsMaps, AsksMapping, AsksWhether, beside_arena}
+use Rattle.arena_core.specs.Asking.{AsksMapping, AsksWhether, beside_arena}
 use Rattle.arena_core.proofs.Balance.{balances_here, loses_from, works_ok, works_short}
 use Rattle.arena_core.proofs.Lifting.{IsPart}
 use Rattle.arena_core.proofs.Parts.{Passes, passes_then}
@@ -108,44 +108,31 @@ whether_large fast dials t nb threshold count p q z old b apart step le step' is
 abbrev chunk_of_length : ℕ → ℕ → Chunk
 chunk_of_length at len = record { at = at; size = len }
 
-not_passed : {K : Type 0} {port : _} (before now : Space K) (len place : ℕ) → MapsWithin port before len (Some place) now → map_passes before len ≡ false
-not_passed before now len place m =
-    let cases : (b : Bool) → map_passes before len ≡ b → b ≡ false = elim [
-      | true ↦ λ is. let none : Some place ≡ None = (m.passed is).0 in absurd (cc none)
-      | false ↦ λ is. refl
-    ] in
-    cases (map_passes before len) refl
-
-pub mapping_allowed : {P K : Type 0} {port : _} (dials : Dialled P) (p : P) (before now : Space K) (len place : ℕ) → AllowsMaps dials p before → MapsWithin port before len (Some place) now → dials.allows p (dial_steps.Maps len)
-mapping_allowed dials p before now len place allows m = allows.allowed len (not_passed before now len place m)
-
 pub mapping_short : {P K : Type 0} (m : Means P K) (nb : ℕ) (p : P) (space : Space K) (old : List Said) (r : Result (Option Chunk) NoMemory) → IsErr r → AsksMapping m nb p space old r p space old
 mapping_short m nb p space old r is = record { works = λ t a cache s. works_short r is short_here (loses_from (balances_here (full m) (stage a (beside_arena p cache space) old) old s)) }
 
-pub mapping_refused : {P K : Type 0} (m : Means P K) (nb len : ℕ) (p : P) (space now : Space K) (old : List Said) → len ≡ mapping_length nb → MapsWithin m.kernel space len None now →
-    AsksMapping m nb p space old (Ok None) p now (old ++ told.Asked (asks.Map (map_place space) len) Refused ∷ [])
-mapping_refused m nb len p space now old is maps = record {
+pub mapping_refused : {P K : Type 0} (m : Means P K) (nb : ℕ) (p : P) (space now : Space K) (old : List Said) → MapsWithin m.kernel space (mapping_length nb) None now →
+    AsksMapping m nb p space old (Ok None) p now (old ++ told.Asked (asks.Map (map_place space) (mapping_length nb)) Refused ∷ [])
+mapping_refused m nb p space now old maps = record {
   works = λ t a cache s.
-      let ask : Said = told.Asked (asks.Map (map_place space) len) Refused in
-      let fit : fits t (Maps (mapping_length nb)) ask ≡ true = eq-eqb (mapping_length nb) len (sym is) in
-      works_ok (reaches_told {w = (full m).ways a.number} {o = beside_arena p cache space} {z = beside_arena p cache now} ask fit
-      (record { place = ap (λ l. asks.Map (map_place space) l) is; maps = subst (λ l. MapsWithin m.kernel space l None now) is maps; others = refl }))
+      let ask : Said = told.Asked (asks.Map (map_place space) (mapping_length nb)) Refused in
+      let fit : fits t (Maps (mapping_length nb)) ask ≡ true = eq-eqb (mapping_length nb) (mapping_length nb) refl in
+      works_ok (reaches_told {w = (full m).ways a.number} {o = beside_arena p cache space} {z = beside_arena p cache now} ask fit (record { place = refl; maps = maps; others = refl }))
       (record { sound = s; number = refl; placed = λ p. p; cached = λ e. omega arith; others = λ n other e. refl; kept = λ e. omega arith });
 }
 
-pub mapping_granted : {P K : Type 0} (m : Means P K) (nb len place : ℕ) (p q : P) (space now : Space K) (old : List Said) → Apart m.fast m.dials → len ≡ mapping_length nb → MapsWithin m.kernel space len (Some place) now → m.dials.step p (dial_steps.Maps len) q →
-    AsksMapping m nb p space old (Ok (Some (record { at = map_place space; size = len }))) q now (old ++ told.Asked (asks.Map (map_place space) len) Granted ∷ [])
-mapping_granted m nb len place p q space now old apart is maps step = record {
+pub mapping_granted : {P K : Type 0} (m : Means P K) (nb place : ℕ) (p q : P) (space now : Space K) (old : List Said) → Apart m.fast m.dials → MapsWithin m.kernel space (mapping_length nb) (Some place) now → m.dials.step p (dial_steps.Maps (mapping_length nb)) q →
+    AsksMapping m nb p space old (Ok (Some (record { at = map_place space; size = mapping_length nb }))) q now (old ++ told.Asked (asks.Map (map_place space) (mapping_length nb)) Granted ∷ [])
+mapping_granted m nb place p q space now old apart maps step = record {
   works = λ t a cache s.
+      let len : ℕ = mapping_length nb in
       let ask : Said = told.Asked (asks.Map (map_place space) len) Granted in
-      let told_at : place ≡ map_place space = maps.fresh.told in
-      let fit : fits t (Maps (mapping_length nb)) ask ≡ true = eq-eqb (mapping_length nb) len (sym is) in
-      let here : MapsWithin m.kernel space (mapping_length nb) (Some (map_place space)) now = subst (λ l. MapsWithin m.kernel space l (Some (map_place space)) now) is (subst (λ at. MapsWithin m.kernel space len (Some at) now) told_at maps) in
-      let asked : Reaches t ((full m).ways a.number) (mapping nb a) (beside_arena p cache space) old (Does (Counts (mapping_length nb)) (Stop (Some (record { at = map_place space; size = mapping_length nb })))) (old ++ ask ∷ []) (beside_arena p cache now) =
-      reaches_told {w = (full m).ways a.number} {o = beside_arena p cache space} {z = beside_arena p cache now} ask fit (record { place = ap (λ l. asks.Map (map_place space) l) is; maps = here; others = refl }) in
-      let counted : Reaches t ((full m).ways a.number) (Does (Counts (mapping_length nb)) (Stop (Some (record { at = map_place space; size = mapping_length nb })))) (beside_arena p cache now) (old ++ ask ∷ []) (Stop (Some (record { at = map_place space; size = mapping_length nb }))) (old ++ ask ∷ []) (beside_arena q cache now) =
-      reaches_done {w = (full m).ways a.number} (record { step = subst (λ l. m.dials.step p (dial_steps.Maps l) q) is step; others = refl }) in
-      let whole = reaches_then asked counted in
-      works_ok (subst (λ l. Reaches t ((full m).ways a.number) (mapping nb a) (beside_arena p cache space) old (Stop (Some (chunk_of_length (map_place space) l))) (old ++ ask ∷ []) (beside_arena q cache now)) (sym is) whole)
+      let fit : fits t (Maps len) ask ≡ true = eq-eqb len len refl in
+      let here : MapsWithin m.kernel space len (Some (map_place space)) now = subst (λ at. MapsWithin m.kernel space len (Some at) now) maps.fresh.told maps in
+      let asked : Reaches t ((full m).ways a.number) (mapping nb a) (beside_arena p cache space) old (Does (Counts len) (Stop (Some (record { at = map_place space; size = len })))) (old ++ ask ∷ []) (beside_arena p cache now) =
+      reaches_told {w = (full m).ways a.number} {o = beside_arena p cache space} {z = beside_arena p cache now} ask fit (record { place = refl; maps = here; others = refl }) in
+      let counted : Reaches t ((full m).ways a.number) (Does (Counts len) (Stop (Some (record { at = map_place space; size = len })))) (beside_arena p cache now) (old ++ ask ∷ []) (Stop (Some (record { at = map_place space; size = len }))) (old ++ ask ∷ []) (beside_arena q cache now) =
+      reaches_done {w = (full m).ways a.number} (record { step = step; others = refl }) in
+      works_ok (reaches_then asked counted)
       (record { sound = s; number = refl; placed = λ p. p; cached = λ e. omega arith; others = λ n other e. refl; kept = λ e. omega (arith, apart.stock p q (dial_steps.Maps len) step e) });
 }

@@ -6,7 +6,7 @@ use Rattle.chunk_tags.specs.declared.tiles.Chunk.{Chunk}
 use Rattle.chunk_tags.specs.Sizes.{IsChunkSize, is_small_size}
 use Rattle.arena_rules.specs.declared.said.Said.{Said}
 use Rattle.arena_rules.specs.PlainArena.{Plain, IsSound, times_listed}
-use Rattle.arena_rules.specs.MainPlaces.{IsMainPlaced}
+use Rattle.arena_rules.proofs.MainPlaces.{placed_beside}
 use Rattle.arena_rules.specs.Search.{carved, carved_chunk, with_remainder}
 use Rattle.arena_rules.proofs.Beside.{beside_carved}
 use Rattle.arena_rules.proofs.Carving.{carved_moved}
@@ -22,9 +22,7 @@ last_balances : {O : Type 0} {l : Ledger O} {x : Stage O} {a : Plain} {o : O} {s
 last_balances {a = a} last m = record {
   sound = record { row = m.sound.row; one_top = m.sound.one_top; listed = record { once = m.sound.listed.once; width = m.sound.listed.width; bins = m.sound.listed.bins } };
   number = m.number;
-  placed = λ p main.
-      let q : IsMainPlaced a = m.placed p main in
-      record { outside = λ n out. q.outside n (record { break = out.break; pieces = out.pieces }); start = q.start; limit = q.limit; pieces = q.pieces; piece_limit = q.piece_limit; break_page = q.break_page; piece_page = q.piece_page; system = q.system };
+  placed = λ p main. placed_beside a a.bins last a.most (m.placed p main);
   cached = m.cached;
   others = m.others;
   kept = m.kept;

@@ -63,15 +63,15 @@ pub record AsksWhether {P : Type 0} (fast : Fast P) (dials : Dialled P) (t : Tun
   pub allows : (d : dial_steps.DialStep) → dials.allows port d → dials.allows port' d
 
 -- granted, or refused
-abbrev pub answer_of : Bool → Answer
-answer_of true = Granted
-answer_of false = Refused
+abbrev pub granted_answer : Bool → Answer
+granted_answer true = Granted
+granted_answer false = Refused
 
 -- An ask that isn't for a mapping, with its answer kept; where memory is short it isn't put.
 pub record AsksFor {K : Type 0} (kernel : Port K) (ask : Ask) (space : Space K) (said : List Said)
     (result : Result Bool NoMemory) (space' : Space K) (said' : List Said) : Type 0 where
-  pub asks : IfOk result (λ granted. AsksWithin kernel space (passes_window space.windows ask) ask (answer_of granted) space')
-  pub told : IfOk result (λ granted. said' ≡ said ++ told.Asked ask (answer_of granted) ∷ [])
+  pub asks : IfOk result (λ granted. AsksWithin kernel space (passes_window space.windows ask) ask (granted_answer granted) space')
+  pub told : IfOk result (λ granted. said' ≡ said ++ told.Asked ask (granted_answer granted) ∷ [])
   pub unasked : OnErr result (space' ≡ space)
   pub short : OnErr result (said' ≡ said)
 

@@ -1,6 +1,6 @@
 //! An arena with its journal.
 
-ghost use Rattle.std.specs.Prelude.{◌≡◌, ℕ, ◌<◌, [], ◌∷◌, ◌++◌, IsTrue, IfOk, IfErr, OnOk, OnErr, None, Some, vec_len, vec_capacity};
+ghost use Rattle.std.specs.Prelude.{◌≡◌, ℕ, ◌<◌, ◌≤◌, [], ◌∷◌, ◌++◌, IsTrue, IsSome, IfOk, IfErr, OnOk, OnErr, None, Some, vec_len, vec_capacity};
 ghost use Rattle.chunk_tags.specs.Sizes.{IsRequestSize};
 ghost use Rattle.address_space.specs.Ports.{Rose};
 ghost use Rattle.address_space.specs.Spaces.{space_refusals};
@@ -18,13 +18,12 @@ ghost use Rattle.arena_core.specs.declared.found.Found.TheVariants as finds;
 use crate::entry::Entry;
 use crate::found::Found;
 use crate::journal::{Act, Ended, Who};
-use crate::room::make_room;
 use crate::search::search;
 use crate::take::{GiveShort, Take};
 use address_space::{Kernel, Space};
 use arena_rules::{Moves, Said};
 use chunk_tags::{Block, Chunk, NoMemory, Size, Tunables};
-use consolidate_trim::give;
+use consolidate_trim::{give, make_room};
 use fast_bins::FastPort;
 use mapped_chunks::Dials;
 use std::alloc::Global;
@@ -122,6 +121,10 @@ impl<M: Moves> Arena<M> {
             no_chunk (held (M.plain self.new.ground) port.new cache.new space.new self.new.journal.items)) }
         ensures fits { IfOk result (FitsRequest nb) }
 
+        // The journal stays as it was only where it had no room for the entry.
+        ensures full { OnErr result (self.new.journal.items ≡ self.old.journal.items
+            → vec_capacity self.old.journal ≤ vec_len self.old.journal) }
+
         // Nothing is taken only where the system refused an ask.
         ensures refused { IfOk result (λ take. take ≡ Take.Refused
             → Rose (space_refusals K.port space.old) (space_refusals K.port space.new)) }
@@ -175,6 +178,10 @@ impl<M: Moves> Arena<M> {
             GivesShort (means P.fast P.dials K.port) t.now who b
             (held (M.plain self.old.ground) port.old cache space.old self.old.journal.items)
             e.back (held (M.plain self.new.ground) port.new cache space.new self.new.journal.items)) }
+
+        // The block comes back only where the journal had no room for the entry.
+        ensures full { IfErr result (λ e. IsSome e.back
+            → vec_capacity self.old.journal ≤ vec_len self.old.journal) }
 
         // The arena is still what the replay of its journal gives.
         ensures replay { (start : Plain) → IsReplay t.now start self.old.journal.items (M.plain self.old.ground)

@@ -9,12 +9,11 @@ ghost use Rattle.arena_core.specs.Ledgers.{near_ledger, near, stage};
 ghost use Rattle.arena_core.specs.Steps.{Steps, Sweeps, FitsStep, begun, begun_small};
 
 use crate::fast::take_fast;
-use crate::room::{make_room, tell};
 use crate::small::take_small;
 use crate::step::Step;
 use arena_rules::{Moves, Said};
 use chunk_tags::{NoMemory, Size, Tunables, is_small};
-use consolidate_trim::consolidate;
+use consolidate_trim::{consolidate, make_room, tell};
 use fast_bins::FastPort;
 use thread_cache::Cache;
 

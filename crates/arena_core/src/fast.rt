@@ -8,10 +8,11 @@ ghost use Rattle.consolidate_trim.specs.Holds.{IsBacked, no_chunk};
 ghost use Rattle.arena_core.specs.Ledgers.{near_ledger, near, stage};
 ghost use Rattle.arena_core.specs.Steps.{Steps, StashesFast, FitsStep};
 
-use crate::room::{ask_room, make_room, stash, tell};
+use crate::room::{ask_room, stash};
 use crate::step::Step;
 use arena_rules::{Moves, Said};
 use chunk_tags::{Addr, Chunk, NoMemory, Size, Tunables, fast_index};
+use consolidate_trim::{make_room, tell};
 use fast_bins::FastPort;
 use thread_cache::Cache;
 

@@ -9,10 +9,10 @@ ghost use Rattle.arena_rules.specs.Growth.{main_growth, piece_length, has_top_fo
 ghost use Rattle.arena_rules.specs.Rules.{windows_of};
 ghost use Rattle.arena_core.specs.Asking.{IsSearchable, AsksFor};
 
-use crate::room::{make_room, tell};
 use address_space::{Answer, Ask, Kernel, MAIN_START, PIECE_START, Space};
 use arena_rules::{Moves, Said};
 use chunk_tags::{NoMemory, Size, Tunables, page_up};
+use consolidate_trim::{make_room, tell};
 
 /// The smallest piece (glibc's `MMAP_AS_MORECORE_SIZE`).
 const SMALLEST_PIECE: u64 = 1_048_576;

@@ -1,18 +1,19 @@
 //! A mapping is asked for.
 
-ghost use Rattle.std.specs.Prelude.{◌≡◌, ◌+◌, ◌≤◌, ◌^◌, [], ◌∷◌, ◌++◌, IfOk, IfSome, OnErr};
+ghost use Rattle.std.specs.Prelude.{◌≡◌, ◌+◌, [], ◌∷◌, ◌++◌, IfOk, IfSome, OnErr};
 ghost use Rattle.chunk_tags.specs.Dials as words;
+ghost use Rattle.chunk_tags.specs.Sizes.{IsRequestSize};
 ghost use Rattle.mapped_chunks.specs.DialPorts as steps;
 ghost use Rattle.consolidate_trim.specs.Outside.{Apart, means};
 ghost use Rattle.arena_core.specs.Asking.{AllowsMaps, AsksMapping, AsksWhether};
 ghost use Rattle.arena_core.specs.Steps.{IsEnough};
 
-use crate::room::{make_room, tell};
 use address_space::{Answer, Ask, Kernel, Space};
 use arena_rules::Said;
-use chunk_tags::{Addr, Chunk, NoMemory, Size, Tunables, page_up};
+use chunk_tags::{Chunk, NoMemory, Size, Tunables, page_up};
+use consolidate_trim::{make_room, tell};
 use fast_bins::FastPort;
-use mapped_chunks::Dials;
+use mapped_chunks::{Dials, map};
 
 /// Asks for a mapping for `nb` bytes, which is counted where it is granted (in glibc's `sysmalloc`). `None` is the refusal.
 pub fn ask_mapping<K: Kernel, P: FastPort + Dials>(
@@ -21,7 +22,7 @@ pub fn ask_mapping<K: Kernel, P: FastPort + Dials>(
     space: &mut Space<K>,
     said: &mut Vec<Said>,
 ) -> Result<Option<Chunk>, NoMemory>
-    requires size { nb ≤ 2 ^ 63 + 16 }
+    requires size { IsRequestSize nb }
     requires apart { Apart P.fast P.dials }
     requires allows { AllowsMaps P.dials port.old space.old }
     ensures asks { AsksMapping (means P.fast P.dials K.port) nb port.old space.old said.old.items
@@ -31,13 +32,12 @@ pub fn ask_mapping<K: Kernel, P: FastPort + Dials>(
     make_room(said)?;
     let len = page_up(nb.0 + 8);
     let addr = space.map_place();
-    match space.map(len) {
-        Some(_place) => {
-            port.note_map(len);
+    match map(nb, space, port) {
+        Some(b) => {
             tell(said, &Said::Asked(Ask::Map { addr, len }, Answer::Granted));
             Ok(Some(Chunk {
-                at: Addr(addr),
-                size: Size(len),
+                at: b.addr,
+                size: b.size,
             }))
         }
         None => {

@@ -10,24 +10,8 @@ ghost use Rattle.arena_rules.specs.Rules.{block_of};
 
 use arena_rules::{Moves, Said};
 use chunk_tags::{Block, Chunk, NoMemory, Size};
+use consolidate_trim::{make_room, tell};
 use thread_cache::Cache;
-
-/// Makes room for one more item. The items stay (this project's own).
-pub fn make_room<T>(items: &mut Vec<T>) -> Result<(), NoMemory>
-    ensures answers { items.new.items ≡ items.old.items }
-    ensures room { OnOk result (vec_len items.new < vec_capacity items.new) }
-{
-    items.reserve(1)?;
-    Ok(())
-}
-
-/// Puts an answer behind the others. No memory is asked for.
-pub fn tell<T: Copy>(said: &mut Vec<T>, answer: &T)
-    requires { vec_len said.old < vec_capacity said.old }
-    ensures { said.new.items ≡ said.old.items ++ answer.now ∷ [] }
-{
-    said.push(*answer).unwrap();
-}
 
 /// Asks the cache whether it has room for one more chunk of this size, and keeps the answer. Where there is no memory for
 /// the answer, it isn't asked for.

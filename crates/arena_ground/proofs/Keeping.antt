@@ -10,15 +10,14 @@ use Rattle.bin_links.specs.Lists.{Linked}
 use Rattle.chunk_image.specs.Rows.{TileRow}
 use Rattle.address_space.specs.Spaces.{main_start}
 use Rattle.arena_rules.specs.PlainArena.{Plain, IsSound, beside}
-use Rattle.arena_rules.specs.MainPlaces.{times_covered}
+use Rattle.arena_rules.specs.MainPlaces.{times_covered, IsMainPlaced}
 use Rattle.arena_rules.proofs.Changes.{tile_is}
 use Rattle.arena_rules.proofs.Covered.{covered_by, covers_one}
 use Rattle.arena_rules.proofs.Moved.{Moved, nothing}
 use Rattle.arena_rules.proofs.Rows.{addr_at}
 use Rattle.heap_top.specs.declared.regions.Regions.{Regions}
 use Rattle.heap_top.specs.Regions.{address_of, KnowsTop}
-use Rattle.heap_top.specs.MainRanges.{IsMainFilled}
-use Rattle.heap_top.proofs.Filling.{filled_moved}
+use Rattle.arena_rules.proofs.MainPlaces.{placed_along, uncovered}
 use Rattle.arena_ground.specs.Grounds.{GroundView, arena_with, view_of, IsGround}
 use Rattle.arena_ground.proofs.Bridges.{AreBins}
 
@@ -84,11 +83,10 @@ lists_of r w l last g = record { bins = refl; sound = g.sound }
 pub high_tile : (r : Regions) (w : TileRow) (l : Linked) (last : Option ℕ) (n : ℕ) (t : Tile) → IsSoundGround r w l last → tile_at n w.tiles ≡ Some t → main_start ≤ n
 high_tile r w l last n t g found =
     let a : Plain = arena_with r w l last in
-    let place = g.ground.filled.placed in
     elim (cases_lt n main_start) [
       | inr ge ↦ ge
       | inl lt ↦
-          let out : times_covered n a ≡ 0 = place.outside n (record { break = inl lt; pieces = inl (omega (arith, lt)) }) in
+          let out : times_covered n a ≡ 0 = uncovered a n g.ground.placed (record { break = inl lt; pieces = inl (omega (arith, lt)) }) in
           let here : t.addr ≡ n = addr_at n t w.tiles found in
           let size : 32 ≤ t.size = (tile_is t w.tiles g.sound.row (ap (λ m. tile_at m w.tiles) here ∙ found)).size.0 in
           absurd (omega (arith, out, covered_by n n t w.tiles found, covers_one n t.addr t.size (omega (arith, here)) (omega (arith, here, size))))
@@ -105,11 +103,11 @@ pub record AreWordsKept (w v : TileRow) (l m : Linked) : Type 0 where
   pub tiles : v.extent ≡ w.extent
   pub links : m.extent ≡ l.extent
 
-pub kept_words : (r s : Regions) (w v : TileRow) (l m : Linked) (last now : Option ℕ) → IsGround r w l last → AreWordsKept w v l m → s.number ≡ r.number → KnowsTop s.top v.tiles → IsMainFilled (arena_with s v m now) → IsGround s v m now
-kept_words r s w v l m last now g k number known filled = record {
+pub kept_words : (r s : Regions) (w v : TileRow) (l m : Linked) (last now : Option ℕ) → IsGround r w l last → AreWordsKept w v l m → s.number ≡ r.number → KnowsTop s.top v.tiles → IsMainPlaced (arena_with s v m now) → IsGround s v m now
+kept_words r s w v l m last now g k number known placed = record {
   number = number ∙ g.number;
   known = known;
-  filled = filled;
+  placed = placed;
   covers = subst (λ e. Covers e m.extent) (sym k.tiles) (subst (Covers w.extent) (sym k.links) g.covers);
   base = ap (λ e. e.base) k.tiles ∙ g.base;
   width = ap (λ e. e.width) k.tiles ∙ g.width;
@@ -120,7 +118,7 @@ pub done : (r s : Regions) (w v : TileRow) (l m : Linked) (last now : Option ℕ
 done r s w v l m last now new left came g moved same k is known = record {
   is = is;
   kept = kept_words r s w v l m last now g k (ap (λ (x : Plain). x.number) is ∙ ap (λ (x : Plain). x.number) same) known
-      (subst IsMainFilled (sym is) (filled_moved (arena_with r w l last) new left came moved same g.filled));
+      (subst IsMainPlaced (sym is) (placed_along (arena_with r w l last) new left came moved same g.placed));
 }
 
 -- where top is the same tile as before

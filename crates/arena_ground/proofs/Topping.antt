@@ -23,9 +23,10 @@ use Rattle.arena_rules.proofs.Merging.{HasTopBehind, has_top_behind, absorbed_mo
 use Rattle.arena_rules.proofs.Tops.{top_at}
 use Rattle.heap_top.specs.declared.regions.Regions.{Regions}
 use Rattle.heap_top.specs.Regions.{arena_of, bare_arena, HasTop, KnowsTop}
-use Rattle.heap_top.specs.MainRanges.{IsMainFilled, IsNewRange}
-use Rattle.heap_top.proofs.Filling.{filled_moved}
-use Rattle.heap_top.proofs.MainMoves.{IsMainKept, cut_kept, break_kept, piece_kept, trim_kept, filled_beside}
+use Rattle.heap_top.specs.MainRanges.{IsNewRange}
+use Rattle.arena_rules.specs.MainPlaces.{IsMainPlaced}
+use Rattle.arena_rules.proofs.MainPlaces.{placed_along, placed_beside}
+use Rattle.heap_top.proofs.MainMoves.{IsMainKept, cut_kept, break_kept, piece_kept, trim_kept}
 use Rattle.heap_top.proofs.TopLaws.{knows_top}
 use Rattle.arena_ground.specs.Grounds.{arena_with, bins_at, chunk_at, IsGround}
 use Rattle.arena_ground.proofs.Bridges.{agree, times_all}
@@ -46,15 +47,15 @@ pub record IsTopMoved (r s : Regions) (w v : TileRow) (l : Linked) (last : Optio
   pub top : HasTop s.top v.tiles
   pub extent : v.extent ≡ w.extent
 
-top_done : (r s : Regions) (w v : TileRow) (l : Linked) (last : Option ℕ) (new : Plain) → IsGround r w l last → IsTopMoved r s w v l last new → IsSound new → IsMainFilled new → new.bins ≡ bins_at w.tiles l.lists → new.number ≡ r.number → IsDone s v l last new
-top_done r s w v l last new g m sound filled same number =
+top_done : (r s : Regions) (w v : TileRow) (l : Linked) (last : Option ℕ) (new : Plain) → IsGround r w l last → IsTopMoved r s w v l last new → IsSound new → IsMainPlaced new → new.bins ≡ bins_at w.tiles l.lists → new.number ≡ r.number → IsDone s v l last new
+top_done r s w v l last new g m sound placed same number =
     let bins : bins_at v.tiles l.lists ≡ bins_at w.tiles l.lists =
     ap (λ (x : Plain). bins_at x.tiles l.lists) m.arena ∙ top_bins new w.tiles l.lists sound same in
     let is : arena_with s v l last ≡ new = ap (λ bins. arena_of s v.tiles bins last) bins ∙ m.arena in
     record {
       is = is;
       kept = kept_words r s w v l l last last g (record { tiles = m.extent; links = refl }) (ap (λ (x : Plain). x.number) m.arena ∙ number)
-          (knows_top (arena_with s v l last) s.top (subst IsSound (sym is) sound) m.top) (subst IsMainFilled (sym is) filled);
+          (knows_top (arena_with s v l last) s.top (subst IsSound (sym is) sound) m.top) (subst IsMainPlaced (sym is) placed);
     }
 
 -- ---- a chunk is cut off
@@ -62,8 +63,8 @@ top_done r s w v l last new g m sound filled same number =
 pub cut_done : (r s : Regions) (w v : TileRow) (l : Linked) (last : Option ℕ) (nb : ℕ) → IsSoundGround r w l last → IsChunkSize nb → IsTrue (has_top_for (arena_with r w l last) nb) → IsTopMoved r s w v l last (cut_from_top (arena_with r w l last) nb) → IsDone s v l last (cut_from_top (arena_with r w l last) nb)
 cut_done r s w v l last nb g chunk room m =
     let a : Plain = arena_with r w l last in
-    let kept : IsMainKept a (cut_from_top a nb) = cut_kept a nb g.sound g.ground.filled chunk room in
-    top_done r s w v l last (cut_from_top a nb) g.ground m kept.sound kept.filled kept.bins kept.number
+    let kept : IsMainKept a (cut_from_top a nb) = cut_kept a nb g.sound g.ground.placed chunk room in
+    top_done r s w v l last (cut_from_top a nb) g.ground m kept.sound kept.placed kept.bins kept.number
 
 -- ---- a chunk becomes part of it
 
@@ -78,49 +79,49 @@ pub absorb_done : (r s : Regions) (w v : TileRow) (l : Linked) (last : Option �
 absorb_done r s w v l last c g own before top m =
     let a : Plain = arena_with r w l last in
     let moved = absorbed_moved a c g.sound own top (free_not_found (tile_before c.at w.tiles) before) in
-    top_done r s w v l last (absorbed a c) g.ground m moved.sound (filled_moved a (absorbed a c) _ _ moved refl g.ground.filled) refl refl
+    top_done r s w v l last (absorbed a c) g.ground m moved.sound (placed_along a (absorbed a c) _ _ moved refl g.ground.placed) refl refl
 
 -- ---- main grows
 
 pub break_done : (r s : Regions) (w v : TileRow) (l : Linked) (last : Option ℕ) (growth : ℕ) → IsSoundGround r w l last → IsNewRange w.extent r.break_at growth (main_start + main_limit) → IsTopMoved r s w v l last (break_taken (arena_with r w l last) growth) → IsDone s v l last (break_taken (arena_with r w l last) growth)
 break_done r s w v l last growth g range m =
     let a : Plain = arena_with r w l last in
-    let kept : IsMainKept a (break_taken a growth) = break_kept a growth g.sound g.ground.filled range.some range.pages range.window in
-    top_done r s w v l last (break_taken a growth) g.ground m kept.sound kept.filled kept.bins kept.number
+    let kept : IsMainKept a (break_taken a growth) = break_kept a growth g.sound g.ground.placed range.some range.pages range.window in
+    top_done r s w v l last (break_taken a growth) g.ground m kept.sound kept.placed kept.bins kept.number
 
 pub piece_done : (r s : Regions) (w v : TileRow) (l : Linked) (last : Option ℕ) (len : ℕ) → IsSoundGround r w l last → IsNewRange w.extent r.next_piece len (piece_start + main_limit) → IsTopMoved r s w v l last (piece_taken (arena_with r w l last) len) → IsDone s v l last (piece_taken (arena_with r w l last) len)
 piece_done r s w v l last len g range m =
     let a : Plain = arena_with r w l last in
-    let kept : IsMainKept a (piece_taken a len) = piece_kept a len g.sound g.ground.filled range.some range.pages range.window in
-    top_done r s w v l last (piece_taken a len) g.ground m kept.sound kept.filled kept.bins kept.number
+    let kept : IsMainKept a (piece_taken a len) = piece_kept a len g.sound g.ground.placed range.some range.pages range.window in
+    top_done r s w v l last (piece_taken a len) g.ground m kept.sound kept.placed kept.bins kept.number
 
 -- ---- the end of the break is given back
 
 pub trim_done : (r s : Regions) (w v : TileRow) (l : Linked) (last : Option ℕ) (bytes : ℕ) → IsSoundGround r w l last → CanCutMain (arena_with r w l last) bytes → IsTopMoved r s w v l last (main_cut (arena_with r w l last) bytes) → IsDone s v l last (main_cut (arena_with r w l last) bytes)
 trim_done r s w v l last bytes g can m =
     let a : Plain = arena_with r w l last in
-    let kept : IsMainKept a (main_cut a bytes) = trim_kept a bytes g.sound g.ground.filled can in
-    top_done r s w v l last (main_cut a bytes) g.ground m kept.sound kept.filled kept.bins kept.number
+    let kept : IsMainKept a (main_cut a bytes) = trim_kept a bytes g.sound g.ground.placed can in
+    top_done r s w v l last (main_cut a bytes) g.ground m kept.sound kept.placed kept.bins kept.number
 
 -- ---- other numbers, and more words
 
-filled_noted : (a : Plain) → IsMainFilled a → IsMainFilled (noted a)
-filled_noted a f = filled_beside a a.bins a.last (noted a).most f
+placed_noted : (a : Plain) → IsMainPlaced a → IsMainPlaced (noted a)
+placed_noted a f = placed_beside a a.bins a.last (noted a).most f
 
 pub noted_kept : (r s : Regions) (w : TileRow) (l : Linked) (last : Option ℕ) → IsGround r w l last → s.top ≡ r.top → arena_with s w l last ≡ noted (arena_with r w l last) → IsGround s w l last
 noted_kept r s w l last g top is =
     kept_words r s w w l l last last g (record { tiles = refl; links = refl }) (ap (λ (x : Plain). x.number) is)
-    (record { row = g.known.row; is = g.known.is ∙ sym top }) (subst IsMainFilled (sym is) (filled_noted (arena_with r w l last) g.filled))
+    (record { row = g.known.row; is = g.known.is ∙ sym top }) (subst IsMainPlaced (sym is) (placed_noted (arena_with r w l last) g.placed))
 
 -- seen without its bins
-pub bare_filled : (r : Regions) (w : TileRow) (l : Linked) (last : Option ℕ) → IsGround r w l last → IsMainFilled (bare_arena r w.tiles)
-bare_filled r w l last g = filled_beside (arena_with r w l last) [] None r.most g.filled
+pub bare_placed : (r : Regions) (w : TileRow) (l : Linked) (last : Option ℕ) → IsGround r w l last → IsMainPlaced (bare_arena r w.tiles)
+bare_placed r w l last g = placed_beside (arena_with r w l last) [] None r.most g.placed
 
 pub opened_kept : (r : Regions) (w v : TileRow) (l m : Linked) (last : Option ℕ) → IsGround r w l last → v.tiles ≡ w.tiles → m.lists ≡ l.lists → Covers v.extent m.extent → v.extent.base ≡ w.extent.base → v.extent.width ≡ w.extent.width → IsGround r v m last
 opened_kept r w v l m last g tiles lists covers base width = record {
   number = g.number;
   known = subst (KnowsTop r.top) (sym tiles) g.known;
-  filled = subst IsMainFilled (λ i. arena_of r (sym tiles i) (bins_at (sym tiles i) (sym lists i)) last) g.filled;
+  placed = subst IsMainPlaced (λ i. arena_of r (sym tiles i) (bins_at (sym tiles i) (sym lists i)) last) g.placed;
   covers = covers;
   base = base ∙ g.base;
   width = width ∙ g.width;

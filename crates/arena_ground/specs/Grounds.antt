@@ -12,7 +12,7 @@ use Rattle.address_space.specs.Spaces.{main_start, piece_start}
 use Rattle.arena_rules.specs.PlainArena.{Plain}
 use Rattle.heap_top.specs.declared.regions.Regions.{Regions}
 use Rattle.heap_top.specs.Regions.{arena_of, KnowsTop}
-use Rattle.heap_top.specs.MainRanges.{IsMainFilled}
+use Rattle.arena_rules.specs.MainPlaces.{IsMainPlaced}
 
 -- the arena, and which addresses have words
 pub record GroundView : Type 0 where
@@ -47,7 +47,7 @@ view_of r w l last = record { arena = arena_with r w l last; extent = w.extent }
 pub record IsGround (r : Regions) (w : TileRow) (l : Linked) (last : Option ℕ) : Type 0 where
   pub number : r.number ≡ 0
   pub known : KnowsTop r.top w.tiles
-  pub filled : IsMainFilled (arena_with r w l last)
+  pub placed : IsMainPlaced (arena_with r w l last)
   pub covers : Covers w.extent l.extent
   pub base : w.extent.base ≡ main_start
   pub width : w.extent.width ≡ (piece_start - main_start) / 16

@@ -6,7 +6,8 @@ ghost use Rattle.address_space.specs.Spaces.{main_start, piece_start};
 ghost use Rattle.part_words.specs.Extents.{AreOpen, IsWithinPart};
 ghost use Rattle.arena_rules.specs.PlainArena.{bin_at, empty_main};
 ghost use Rattle.chunk_tags.specs.declared.tiles.Chunk.{Chunk as Piece};
-ghost use Rattle.heap_top.specs.MainRanges.{IsMainFilled, IsNewRange};
+ghost use Rattle.arena_rules.specs.MainPlaces.{IsMainPlaced};
+ghost use Rattle.heap_top.specs.MainRanges.{IsNewRange};
 
 use crate::steps::{
     UNSORTED, addresses, best, bin_of, claim, first_oldest_from, is_free, is_top, join, oldest_in,
@@ -94,7 +95,7 @@ impl Ground {
     /// A law; the call does nothing. The tiles of main fill its break and its pieces.
     pub fn laws(&self)
         ensures number { self.now.arena.number ≡ 0 }
-        ensures filled { IsMainFilled self.now.arena }
+        ensures placed { IsMainPlaced self.now.arena }
     {
         let _ = &self.tiles;
     }

@@ -1,6 +1,6 @@
 //! Steps over tiles and links together.
 
-ghost use Rattle.std.specs.Prelude.{◌≡◌, ◌+◌, ◌-◌, ◌<◌, ◌≤◌, false, drop, map, [], ◌∷◌, Some, IsSome, IfOk};
+ghost use Rattle.std.specs.Prelude.{◌≡◌, ◌+◌, ◌-◌, ◌^◌, ◌<◌, ◌≤◌, false, drop, map, [], ◌∷◌, Some, IsSome, IfOk};
 ghost use Rattle.chunk_tags.specs.BinOrder.{IsFalling, best_of, oldest_of};
 ghost use Rattle.chunk_tags.specs.declared.tiles.Chunk.{Chunk as Piece};
 ghost use Rattle.chunk_tags.specs.Sizes.{IsChunkSize, bin_of as bin_index};
@@ -82,6 +82,7 @@ pub(crate) fn join(
     requires chunk { is_edge t.now ≡ false }
     requires behind { tile_behind t.now.addr tiles.old.tiles ≡ Some u.now }
     requires listed { 1 ≤ times_listed free links.old.lists }
+    requires below { t.now.size + u.now.size < 2 ^ 34 }
     ensures chunk { result ≡ record { at = t.now.addr; size = t.now.size + u.now.size } }
     ensures tiles { tiles.new ≡ record tiles.old {
       tiles = fused t.now.addr (tile_of TileKind.Used t.now.addr (t.now.size + u.now.size)) tiles.old.tiles;

@@ -1,3 +1,4 @@
+pub mod Aligns
 pub mod Beside
 pub mod Bins
 pub mod Carving
@@ -10,9 +11,11 @@ pub mod Heaps
 pub mod Lookups
 pub mod MainPlaces
 pub mod Mapped
+pub mod MapsWithin
 pub mod Merging
 pub mod Moved
 pub mod Own
+pub mod Resizes
 pub mod Rows
 pub mod Sorting
 pub mod TopMoves

@@ -1,6 +1,6 @@
 -- Laws of the places of main's tiles, for this crate and those above it: every move keeps them, and so do growing by the
 -- break or by a piece, and giving back the end of the break.
-use Rattle.std.proofs.Common.{◌≡◌, ℕ, ◌+◌, ◌-◌, ◌%◌, ◌<◌, ◌≤◌, Bool, true, false, cond, Option, Some, None, IfSome, refl, sym, ap, ◌∙◌, subst, inl, inr, arith}
+use Rattle.std.proofs.Common.{◌≡◌, ℕ, ◌+◌, ◌-◌, ◌%◌, ◌<◌, ◌≤◌, Bool, true, false, cond, List, Option, Some, None, IfSome, refl, sym, ap, ◌∙◌, subst, inl, inr, arith}
 use Rattle.std.specs.Prelude.{◌⊎◌}
 use Rattle.std.proofs.lemmas.Bool.{eqb-true, eq-eqb, cases_lt}
 use Rattle.chunk_tags.specs.declared.tiles.Chunk.{Chunk}
@@ -10,7 +10,7 @@ use Rattle.chunk_tags.specs.declared.tiles.Tile.{Tile}
 use Rattle.chunk_tags.specs.Tunables.{main_limit}
 use Rattle.address_space.specs.Spaces.{main_start, piece_start}
 use Rattle.arena_rules.specs.PlainArena.{Plain, empty_main, is_main, IsSound, once_of, beside}
-use Rattle.arena_rules.specs.MainPlaces.{covers, times_covered, IsMainPlaced, IsPlaced}
+use Rattle.arena_rules.specs.MainPlaces.{covers, times_covered, break_bytes, piece_bytes, IsMainPlaced, IsPlaced}
 use Rattle.arena_rules.specs.Moves.{with_top_size, with_moved_top, left_of_top, top_size, top_end}
 use Rattle.arena_rules.specs.Growth.{with_break, with_piece, is_top_at_break, break_taken, break_rest, piece_taken}
 use Rattle.arena_rules.specs.Trim.{main_cut, CanCutMain}
@@ -18,19 +18,34 @@ use Rattle.arena_rules.proofs.Beside.{beside_sized, beside_moved_top}
 use Rattle.arena_rules.proofs.Rows.{if_found}
 use Rattle.arena_rules.proofs.Changes.{AreNeighbours, neighbours_behind, tile_is}
 use Rattle.arena_rules.proofs.Entries.{Apart}
-use Rattle.arena_rules.proofs.Covered.{covers_one, covers_none, covers_adds, covered_once, covered_by, apart_uncovered}
+use Rattle.arena_rules.proofs.Covered.{covers_one, covers_none, covers_adds, covered_by, apart_uncovered}
 use Rattle.arena_rules.proofs.Moved.{Moved, parts_of, none, nothing, moved_as, sound_as, moved_from, moved_to, bytes_moved}
 use Rattle.arena_rules.proofs.Tops.{IsTopOf, top_found}
 use Rattle.arena_rules.proofs.TopMoves.{sized_moved, shrunk_fits, top_moved, all_at}
+
+-- ---- what no tile has
+
+-- an address that is neither in main's break nor in its pieces
+pub record IsOutside (a : Plain) (n : ℕ) : Type 0 where
+  pub break : (n < main_start) ⊎ (a.break_at ≤ n)
+  pub pieces : (n < piece_start) ⊎ (a.next_piece ≤ n)
+
+pub uncovered : (a : Plain) (n : ℕ) → IsMainPlaced a → IsOutside a n → times_covered n a ≡ 0
+uncovered a n p out =
+    let break : (n < main_start) ⊎ (main_start + break_bytes a ≤ n) = elim out.break [ inl before ↦ inl before | inr after ↦ inr (omega (arith, after, p.start)) ] in
+    let pieces : (n < piece_start) ⊎ (piece_start + piece_bytes a ≤ n) = elim out.pieces [ inl before ↦ inl before | inr after ↦ inr (omega (arith, after, p.pieces)) ] in
+    omega (arith, p.filled n, covers_none n main_start (break_bytes a) break, covers_none n piece_start (piece_bytes a) pieces)
 
 -- ---- moves that take and give no bytes
 
 pub placed_moved : (a new : Plain) (left came : Chunk → ℕ) → Moved a new left came nothing nothing → new.break_at ≡ a.break_at → new.next_piece ≡ a.next_piece → new.system ≡ a.system → IsMainPlaced a → IsMainPlaced new
 placed_moved a new left came m break_is piece_is system_is p = record {
-  outside = λ n out. omega (
+  filled = λ n. omega (
     arith,
     m.spans (covers n) (covers_adds n),
-    p.outside n (record { break = subst (λ b. (n < main_start) ⊎ (b ≤ n)) break_is out.break; pieces = subst (λ b. (n < piece_start) ⊎ (b ≤ n)) piece_is out.pieces }),
+    p.filled n,
+    ap (λ b. covers n main_start (b - main_start)) break_is,
+    ap (λ b. covers n piece_start (b - piece_start)) piece_is,
   );
   start = omega (arith, p.start, break_is);
   limit = omega (arith, p.limit, break_is);
@@ -38,13 +53,17 @@ placed_moved a new left came m break_is piece_is system_is p = record {
   piece_limit = omega (arith, p.piece_limit, piece_is);
   break_page = ap (λ n. n % 4096) break_is ∙ p.break_page;
   piece_page = ap (λ n. n % 4096) piece_is ∙ p.piece_page;
-  system = omega (arith, bytes_moved a new left came nothing nothing m, p.system, system_is);
+  system = omega (arith, p.system, system_is, break_is, piece_is);
+  tiled = omega (arith, bytes_moved a new left came nothing nothing m, p.tiled, system_is);
 }
+
+pub placed_along : (a new : Plain) (left came : Chunk → ℕ) → Moved a new left came nothing nothing → beside new ≡ beside a → IsMainPlaced a → IsMainPlaced new
+placed_along a new left came m same p =
+    placed_moved a new left came m (ap (λ x. x.break_at) same) (ap (λ x. x.next_piece) same) (ap (λ x. x.system) same) p
 
 pub placed_still : (a new : Plain) (left came : Chunk → ℕ) → Moved a new left came nothing nothing → beside new ≡ beside a → IsPlaced a → IsPlaced new
 placed_still a new left came m same placed main =
-    placed_moved a new left came m (ap (λ x. x.break_at) same) (ap (λ x. x.next_piece) same) (ap (λ x. x.system) same)
-    (placed (ap is_main (sym same) ∙ main))
+    placed_along a new left came m same (placed (ap is_main (sym same) ∙ main))
 
 -- ---- the break grows
 
@@ -52,7 +71,7 @@ placed_still a new left came m same placed main =
 break_apart : (a : Plain) (growth : ℕ) → IsSound a → IsMainPlaced a → 0 < growth → a.break_at + growth ≤ main_start + main_limit → Apart a.break_at (a.break_at + growth) a.tiles
 break_apart a growth s p some le =
     apart_uncovered a.break_at (a.break_at + growth) a.tiles s.row (omega (arith, some)) (λ n ge lt.
-    p.outside n (record { break = inr ge; pieces = inl (omega (arith, lt, le)) }))
+    uncovered a n p (record { break = inr ge; pieces = inl (omega (arith, lt, le)) }))
 
 pub record IsGrowth (a new : Plain) (came : Chunk → ℕ) (at size : ℕ) : Type 0 where
   pub moved : Moved a new none came nothing (λ v. v at size)
@@ -60,20 +79,26 @@ pub record IsGrowth (a new : Plain) (came : Chunk → ℕ) (at size : ℕ) : Typ
 
 grown_placed : (a new : Plain) (came : Chunk → ℕ) (growth : ℕ) → IsMainPlaced a → Moved a new none came nothing (λ v. v a.break_at growth) → growth % 4096 ≡ 0 → a.break_at + growth ≤ main_start + main_limit → new.break_at ≡ a.break_at + growth → new.next_piece ≡ a.next_piece → new.system ≡ a.system + growth → IsMainPlaced new
 grown_placed a new came growth p m whole le break_is piece_is system_is = record {
-  outside = λ n out.
-      let pieces : (n < piece_start) ⊎ (a.next_piece ≤ n) = subst (λ b. (n < piece_start) ⊎ (b ≤ n)) piece_is out.pieces in
-      let spans = m.spans (covers n) (covers_adds n) in
-      elim out.break [
-        | inl before ↦ omega (arith, spans, p.outside n (record { break = inl before; pieces = pieces }), covers_none n a.break_at growth (inl (omega (arith, before, p.start))))
-        | inr after ↦ omega (arith, spans, p.outside n (record { break = inr (omega (arith, after, break_is)); pieces = pieces }), covers_none n a.break_at growth (inr (omega (arith, after, break_is))))
-      ];
+  filled = λ n.
+      let length : break_bytes new ≡ break_bytes a + growth = omega (arith, p.start, break_is) in
+      let end : main_start + break_bytes a ≡ a.break_at = omega (arith, p.start) in
+      omega (
+        arith,
+        m.spans (covers n) (covers_adds n),
+        p.filled n,
+        ap (covers n main_start) length,
+        (covers_adds n).adds main_start (break_bytes a) growth,
+        ap (λ at. covers n at growth) end,
+        ap (λ b. covers n piece_start (b - piece_start)) piece_is,
+      );
   start = omega (arith, p.start, break_is);
   limit = omega (arith, le, break_is);
   pieces = omega (arith, p.pieces, piece_is);
   piece_limit = omega (arith, p.piece_limit, piece_is);
   break_page = omega (arith, p.break_page, whole, break_is);
   piece_page = ap (λ n. n % 4096) piece_is ∙ p.piece_page;
-  system = omega (arith, bytes_moved a new none came nothing (λ v. v a.break_at growth) m, p.system, system_is);
+  system = omega (arith, p.system, p.start, system_is, break_is, piece_is);
+  tiled = omega (arith, bytes_moved a new none came nothing (λ v. v a.break_at growth) m, p.tiled, system_is);
 }
 
 -- the tile behind top begins behind what the break grows by
@@ -147,26 +172,32 @@ piece_grown a len s p some whole le =
     let piece_is : new.next_piece ≡ a.next_piece + len = ap (λ x. x.next_piece) same in
     let system_is : new.system ≡ a.system + len = ap (λ x. x.system) same in
     let apart : Apart a.next_piece (a.next_piece + len) a.tiles = apart_uncovered a.next_piece (a.next_piece + len) a.tiles s.row (omega (arith, some)) (λ n ge lt.
-    p.outside n (record { break = inr (omega (arith, ge, p.limit, p.pieces)); pieces = inr ge })) in
+    uncovered a n p (record { break = inr (omega (arith, ge, p.limit, p.pieces)); pieces = inr ge })) in
     let m : Moved a new none came nothing (λ v. v a.next_piece len) = moved_from a b new none came nothing (λ v. v a.next_piece len) refl
     (top_moved b a.next_piece len (sound_as a b refl refl s) (whole_is_chunk len some whole) (omega (arith, p.piece_page)) apart) in
     record {
       moved = m;
       placed = record {
-        outside = λ n out.
-            let break : (n < main_start) ⊎ (a.break_at ≤ n) = subst (λ x. (n < main_start) ⊎ (x ≤ n)) break_is out.break in
-            let spans = m.spans (covers n) (covers_adds n) in
-            elim out.pieces [
-              | inl before ↦ omega (arith, spans, p.outside n (record { break = break; pieces = inl before }), covers_none n a.next_piece len (inl (omega (arith, before, p.pieces))))
-              | inr after ↦ omega (arith, spans, p.outside n (record { break = break; pieces = inr (omega (arith, after, piece_is)) }), covers_none n a.next_piece len (inr (omega (arith, after, piece_is))))
-            ];
+        filled = λ n.
+            let length : piece_bytes new ≡ piece_bytes a + len = omega (arith, p.pieces, piece_is) in
+            let end : piece_start + piece_bytes a ≡ a.next_piece = omega (arith, p.pieces) in
+            omega (
+              arith,
+              m.spans (covers n) (covers_adds n),
+              p.filled n,
+              ap (covers n piece_start) length,
+              (covers_adds n).adds piece_start (piece_bytes a) len,
+              ap (λ at. covers n at len) end,
+              ap (λ b. covers n main_start (b - main_start)) break_is,
+            );
         start = omega (arith, p.start, break_is);
         limit = omega (arith, p.limit, break_is);
         pieces = omega (arith, p.pieces, piece_is);
         break_page = ap (λ n. n % 4096) break_is ∙ p.break_page;
         piece_limit = omega (arith, le, piece_is);
         piece_page = omega (arith, p.piece_page, whole, piece_is);
-        system = omega (arith, bytes_moved a new none came nothing (λ v. v a.next_piece len) m, p.system, system_is);
+        system = omega (arith, p.system, p.pieces, system_is, break_is, piece_is);
+        tiled = omega (arith, bytes_moved a new none came nothing (λ v. v a.next_piece len) m, p.tiled, system_is);
       };
     }
 
@@ -181,21 +212,9 @@ cut_start : (a : Plain) (t : Tile) (bytes : ℕ) → IsMainPlaced a → IsTopOf 
 cut_start a t bytes p top end left =
     elim (cases_lt t.addr main_start) [
       | inl before ↦
-          let out : times_covered t.addr a ≡ 0 = p.outside t.addr (record { break = inl before; pieces = inl (omega (arith, before, p.start, p.limit)) }) in
+          let out : times_covered t.addr a ≡ 0 = uncovered a t.addr p (record { break = inl before; pieces = inl (omega (arith, before, p.start, p.limit)) }) in
           absurd (omega (arith, out, covered_by t.addr t.addr t a.tiles top.found, covers_one t.addr t.addr t.size (omega arith) (omega (arith, left))))
       | inr within ↦ omega (arith, within, end, left)
-    ]
-
--- no byte outside the break that is left is covered
-cut_outside : (a new : Plain) (bytes n : ℕ) → IsSound a → IsMainPlaced a → Moved a new none none (λ v. v (a.break_at - bytes) bytes) nothing → bytes ≤ a.break_at → (n < main_start) ⊎ (a.break_at - bytes ≤ n) → (n < piece_start) ⊎ (a.next_piece ≤ n) → times_covered n new ≡ 0
-cut_outside a new bytes n s p m le break pieces =
-    let spans = m.spans (covers n) (covers_adds n) in
-    elim break [
-      | inl before ↦ omega (arith, spans, p.outside n (record { break = inl before; pieces = pieces }))
-      | inr after ↦ elim (cases_lt n a.break_at) [
-        | inl lt ↦ omega (arith, spans, covers_one n (a.break_at - bytes) bytes after (omega (arith, lt, le)), covered_once n a.tiles s.row)
-        | inr ge ↦ omega (arith, spans, p.outside n (record { break = inr ge; pieces = pieces }))
-      ]
     ]
 
 pub main_cut_moved : (a : Plain) (bytes : ℕ) → IsSound a → IsMainPlaced a → CanCutMain a bytes → IsCut a bytes
@@ -217,25 +236,42 @@ main_cut_moved a bytes s p can =
     let bins : cut.bins ≡ new.bins = ap (λ n. (with_top_size a (n - bytes)).bins) (sym size) in
     let m3 : Moved a new none none (λ v. v (a.break_at - bytes) bytes) nothing = moved_to a cut new none none (λ v. v (a.break_at - bytes) bytes) nothing tiles bins m2 in
     let piece_is : new.next_piece ≡ a.next_piece = ap (λ x. x.next_piece) (beside_sized a (top_size a - bytes)) in
+    let start : main_start ≤ a.break_at - bytes = cut_start a t.tile bytes p top t.end left in
     record {
       moved = m3;
       placed = record {
-        outside = λ n out. cut_outside a new bytes n s p m3 (omega (arith, left, t.end)) out.break (subst (λ x. (n < piece_start) ⊎ (x ≤ n)) piece_is out.pieces);
-        start = cut_start a t.tile bytes p top t.end left;
+        filled = λ n.
+            let length : break_bytes new + bytes ≡ break_bytes a = omega (arith, start) in
+            let end : main_start + break_bytes new ≡ a.break_at - bytes = omega (arith, start) in
+            omega (
+              arith,
+              m3.spans (covers n) (covers_adds n),
+              p.filled n,
+              ap (covers n main_start) length,
+              (covers_adds n).adds main_start (break_bytes new) bytes,
+              ap (λ at. covers n at bytes) end,
+              ap (λ b. covers n piece_start (b - piece_start)) piece_is,
+            );
+        start = start;
         limit = omega (arith, p.limit);
         pieces = omega (arith, p.pieces, piece_is);
         piece_limit = omega (arith, p.piece_limit, piece_is);
         break_page = omega (arith, p.break_page, can.whole, left, t.end);
         piece_page = ap (λ n. n % 4096) piece_is ∙ p.piece_page;
-        system = omega (arith, bytes_moved a new none none (λ v. v (a.break_at - bytes) bytes) nothing m3, p.system);
+        system = omega (arith, p.system, piece_is, start);
+        tiled = omega (arith, bytes_moved a new none none (λ v. v (a.break_at - bytes) bytes) nothing m3, p.tiled);
       };
     }
 
 -- ---- main before its first growth
 
+-- a range of no bytes
+covers_nothing : (n at : ℕ) → (n < at) ⊎ (at + 0 ≤ n)
+covers_nothing n at = elim (cases_lt n at) [ inl before ↦ inl before | inr after ↦ inr (omega (arith, after)) ]
+
 pub empty_placed : IsMainPlaced empty_main
 empty_placed = record {
-  outside = λ n out. refl;
+  filled = λ n. omega (arith, covers_none n main_start 0 (covers_nothing n main_start), covers_none n piece_start 0 (covers_nothing n piece_start));
   start = omega arith;
   limit = omega arith;
   pieces = omega arith;
@@ -243,4 +279,19 @@ empty_placed = record {
   break_page = refl;
   piece_page = refl;
   system = refl;
+  tiled = refl;
+}
+
+-- the same with other bins and another last remainder, and with the most bytes that there were
+pub placed_beside : (a : Plain) (bins : List (List Chunk)) (last : Option ℕ) (most : ℕ) → IsMainPlaced a → IsMainPlaced (record a { bins = bins; last = last; most = most })
+placed_beside a bins last most p = record {
+  filled = p.filled;
+  start = p.start;
+  limit = p.limit;
+  pieces = p.pieces;
+  piece_limit = p.piece_limit;
+  break_page = p.break_page;
+  piece_page = p.piece_page;
+  system = p.system;
+  tiled = p.tiled;
 }

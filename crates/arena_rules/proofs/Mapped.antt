@@ -36,7 +36,7 @@ maps_once_behind nb (Does d r) f h k = maps_once_behind nb r f h k
 maps_once_behind nb (Needs a (Maps len) g) f h k = absurd h
 maps_once_behind nb (Needs a n g) f h k = λ s. maps_once_behind nb (g s) f (h s) k
 
-never_if : {A : Type 0} (b : Bool) (x y : Rules A) → NeverMaps x → NeverMaps y → NeverMaps (if b then x else y)
+pub never_if : {A : Type 0} (b : Bool) (x y : Rules A) → NeverMaps x → NeverMaps y → NeverMaps (if b then x else y)
 never_if true x y h k = h
 never_if false x y h k = k
 

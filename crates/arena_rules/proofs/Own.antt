@@ -17,6 +17,7 @@ use Rattle.arena_rules.proofs.Changes.{tile_is}
 use Rattle.arena_rules.proofs.TopMoves.{all_at}
 use Rattle.arena_rules.proofs.Covered.{covered_by, covers_one}
 use Rattle.arena_rules.proofs.Lookups.{some_is}
+use Rattle.arena_rules.proofs.MainPlaces.{uncovered}
 use Rattle.arena_rules.proofs.ChunkMoves.{listed_tile}
 
 -- ---- sizes and places
@@ -41,7 +42,7 @@ tile_in_main a at t s p tile e =
         | inl before ↦ absurd (omega (
           arith,
           covered t.addr (omega arith) (omega (arith, tile.size.0)),
-          p.outside t.addr (record { break = inl before; pieces = inl (omega (arith, before, p.start, p.limit)) }),
+          uncovered a t.addr p (record { break = inl before; pieces = inl (omega (arith, before, p.start, p.limit)) }),
         ))
         | inr within ↦ within
       ];
@@ -49,7 +50,7 @@ tile_in_main a at t s p tile e =
         | inl past ↦ absurd (omega (
           arith,
           covered last (omega arith) (omega (arith, tile.size.0)),
-          p.outside last (record { break = inr (omega (arith, past, p.limit)); pieces = inr (omega (arith, past, p.piece_limit)) }),
+          uncovered a last p (record { break = inr (omega (arith, past, p.limit)); pieces = inr (omega (arith, past, p.piece_limit)) }),
         ))
         | inr within ↦ within
       ];

@@ -12,4 +12,7 @@ pub mod Release
 pub mod Growth
 pub mod Examples
 pub mod Search
+pub mod Resize
+pub mod Align
 pub mod Mapped
+pub mod MapsWithin

@@ -86,20 +86,20 @@ number_told (told.Asked ask answer) = 0
 number_told (told.Dial n) = n
 
 -- the place of a mapping that was asked for
-abbrev pub map_place : Ask → ℕ
-map_place (asks.Break old new) = 0
-map_place (asks.Piece addr len) = 0
-map_place (asks.NewHeap arena heap len) = 0
-map_place (asks.GrowHeap arena heap old_len new_len) = 0
-map_place (asks.Map addr len) = addr
-map_place (asks.Remap old_addr old_len new_addr new_len) = 0
+abbrev pub mapping_place_in : Ask → ℕ
+mapping_place_in (asks.Break old new) = 0
+mapping_place_in (asks.Piece addr len) = 0
+mapping_place_in (asks.NewHeap arena heap len) = 0
+mapping_place_in (asks.GrowHeap arena heap old_len new_len) = 0
+mapping_place_in (asks.Map addr len) = addr
+mapping_place_in (asks.Remap old_addr old_len new_addr new_len) = 0
 
 abbrev pub place_told : Said → ℕ
 place_told (told.Flag b) = 0
 place_told (told.Popped o) = 0
 place_told (told.Own o) = 0
 place_told (told.Room b) = 0
-place_told (told.Asked ask answer) = map_place ask
+place_told (told.Asked ask answer) = mapping_place_in ask
 place_told (told.Dial n) = 0
 
 -- One need with its answer taken apart.

@@ -2,13 +2,15 @@
 
 ghost use Rattle.std.specs.Prelude.{◌≡◌, ℕ, ◌+◌, ◌*◌, [], ◌∷◌, Some, None, true, false};
 ghost use Rattle.chunk_tags.specs.Tunables.{serial_values};
-ghost use Rattle.address_space.specs.declared.asks.Ask.TheVariants.{Break};
+ghost use Rattle.address_space.specs.declared.asks.Ask.TheVariants.{Break, Map};
 ghost use Rattle.address_space.specs.declared.asks.Answer.TheVariants.{Granted};
-ghost use Rattle.arena_rules.specs.declared.said.Said.TheVariants.{Flag, Asked, Dial};
+ghost use Rattle.arena_rules.specs.declared.said.Said.TheVariants.{Flag, Asked, Dial, Room};
 ghost use Rattle.arena_rules.specs.PlainArena.{empty_main, unsorted_of, bin_at};
-ghost use Rattle.arena_rules.specs.Rules.{end_of_rules};
+ghost use Rattle.arena_rules.specs.Rules.{end_of_rules, deeds_of, Stashes};
+ghost use Rattle.arena_rules.specs.Resize.{resize_of};
+ghost use Rattle.arena_rules.specs.Align.{align_of, mapped_block};
 ghost use Rattle.arena_rules.specs.Search.{searched, carved, sorted_in};
-ghost use Rattle.arena_rules.specs.Examples.{found_by, two_pages, three_cut, second_free};
+ghost use Rattle.arena_rules.specs.Examples.{found_by, two_pages, three_cut, second_free, chunk_ended, mapping_ended, tiles_ended, unsorted_ended, small_cut, grown_cut, free_between, two_large, tail_stashed};
 ghost use Rattle.chunk_tags.specs.declared.tiles.TileKind.TheVariants.{Used, Free, Top, Fence};
 ghost use Rattle.address_space.specs.Spaces.{main_start, piece_start};
 ghost use Rattle.arena_rules.specs.Moves.{tile_of, chunk_of, cut_from_top, left_of_top};
@@ -60,4 +62,65 @@ fn top_grows_and_moves()
     ensures left { left_of_top two_pages ≡ Some (chunk_of (tile_of Used main_start 8160)) }
     ensures all_fence { (piece_taken (cut_from_top two_pages 8144) 1048576).tiles ≡ tile_of Used main_start 8144 ∷ tile_of Fence (main_start + 8144) 48 ∷ tile_of Top piece_start 1048576 ∷ [] }
     ensures none_left { left_of_top (cut_from_top two_pages 8144) ≡ None }
+{}
+
+/// A block grows into top to exactly its new size.
+#[tactic(auto, unfolding(crate::specs::PlainArena::empty_bins))]
+fn resize_grows_into_top()
+    ensures kept { chunk_ended (end_of_rules serial_values (resize_of serial_values small_cut (chunk_of (tile_of Used 0x555555559290 32)) 1008) []) ≡ Some (chunk_of (tile_of Used 0x555555559290 1008)) }
+    ensures tiles { tiles_ended (end_of_rules serial_values (resize_of serial_values small_cut (chunk_of (tile_of Used 0x555555559290 32)) 1008) []) ≡ tile_of Used main_start 656 ∷ tile_of Used (main_start + 656) 1008 ∷ tile_of Top (main_start + 1664) 133504 ∷ [] }
+{}
+
+/// Where a used chunk is behind it a block moves to top, and its old chunk goes to the cache.
+#[tactic(auto, unfolding(crate::specs::PlainArena::empty_bins))]
+fn resize_moves_to_top()
+    ensures moved { chunk_ended (end_of_rules serial_values (resize_of serial_values grown_cut (chunk_of (tile_of Used 0x555555559290 1008)) 2016) (Flag false ∷ Room true ∷ [])) ≡ Some (chunk_of (tile_of Used 0x5555555596a0 2016)) }
+    ensures stashed { deeds_of (resize_of serial_values grown_cut (chunk_of (tile_of Used 0x555555559290 1008)) 2016) (Flag false ∷ Room true ∷ []) ≡ Stashes (chunk_of (tile_of Used 0x555555559290 1008)) ∷ [] }
+{}
+
+/// A block takes the free chunk behind it, and what is left of that goes to the cache.
+#[tactic(auto, unfolding(crate::specs::PlainArena::empty_bins))]
+fn resize_takes_the_free_chunk_behind()
+    ensures kept { chunk_ended (end_of_rules serial_values (resize_of serial_values free_between (chunk_of (tile_of Used 0x5555555596a0 2016)) 4016) (Room true ∷ [])) ≡ Some (chunk_of (tile_of Used 0x5555555596a0 4016)) }
+    ensures stashed { deeds_of (resize_of serial_values free_between (chunk_of (tile_of Used 0x5555555596a0 2016)) 4016) (Room true ∷ []) ≡ Stashes (chunk_of (tile_of Used 0x55555555a650 1008)) ∷ [] }
+    ensures listed { unsorted_ended (end_of_rules serial_values (resize_of serial_values free_between (chunk_of (tile_of Used 0x5555555596a0 2016)) 4016) (Room true ∷ [])) ≡ [] }
+{}
+
+/// A block is joined with the chunk found behind it, which comes from a top that grew; the rest is merged into top, which is
+/// trimmed.
+#[tactic(auto, unfolding(crate::specs::PlainArena::empty_bins))]
+fn resize_joins_what_was_found_behind()
+    ensures kept { chunk_ended (end_of_rules serial_values (resize_of serial_values two_large (chunk_of (tile_of Used 0x555555567d20 60016)) 100016) (Flag false ∷ Flag false ∷ Dial 131072 ∷ Asked (Break 0x55555557a000 0x5555555af000) Granted ∷ Room false ∷ Flag false ∷ Dial 131072 ∷ [])) ≡ Some (chunk_of (tile_of Used 0x555555567d20 100016)) }
+    ensures tiles { tiles_ended (end_of_rules serial_values (resize_of serial_values two_large (chunk_of (tile_of Used 0x555555567d20 60016)) 100016) (Flag false ∷ Flag false ∷ Dial 131072 ∷ Asked (Break 0x55555557a000 0x5555555af000) Granted ∷ Room false ∷ Flag false ∷ Dial 131072 ∷ [])) ≡ tile_of Used main_start 656 ∷ tile_of Used 0x555555559290 32 ∷ tile_of Used 0x5555555592b0 60016 ∷ tile_of Used 0x555555567d20 100016 ∷ tile_of Top 0x5555555803d0 134192 ∷ [] }
+{}
+
+/// A smaller size is kept, and a rest of 16 bytes stays.
+#[tactic(auto, unfolding(crate::specs::PlainArena::empty_bins))]
+fn resize_cuts_what_is_kept()
+    ensures cut { chunk_ended (end_of_rules serial_values (resize_of serial_values grown_cut (chunk_of (tile_of Used 0x555555559290 1008)) 976) (Room true ∷ [])) ≡ Some (chunk_of (tile_of Used 0x555555559290 976)) }
+    ensures stashed { deeds_of (resize_of serial_values grown_cut (chunk_of (tile_of Used 0x555555559290 1008)) 976) (Room true ∷ []) ≡ Stashes (chunk_of (tile_of Used 0x555555559660 32)) ∷ [] }
+    ensures whole { chunk_ended (end_of_rules serial_values (resize_of serial_values grown_cut (chunk_of (tile_of Used 0x555555559290 1008)) 992) []) ≡ Some (chunk_of (tile_of Used 0x555555559290 1008)) }
+{}
+
+/// A chunk whose user address is a multiple at once keeps no lead; its tail goes to the cache.
+#[tactic(auto, unfolding(crate::specs::PlainArena::empty_bins))]
+fn aligned_at_once()
+    ensures found { chunk_ended (end_of_rules serial_values (align_of serial_values 64 112 small_cut) (Room true ∷ [])) ≡ Some (chunk_of (tile_of Used 0x5555555592b0 112)) }
+    ensures stashed { deeds_of (align_of serial_values 64 112 small_cut) (Room true ∷ []) ≡ Stashes (chunk_of (tile_of Used 0x555555559320 112)) ∷ [] }
+{}
+
+/// A lead goes to unsorted, where the cache has no room for it, and a tail to the cache.
+#[tactic(auto, unfolding(crate::specs::PlainArena::empty_bins))]
+fn aligned_behind_a_lead()
+    ensures found { chunk_ended (end_of_rules serial_values (align_of serial_values 4096 112 tail_stashed) (Flag false ∷ Room false ∷ Room true ∷ [])) ≡ Some (chunk_of (tile_of Used 0x555555559ff0 112)) }
+    ensures stashed { deeds_of (align_of serial_values 4096 112 tail_stashed) (Flag false ∷ Room false ∷ Room true ∷ []) ≡ Stashes (chunk_of (tile_of Used 0x55555555a060 976)) ∷ [] }
+    ensures listed { unsorted_ended (end_of_rules serial_values (align_of serial_values 4096 112 tail_stashed) (Flag false ∷ Room false ∷ Room true ∷ [])) ≡ chunk_of (tile_of Free 0x555555559390 3168) ∷ [] }
+{}
+
+/// A mapping stays whole, with its block behind a lead; a lead of 16 bytes would be too short for a chunk.
+#[tactic(auto, unfolding(crate::specs::PlainArena::empty_bins))]
+fn aligned_in_a_mapping()
+    ensures found { mapping_ended (end_of_rules serial_values (align_of serial_values 4096 200016 small_cut) (Flag false ∷ Flag false ∷ Dial 131072 ∷ Dial 0 ∷ Asked (Map 0x600000000000 204800) Granted ∷ [])) ≡ Some (chunk_of (tile_of Used 0x600000000000 204800)) }
+    ensures block { mapped_block 4096 (chunk_of (tile_of Used 0x600000000000 204800)) ≡ record { addr = 0x600000000ff0; size = 200720; lead = 4080; arena = None } }
+    ensures longer_lead { mapped_block 32 (chunk_of (tile_of Used 0x600000032000 200704)) ≡ record { addr = 0x600000032030; size = 200656; lead = 48; arena = None } }
 {}

@@ -1,11 +1,11 @@
 -- What is true of the words of tiles stays true.
-use Rattle.std.proofs.Common.{◌≡◌, ℕ, ◌+◌, ◌^◌, ◌<◌, ◌/◌, [], true, sym, subst, arith}
+use Rattle.std.proofs.Common.{◌≡◌, ℕ, ◌+◌, ◌^◌, ◌<◌, ◌/◌, [], true, sym, refl, subst, arith}
 use Rattle.part_words.specs.Extents.{IsOpen, extended}
 use Rattle.part_words.specs.Parts.{Parts, no_words, update, extent_of}
-use Rattle.part_words.proofs.Opening.{IsOpen-word, Covers-same, Covers-extended, Covers-more, AreOpen-extended}
+use Rattle.part_words.proofs.Opening.{IsOpen-word, Covers-same, Covers-extended, AreOpen-extended}
 use Rattle.part_words.proofs.Updates.{word_at-no_words}
 use Rattle.chunk_image.specs.declared.heads.Head.{Head}
-use Rattle.chunk_image.specs.Rows.{IsRoom}
+use Rattle.chunk_image.specs.Rows.{IsRoom, IsWordSize}
 use Rattle.chunk_image.specs.Heads.{no_head, head_at, foot_at, is_free_head, with_foot, IsKept, CanStand}
 use Rattle.chunk_image.proofs.FootLaws.{update_cases, free_size, AreFooted-put}
 
@@ -20,6 +20,7 @@ pub IsKept-put : (heads : Parts Head) (feet : Parts ℕ) (at : ℕ) (h : Head) (
 IsKept-put heads feet at h heads' feet' old can is =
     record {
       covers = rw (is.extent, is.foot_extent) old.covers;
+      fits = λ a. rw is.written (update_cases (λ k. IsWordSize k.size) (head_at heads) at h a (λ _. can.fits) (λ _. old.fits a));
       room = λ a. rw (is.extent, is.written) (update_cases (λ k. 0 < k.size → IsRoom (extent_of heads) a k.size) (head_at heads) at h a (λ e _. subst (λ b. IsRoom (extent_of heads) b h.size) (sym e) can.room) (λ _. old.room a));
       footed = rw (is.written, is.footed) (AreFooted-put (head_at heads) (foot_at feet) at h old.footed can.alone);
     }
@@ -35,6 +36,7 @@ pub IsKept-no_words : (base stride : ℕ) → IsKept (no_words base stride) (no_
 IsKept-no_words base stride =
     record {
       covers = Covers-same (record { base = base; width = stride / 16; words = [] });
+      fits = rw (word_at-no_words {T = Head} base stride no_head) (λ a. record { whole = refl; below = omega arith });
       room = rw (word_at-no_words {T = Head} base stride no_head) (λ a none. absurd (omega (arith, none)));
       footed = rw (word_at-no_words {T = Head} base stride no_head, word_at-no_words {T = ℕ} base stride 0) (record { footed = λ a no. cc; below = λ b. omega arith; meant = λ b none. absurd (omega (arith, none)) });
     }
@@ -44,15 +46,7 @@ pub IsKept-opened : (heads : Parts Head) (feet : Parts ℕ) (at len : ℕ) (head
 IsKept-opened heads feet at len heads' feet' old same same_feet more more_feet =
     record {
       covers = rw (more, more_feet) (Covers-extended (extent_of heads) (extent_of feet) at len old.covers);
+      fits = rw same old.fits;
       room = rw (same, more) (λ a h. record { words = AreOpen-extended (extent_of heads) at len a _ (old.room a h).words; end = (old.room a h).end });
       footed = rw (same, same_feet) old.footed;
-    }
-
--- more words for feet alone
-pub IsKept-more_feet : (heads : Parts Head) (feet : Parts ℕ) (at len : ℕ) (feet' : Parts ℕ) → IsKept heads feet → foot_at feet' ≡ foot_at feet → extent_of feet' ≡ extended (extent_of feet) at len → IsKept heads feet'
-IsKept-more_feet heads feet at len feet' old same_feet more_feet =
-    record {
-      covers = rw more_feet (Covers-more (extent_of heads) (extent_of feet) at len old.covers);
-      room = old.room;
-      footed = rw same_feet old.footed;
     }

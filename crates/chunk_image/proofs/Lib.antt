@@ -1,3 +1,4 @@
+mod CellLaws
 pub mod Changes
 mod FootLaws
 mod HeadLaws

@@ -10,7 +10,7 @@ use Rattle.part_words.specs.Parts.{Parts, update, extent_of}
 use Rattle.part_words.proofs.Opening.{IsOpen-within}
 use Rattle.part_words.proofs.Updates.{update_other}
 use Rattle.chunk_image.specs.declared.heads.Head.{Head}
-use Rattle.chunk_image.specs.Rows.{IsRoom}
+use Rattle.chunk_image.specs.Rows.{IsRoom, IsWordSize}
 use Rattle.chunk_image.specs.Heads.{no_head, head_at, tiles_with, is_free_head, tiles_of, row_of, IsKept, CanStand}
 use Rattle.chunk_image.proofs.FootLaws.{update_cases, free_kind, free_size}
 use Rattle.chunk_image.proofs.Rooms.{IsRoom-append, IsRoom-take, IsRoom-drop}
@@ -23,6 +23,7 @@ pub record Begins (heads : Parts Head) (t : Tile) : Type 0 where
   pub found : tile_at t.addr (tiles_of heads) ≡ Some t
   pub head : head_at heads t.addr ≡ record { size = t.size; kind = t.kind }
   pub some : 0 < t.size
+  pub fits : IsWordSize t.size
   pub room : IsRoom (extent_of heads) t.addr t.size
 
 head_with : (at : ℕ) (h : Head) (t : Tile) → tile_with at h ≡ Some t → (h ≡ record { size = t.size; kind = t.kind }) × (0 < t.size)
@@ -44,6 +45,7 @@ begins heads feet t kept found =
       found = found;
       head = h.0;
       some = h.1;
+      fits = subst (λ (k : Head). IsWordSize k.size) h.0 (kept.fits t.addr);
       room = subst (λ (k : Head). 0 < k.size → IsRoom (extent_of heads) t.addr k.size) h.0 (kept.room t.addr) h.1;
     }
 
@@ -57,6 +59,7 @@ begins_with heads feet a kept some =
       found = tile_at-tiles_of heads a below ∙ ap (λ b. if b then None else Some (record { addr = a; size = (head_at heads a).size; kind = (head_at heads a).kind })) (ne_eqb (head_at heads a).size 0 (λ none. omega (arith, none, some)));
       head = refl;
       some = some;
+      fits = kept.fits a;
       room = room;
     }
 
@@ -100,18 +103,20 @@ can_set_kind heads feet t kind kept row found chunk =
     let b = begins heads feet t kept found in
     record {
       place = IsOpen-begin heads t b;
+      fits = b.fits;
       room = b.room;
       foot = λ free. IsOpen-end heads feet t kept row b (chunk (free_kind _ free));
       alone = λ _. ends_alone heads feet t kept row b;
     }
 
-pub can_set_size : (heads : Parts Head) (feet : Parts ℕ) (t : Tile) (size : ℕ) → IsKept heads feet → Row (tiles_of heads) → tile_at t.addr (tiles_of heads) ≡ Some t → is_free t ≡ false → 0 < size → IsRoom (extent_of heads) (end_of t) (size - t.size) → CanStand heads t.addr (record { size = size; kind = t.kind })
-can_set_size heads feet t size kept row found used some more =
+pub can_set_size : (heads : Parts Head) (feet : Parts ℕ) (t : Tile) (size : ℕ) → IsKept heads feet → Row (tiles_of heads) → tile_at t.addr (tiles_of heads) ≡ Some t → is_free t ≡ false → IsWordSize size → IsRoom (extent_of heads) (end_of t) (size - t.size) → CanStand heads t.addr (record { size = size; kind = t.kind })
+can_set_size heads feet t size kept row found used fits more =
     let b = begins heads feet t kept found in
     let whole = (row_tile t.addr (tiles_of heads) t row found).size.1 in
     let not_free : is_free_head (record { size = size; kind = t.kind }) ≡ true → ⊥ = λ free. no_free t (free_kind _ free) used in
     record {
       place = IsOpen-begin heads t b;
+      fits = fits;
       room = IsRoom-take (extent_of heads) t.addr (t.size + (size - t.size)) size (omega arith) (IsRoom-append (extent_of heads) t.addr t.size (size - t.size) whole b.room more);
       foot = λ free. absurd (not_free free);
       alone = λ free. absurd (not_free free);
@@ -123,16 +128,18 @@ can_clear heads feet t kept found =
     let b = begins heads feet t kept found in
     record {
       place = IsOpen-begin heads t b;
+      fits = record { whole = refl; below = omega arith };
       room = record { words = λ n none. absurd (omega (arith, none)); end = omega (arith, b.below) };
       foot = λ free. cc;
       alone = λ free. cc;
     }
 
-pub can_enter : (heads : Parts Head) (t : Tile) → is_free t ≡ false → 0 < t.size → IsRoom (extent_of heads) t.addr t.size → CanStand heads t.addr (record { size = t.size; kind = t.kind })
-can_enter heads t used some room =
+pub can_enter : (heads : Parts Head) (t : Tile) → is_free t ≡ false → 0 < t.size → IsWordSize t.size → IsRoom (extent_of heads) t.addr t.size → CanStand heads t.addr (record { size = t.size; kind = t.kind })
+can_enter heads t used some fits room =
     let not_free : is_free_head (record { size = t.size; kind = t.kind }) ≡ true → ⊥ = λ free. no_free t (free_kind _ free) used in
     record {
       place = subst (IsOpen (extent_of heads)) (omega arith) (room.words 0 (omega (arith, some)));
+      fits = fits;
       room = room;
       foot = λ free. absurd (not_free free);
       alone = λ free. absurd (not_free free);
@@ -193,12 +200,13 @@ side heads feet t u j =
       whole = (row_tile t.addr (tiles_of heads) t j.row j.found).size.1;
     }
 
-pub can_fuse : (heads : Parts Head) (feet : Parts ℕ) (t u : Tile) (kind : TileKind) (heads' : Parts Head) → Joins heads feet t u → (kind ≡ Free → is_edge u ≡ false) → head_at heads' ≡ update (head_at heads) u.addr no_head → extent_of heads' ≡ extent_of heads → CanStand heads' t.addr (record { size = t.size + u.size; kind = kind })
-can_fuse heads feet t u kind heads' j last written same =
+pub can_fuse : (heads : Parts Head) (feet : Parts ℕ) (t u : Tile) (kind : TileKind) (heads' : Parts Head) → Joins heads feet t u → (kind ≡ Free → is_edge u ≡ false) → t.size + u.size < 2 ^ 34 → head_at heads' ≡ update (head_at heads) u.addr no_head → extent_of heads' ≡ extent_of heads → CanStand heads' t.addr (record { size = t.size + u.size; kind = kind })
+can_fuse heads feet t u kind heads' j last below written same =
     let s = side heads feet t u j in
     let end : u.addr + u.size ≡ t.addr + (t.size + u.size) = omega (arith, s.joins) in
     record {
       place = rw same (IsOpen-begin heads t s.first);
+      fits = record { whole = omega (arith, s.first.fits.whole, s.second.fits.whole); below = below };
       room = rw same (IsRoom-append (extent_of heads) t.addr t.size u.size s.whole s.first.room (subst (λ n. IsRoom (extent_of heads) n u.size) s.joins s.second.room));
       foot = λ free. rw same (subst (IsOpen (extent_of heads)) end (IsOpen-end heads feet u j.kept j.row s.second (last (free_kind _ free))));
       alone = λ _ a. rw written (update_cases (λ k. is_free_head k ≡ true → a + k.size ≡ t.addr + (t.size + u.size) → a ≡ t.addr) (head_at heads) u.addr no_head a (λ _ free. cc)
@@ -233,6 +241,7 @@ can_cut heads feet t nb first k used =
     let b = begins heads feet t k.kept k.found in
     record {
       place = IsOpen-begin heads t b;
+      fits = record { whole = k.whole; below = omega (arith, k.less, b.fits.below) };
       room = IsRoom-take (extent_of heads) t.addr t.size nb (omega (arith, k.less)) b.room;
       foot = λ free. absurd (used (free_kind _ free));
       alone = λ free. absurd (used (free_kind _ free));
@@ -244,6 +253,7 @@ can_part heads feet t nb first rest heads' k used chunk written same =
     let end : end_of t ≡ t.addr + nb + (t.size - nb) = omega (arith, k.less) in
     record {
       place = rw same (IsOpen-within (extent_of heads) t.addr t.size nb k.whole k.less b.room.words);
+      fits = record { whole = omega (arith, k.whole, b.fits.whole, k.less); below = omega (arith, b.fits.below) };
       room = rw same (IsRoom-drop (extent_of heads) t.addr t.size nb k.whole (omega (arith, k.less)) b.room);
       foot = λ free. rw same (subst (IsOpen (extent_of heads)) end (IsOpen-end heads feet t k.kept k.row b (chunk (free_kind _ free))));
       alone = λ _ a. rw written (update_cases (λ h. is_free_head h ≡ true → a + h.size ≡ t.addr + nb + (t.size - nb) → a ≡ t.addr + nb) (head_at heads) t.addr (record { size = nb; kind = first }) a (λ _ free. absurd (used (free_kind _ free)))

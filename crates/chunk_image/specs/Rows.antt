@@ -1,5 +1,5 @@
 -- The tiles of an arena, and which addresses have words for them (this project's own).
-use Rattle.std.specs.Prelude.{ℕ, ◌+◌, ◌/◌, ◌^◌, ◌<◌, List, [], Option, Some, None, if◌then◌else◌}
+use Rattle.std.specs.Prelude.{◌≡◌, ℕ, ◌+◌, ◌/◌, ◌%◌, ◌^◌, ◌<◌, List, [], Option, Some, None, if◌then◌else◌}
 use Rattle.chunk_tags.specs.declared.tiles.Tile.{Tile}
 use Rattle.chunk_tags.specs.Tiles.{is_free, tile_before}
 use Rattle.part_words.specs.Extents.{Extent, AreOpen}
@@ -17,6 +17,11 @@ no_tiles base stride = record { tiles = []; extent = record { base = base; width
 pub record IsRoom (e : Extent) (at size : ℕ) : Type 0 where
   pub words : AreOpen e at size
   pub end : at + size < 2 ^ 64
+
+-- a size that a word can say: whole units of 16 bytes, and less than 16 GiB
+pub record IsWordSize (size : ℕ) : Type 0 where
+  pub whole : size % 16 ≡ 0
+  pub below : size < 2 ^ 34
 
 abbrev pub where_free : Option Tile → Option Tile
 where_free None = None

@@ -1,12 +1,28 @@
-//! Heads of tiles, and feet of free ones.
+//! Words: heads of tiles, and feet of free ones.
 
-ghost use Rattle.std.specs.Prelude.{◌≡◌, ◌+◌, ◌^◌, ◌<◌, true};
+ghost use Rattle.std.specs.Prelude.{◌≡◌, ◌+◌, ◌/◌, ◌*◌, ◌%◌, ◌^◌, ◌<◌, true};
 ghost use Rattle.part_words.specs.Extents.{IsOpen};
 ghost use Rattle.part_words.specs.Parts.{update, extent_of};
-ghost use Rattle.chunk_image.specs.Heads.{head_at, foot_at, is_free_head, with_foot, IsKept, CanStand};
+ghost use Rattle.chunk_image.specs.Rows.{IsWordSize};
+ghost use Rattle.chunk_image.specs.Heads.{head_at, head_in, heads_of, foot_at, feet_of, is_free_head, kind_of as kind_numbered, with_foot, IsKept, CanStand};
 
 use chunk_tags::TileKind;
 use part_words::Words;
+
+/// What is kept for 16 bytes of address space: the head of the tile that begins there, and the foot of the free one that
+/// ends there (glibc's `mchunk_size`, and the `mchunk_prev_size` of the same chunk).
+#[derive(Clone, Copy, Debug, PartialEq, Eq)]
+pub(crate) struct Cell {
+    /// The size in units of 16 bytes, times 4, and the number of the kind; 0 where no tile begins.
+    head: u32,
+    /// The size in units of 16 bytes; 0 where no free tile ends.
+    foot: u32,
+}
+
+impl Cell {
+    /// No tile begins or ends here.
+    pub(crate) const NONE: Cell = Cell { head: 0, foot: 0 };
+}
 
 /// What stands at the beginning of a tile (glibc's size word, with its flags).
 #[derive(Clone, Copy, Debug, PartialEq, Eq)]
@@ -29,30 +45,94 @@ impl Head {
     {
         self.size > 0 && self.kind == TileKind::Free
     }
+
+    /// The head in one word.
+    fn packed(&self) -> u32
+        requires { IsWordSize self.now.size }
+        ensures { head_in result ≡ self.now }
+    {
+        let number = match self.kind {
+            TileKind::Used => 0,
+            TileKind::Free => 1,
+            TileKind::Top => 2,
+            TileKind::Fence => 3,
+        };
+        (self.size / 16) as u32 * 4 + number
+    }
+}
+
+/// The kind with a number.
+fn kind_of(number: u32) -> TileKind
+    ensures { result ≡ kind_numbered number }
+{
+    match number {
+        0 => TileKind::Used,
+        1 => TileKind::Free,
+        2 => TileKind::Top,
+        _ => TileKind::Fence,
+    }
+}
+
+/// The head of an address.
+pub(crate) fn read_head(cells: &Words<Cell>, at: u64) -> Head
+    requires { IsOpen (extent_of (heads_of cells.now)) at }
+    ensures { result ≡ head_at (heads_of cells.now) at }
+{
+    let word = cells.get(at).head;
+    Head {
+        size: u64::from(word / 4) * 16,
+        kind: kind_of(word % 4),
+    }
+}
+
+/// The foot of an address.
+pub(crate) fn read_foot(cells: &Words<Cell>, at: u64) -> u64
+    requires { IsOpen (extent_of (feet_of cells.now)) at }
+    ensures { result ≡ foot_at (feet_of cells.now) at }
+{
+    u64::from(cells.get(at).foot) * 16
 }
 
 /// Writes the head of an address. The feet go with it: that of the tile that was there, if it was free, is cleared.
-pub(crate) fn put(heads: &mut Words<Head>, feet: &mut Words<u64>, at: u64, head: Head)
-    requires kept { IsKept heads.old feet.old }
-    requires stands { CanStand heads.old at head }
-    ensures heads { head_at heads.new ≡ update (head_at heads.old) at head }
-    ensures extent { extent_of heads.new ≡ extent_of heads.old }
-    ensures kept { IsKept heads.new feet.new }
+pub(crate) fn put(cells: &mut Words<Cell>, at: u64, head: Head)
+    requires kept { IsKept (heads_of cells.old) (feet_of cells.old) }
+    requires stands { CanStand (heads_of cells.old) at head }
+    ensures heads { head_at (heads_of cells.new) ≡ update (head_at (heads_of cells.old)) at head }
+    ensures extent { extent_of (heads_of cells.new) ≡ extent_of (heads_of cells.old) }
+    ensures kept { IsKept (heads_of cells.new) (feet_of cells.new) }
 {
-    let old = heads.get(at);
-    write_foot(feet, at, old, 0);
-    heads.set(at, head);
-    write_foot(feet, at, head, head.size);
+    let old = read_head(cells, at);
+    write_foot(cells, at, old, 0);
+    write_head(cells, at, head);
+    write_foot(cells, at, head, head.size);
+}
+
+/// Writes the head of an address alone.
+fn write_head(cells: &mut Words<Cell>, at: u64, head: Head)
+    requires word { IsOpen (extent_of (heads_of cells.old)) at }
+    requires fits { IsWordSize head.size }
+    ensures heads { head_at (heads_of cells.new) ≡ update (head_at (heads_of cells.old)) at head }
+    ensures feet { foot_at (feet_of cells.new) ≡ foot_at (feet_of cells.old) }
+    ensures extent { extent_of cells.new ≡ extent_of cells.old }
+{
+    let foot = cells.get(at).foot;
+    let head = head.packed();
+    cells.set(at, Cell { head, foot });
 }
 
 /// Writes a value where the foot of a tile is, if that is free.
-fn write_foot(feet: &mut Words<u64>, at: u64, head: Head, value: u64)
-    requires { is_free_head head ≡ true
-        → IsOpen (extent_of feet.old) (at + head.size) × (at + head.size < 2 ^ 64) }
-    ensures feet { foot_at feet.new ≡ with_foot head at value (foot_at feet.old) }
-    ensures extent { extent_of feet.new ≡ extent_of feet.old }
+fn write_foot(cells: &mut Words<Cell>, at: u64, head: Head, value: u64)
+    requires word { is_free_head head ≡ true
+        → IsOpen (extent_of (feet_of cells.old)) (at + head.size) × (at + head.size < 2 ^ 64) }
+    requires fits { IsWordSize value }
+    ensures heads { head_at (heads_of cells.new) ≡ head_at (heads_of cells.old) }
+    ensures feet { foot_at (feet_of cells.new) ≡ with_foot head at value (foot_at (feet_of cells.old)) }
+    ensures extent { extent_of cells.new ≡ extent_of cells.old }
 {
     if head.is_free() {
-        feet.set(at + head.size, value);
+        let end = at + head.size;
+        let head = cells.get(end).head;
+        let foot = (value / 16) as u32;
+        cells.set(end, Cell { head, foot });
     }
 }

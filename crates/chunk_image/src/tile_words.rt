@@ -3,22 +3,21 @@
 ghost use Rattle.std.specs.Prelude.{◌≡◌, ◌+◌, ◌-◌, ◌^◌, ◌%◌, ◌<◌, ◌≤◌, ◌≢◌, [], ◌∷◌, ◌++◌, false, IsSome, IfOk, OnOk, OnErr};
 ghost use Rattle.chunk_tags.specs.Tiles.{is_edge, is_free, end_of, Row, swapped, fused, entered, tile_at, tile_behind};
 ghost use Rattle.part_words.specs.Extents.{extended, IsWithinPart};
-ghost use Rattle.chunk_image.specs.Rows.{no_tiles, free_before_of, IsRoom};
+ghost use Rattle.chunk_image.specs.Rows.{no_tiles, free_before_of, IsRoom, IsWordSize};
 ghost use Rattle.chunk_image.specs.Heads.{tiles_with};
 
-use crate::heads::{Head, put};
+use crate::heads::{Cell, Head, put, read_foot, read_head};
 use chunk_tags::{Addr, NoMemory, Size, Tile, TileKind};
 use part_words::Words;
 use std::alloc::Global;
 use std::marker::Model;
 
-/// The words of an arena that say where its tiles are: a head at the beginning of each tile, and at the end of a free
-/// one a foot (this project's own; glibc keeps them in the chunks themselves). Each call takes constant time, but
-/// `tiles` and `open`.
+/// The words of an arena that say where its tiles are: a head at the beginning of each tile, and at
+/// the end of a free one a foot (this project's own; glibc keeps them in the chunks themselves). A
+/// tile has less than 16 GiB. Each call takes constant time, but `tiles` and `open`.
 #[derive(Drop)]
 pub struct TileWords {
-    heads: Words<Head>,
-    feet: Words<u64>,
+    cells: Words<Cell>,
 }
 
 impl Model for TileWords {
@@ -26,11 +25,11 @@ impl Model for TileWords {
 
     ghost Value = { TileRow };
 
-    ghost use Rattle.chunk_image.specs.Heads.{row_of, IsKept};
+    ghost use Rattle.chunk_image.specs.Heads.{row_of, heads_of, feet_of, IsKept};
 
-    ghost view = { λ s. row_of s.heads };
+    ghost view = { λ s. row_of (heads_of s.cells) };
 
-    ghost invariant = { λ s. IsKept s.heads s.feet };
+    ghost invariant = { λ s. IsKept (heads_of s.cells) (feet_of s.cells) };
 }
 
 impl TileWords {
@@ -40,8 +39,7 @@ impl TileWords {
         ensures { result ≡ no_tiles base stride }
     {
         TileWords {
-            heads: Words::new(alloc, base.0, stride),
-            feet: Words::new(alloc, base.0, stride),
+            cells: Words::new(alloc, base.0, stride),
         }
     }
 
@@ -52,9 +50,7 @@ impl TileWords {
             (self.new ≡ record self.old { extent = extended self.old.extent at len }) }
         ensures err { OnErr result (self.new ≡ self.old) }
     {
-        let from = at.0;
-        self.feet.open(alloc, from, len, 0)?;
-        self.heads.open(alloc, from, len, Head::NONE)?;
+        self.cells.open(alloc, at.0, len, Cell::NONE)?;
         Ok(())
     }
 
@@ -63,8 +59,9 @@ impl TileWords {
         requires { IsSome (tile_at at self.now.tiles) }
         ensures tile { tile_at at self.now.tiles ≡ Some result }
         ensures room { IsRoom self.now.extent at result.size }
+        ensures fits { IsWordSize result.size }
     {
-        let head = self.heads.get(at.0);
+        let head = read_head(&self.cells, at.0);
         Tile {
             addr: at,
             size: Size(head.size),
@@ -78,7 +75,7 @@ impl TileWords {
         requires tile { IsSome (tile_at at self.now.tiles) }
         ensures { result ≡ free_before_of at self.now.tiles }
     {
-        let size = self.feet.get(at.0);
+        let size = read_foot(&self.cells, at.0);
         if size == 0 {
             return None;
         }
@@ -96,9 +93,9 @@ impl TileWords {
         requires chunk { is_edge t.now ≡ false }
         ensures { tile_behind t.now.addr self.now.tiles ≡ Some result }
     {
-        let heads = &self.heads;
+        let cells = &self.cells;
         let end = t.addr.0 + t.size.0;
-        let head = heads.get(end);
+        let head = read_head(cells, end);
         Tile {
             addr: Addr(end),
             size: Size(head.size),
@@ -117,7 +114,7 @@ impl TileWords {
     {
         let at = t.addr.0;
         let size = t.size.0;
-        put(&mut self.heads, &mut self.feet, at, Head { size, kind });
+        put(&mut self.cells, at, Head { size, kind });
     }
 
     /// Gives a tile that isn't free another size; where it grows, the words behind it are open.
@@ -125,7 +122,8 @@ impl TileWords {
         requires row { Row self.old.tiles }
         requires tile { tile_at t.now.addr self.old.tiles ≡ Some t.now }
         requires kind { is_free t.now ≡ false }
-        requires size { 0 < size }
+        requires some { 0 < size }
+        requires fits { IsWordSize size }
         requires room { IsRoom self.old.extent (end_of t.now) (size - t.now.size) }
         ensures { self.new ≡ record self.old {
           tiles = swapped t.now.addr (record t.now { size = size } ∷ []) self.old.tiles;
@@ -134,7 +132,7 @@ impl TileWords {
         let at = t.addr.0;
         let size = size.0;
         let kind = t.kind;
-        put(&mut self.heads, &mut self.feet, at, Head { size, kind });
+        put(&mut self.cells, at, Head { size, kind });
     }
 
     /// Cuts a tile into two, the first of `nb` bytes. The first isn't free, and the second only where it was a chunk.
@@ -156,15 +154,9 @@ impl TileWords {
         let at = t.addr.0;
         let size = nb.0;
         let left = t.size.0 - size;
+        put(&mut self.cells, at, Head { size, kind: first });
         put(
-            &mut self.heads,
-            &mut self.feet,
-            at,
-            Head { size, kind: first },
-        );
-        put(
-            &mut self.heads,
-            &mut self.feet,
+            &mut self.cells,
             at + size,
             Head {
                 size: left,
@@ -180,16 +172,17 @@ impl TileWords {
         requires chunk { is_edge t.now ≡ false }
         requires behind { tile_behind t.now.addr self.old.tiles ≡ Some u.now }
         requires free { kind ≡ TileKind.Free → is_edge u.now ≡ false }
+        requires below { t.now.size + u.now.size < 2 ^ 34 }
         ensures { self.new ≡ record self.old {
           tiles = fused t.now.addr
               (record t.now { size = t.now.size + u.now.size; kind = kind }) self.old.tiles;
         } }
     {
         let next = u.addr.0;
-        put(&mut self.heads, &mut self.feet, next, Head::NONE);
+        put(&mut self.cells, next, Head::NONE);
         let at = t.addr.0;
         let size = t.size.0 + u.size.0;
-        put(&mut self.heads, &mut self.feet, at, Head { size, kind });
+        put(&mut self.cells, at, Head { size, kind });
     }
 
     /// A tile of a new range, at whose address no tile begins yet.
@@ -197,13 +190,14 @@ impl TileWords {
         requires none { tile_at t.now.addr self.old.tiles ≡ None }
         requires kind { is_free t.now ≡ false }
         requires some { 0 < t.now.size }
+        requires fits { IsWordSize t.now.size }
         requires room { IsRoom self.old.extent t.now.addr t.now.size }
         ensures { self.new ≡ record self.old { tiles = entered t.now self.old.tiles } }
     {
         let at = t.addr.0;
         let size = t.size.0;
         let kind = t.kind;
-        put(&mut self.heads, &mut self.feet, at, Head { size, kind });
+        put(&mut self.cells, at, Head { size, kind });
     }
 
     /// Takes a tile out of the row.
@@ -212,7 +206,7 @@ impl TileWords {
         ensures { self.new ≡ record self.old { tiles = swapped t.now.addr [] self.old.tiles } }
     {
         let at = t.addr.0;
-        put(&mut self.heads, &mut self.feet, at, Head::NONE);
+        put(&mut self.cells, at, Head::NONE);
     }
 
     /// All tiles, by address: one pass from tile to tile, and over the words between regions.
@@ -220,11 +214,11 @@ impl TileWords {
         requires { Row self.now.tiles }
         ensures { IfOk result (λ v. v.items ≡ self.now.tiles) }
     {
-        let heads = &self.heads;
+        let cells = &self.cells;
         let mut tiles = Vec::new(alloc);
         let mut from = 0;
-        while let Some(at) = heads.next_open(from) {
-            let head = heads.get(at);
+        while let Some(at) = cells.next_open(from) {
+            let head = read_head(cells, at);
             push_tile(&mut tiles, at, head)?;
             let Some(next) = at.checked_add(head.size.max(1)) else {
                 return Ok(tiles);

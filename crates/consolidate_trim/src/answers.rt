@@ -2,26 +2,30 @@
 
 ghost use Rattle.std.specs.Prelude.{◌≡◌, ◌<◌, ◌≤◌, [], ◌∷◌, ◌++◌, OnOk, OnErr, vec_len, vec_capacity};
 
-use arena_rules::Said;
 use chunk_tags::NoMemory;
 
-/// Makes room for one more answer, before it is asked for. The answers stay (this project's own).
-pub fn make_room(said: &mut Vec<Said>) -> Result<(), NoMemory>
-    ensures answers { said.new.items ≡ said.old.items }
-    ensures room { OnOk result (vec_len said.new < vec_capacity said.new) }
-    ensures full { OnErr result (vec_capacity said.old ≤ vec_len said.old) }
+/// Makes room for one more item, before it is needed. The items stay (this project's own). The first one takes no more memory
+/// than for itself, since most holds are told nothing or one thing.
+pub fn make_room<T>(items: &mut Vec<T>) -> Result<(), NoMemory>
+    ensures answers { items.new.items ≡ items.old.items }
+    ensures room { OnOk result (vec_len items.new < vec_capacity items.new) }
+    ensures full { OnErr result (vec_capacity items.old ≤ vec_len items.old) }
 {
-    if said.len() < said.capacity() {
+    if items.len() < items.capacity() {
         return Ok(());
     }
-    said.reserve(1)?;
+    if items.capacity() == 0 {
+        items.reserve_exact(1)?;
+    } else {
+        items.reserve(1)?;
+    }
     Ok(())
 }
 
 /// Puts an answer behind the others, where room was made for it. No memory is asked for.
-pub fn tell<T: Drop>(said: &mut Vec<T>, answer: T)
+pub fn tell<T: Copy>(said: &mut Vec<T>, answer: &T)
     requires { vec_len said.old < vec_capacity said.old }
-    ensures { said.new.items ≡ said.old.items ++ answer ∷ [] }
+    ensures { said.new.items ≡ said.old.items ++ answer.now ∷ [] }
 {
-    said.push(answer).unwrap();
+    said.push(*answer).unwrap();
 }

@@ -42,10 +42,10 @@ fn merge_bin<M: Moves, P: FastPort>(
     loop {
         make_room(said)?;
         let Some(at) = port.pop_own(bin) else {
-            tell(said, Said::Own(None));
+            tell(said, &Said::Own(None));
             return Ok(());
         };
-        tell(said, Said::Own(Some(at)));
+        tell(said, &Said::Own(Some(at)));
         merge(g, fast_chunk_at(bin, at));
     }
 }

@@ -63,7 +63,7 @@ fn trim_by_threshold<M: Moves, K: Kernel, P: FastPort + Dials>(
 {
     make_room(said)?;
     let threshold = port.trim_threshold();
-    tell(said, Said::Dial(threshold));
+    tell(said, &Said::Dial(threshold));
     trim_main(g, threshold, space, t);
     Ok(())
 }
@@ -92,7 +92,7 @@ pub fn settle<M: Moves, K: Kernel, P: FastPort + Dials>(
     }
     make_room(said)?;
     let flag = port.flag();
-    tell(said, Said::Flag(flag));
+    tell(said, &Said::Flag(flag));
     consolidate_if(flag, g, port, said)?;
     trim_by_threshold(g, port, space, t, said)
 }
@@ -143,7 +143,7 @@ pub fn release<M: Moves, K: Kernel, P: FastPort + Dials>(
     make_room(said)?;
     port.make_room()?;
     let room = cache.has_room(c.size);
-    tell(said, Said::Room(room));
+    tell(said, &Said::Room(room));
     if room {
         stash(g.number(), c, cache);
         return Ok(());

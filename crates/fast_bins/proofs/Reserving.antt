@@ -1,5 +1,7 @@
 -- Room is made in one bin after another.
-use Rattle.std.proofs.Common.{◌≡◌, ℕ, ◌+◌, ◌≤◌, ◌<◌, IsTrue, List, set, get_or, length, sym, ap, ◌∙◌, subst, inl, inr, arith}
+use Rattle.std.proofs.Common.{◌≡◌, ℕ, ◌+◌, ◌≤◌, ◌<◌, IsTrue, true, false, List, set, get_or, length, sym, ap, ◌∙◌, subst, inl, inr, arith}
+use Rattle.std.specs.Prelude.{Result, Ok, Err, OnErr}
+use Rattle.std.specs.Result.{IsErr}
 use Rattle.std.proofs.lemmas.Bool.{cases_eq}
 use Rattle.std.proofs.lemmas.Bool.Decides.{nat_tests}
 use Rattle.std.proofs.lemmas.List.{get_or_default, get_or-set_same, get_or-set_other}
@@ -43,3 +45,16 @@ room_more bins i b' so_far below room k h = elim (cases_eq k i) [
       (subst (λ x. IsTrue (has_room x)) (sym (get_or-set_same bins i b' no_bin below)) room)
   | inr ne ↦ subst (λ x. IsTrue (has_room x)) (sym (get_or-set_other bins i k b' no_bin ne)) (so_far k (omega arith))
 ]
+
+-- a bin that has no room now had none before
+pub full_at : (old bins : List RoomyBin) (i : ℕ) (d : RoomyBin) → Roomier old bins → i < length bins → i < length old → has_room (get_or bins i d) ≡ false → HaveRoom (length old) old → ⊥
+full_at old bins i d so_far below within full had =
+    let same : get_or bins i no_bin ≡ get_or bins i d = get_or_default bins i no_bin d below in
+    let room : has_room (get_or bins i d) ≡ true = subst (λ x. IsTrue (has_room x)) same (so_far.room i (had i within)) in
+    let clash : true ≡ false = sym room ∙ full in
+    absurd cc
+
+-- what is true in any case is true at a refusal
+pub on_err : {A E : Type 0} (P : Type 0) (r : Result A E) → IsErr r → P → OnErr r P
+on_err P (Ok x) refused p = absurd cc
+on_err P (Err e) refused p = p

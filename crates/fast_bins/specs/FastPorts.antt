@@ -1,7 +1,6 @@
 -- Ports to the fast bins of an arena, as contracts see them (this project's own form). What is done at them is in glibc
 -- 2.31 malloc/malloc.c: the push of _int_free, the pop REMOVE_FB of _int_malloc, and what malloc_consolidate takes.
-use Rattle.std.specs.Prelude.{◌≡◌, ℕ, ◌+◌, ◌<◌, Bool, ◌&&◌, ◌||◌, not, nat_eq, IsTrue, Option, Some, None, if◌then◌else◌}
-use Rattle.chunk_tags.specs.Sizes.{fast_size_at}
+use Rattle.std.specs.Prelude.{◌≡◌, ℕ, ◌+◌, ◌<◌, Bool, ◌&&◌, ◌||◌, not, nat_eq, IsTrue, Option, Some, None}
 use Rattle.chunk_tags.specs.BinOrder.{once, fast_chunk}
 use Rattle.chunk_tags.specs.declared.tiles.Chunk.{Chunk}
 

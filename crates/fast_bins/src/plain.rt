@@ -1,6 +1,6 @@
 //! The fast bins for one order of calls.
 
-ghost use Rattle.std.specs.Prelude.{◌≡◌, length, map, IfOk, OnOk};
+ghost use Rattle.std.specs.Prelude.{◌≡◌, length, map, IfOk, OnOk, OnErr};
 ghost use Rattle.fast_bins.specs.PlainBins.{empty_state, state_of, listed, plain_fast, Roomier, HaveRoom};
 
 use crate::port::FastPort;
@@ -31,6 +31,7 @@ impl Model for PlainFast {
 fn reserve_each(bins: &mut [BinStack]) -> Result<(), NoMemory>
     ensures roomier { Roomier bins.old bins.new }
     ensures room { OnOk result (HaveRoom (length bins.new) bins.new) }
+    ensures full { OnErr result (HaveRoom (length bins.old) bins.old → ⊥) }
 {
     for b in bins.iter_mut() {
         b.make_room()?;
@@ -70,6 +71,13 @@ impl PlainFast {
             lists.push(b.addresses(alloc)?)?;
         }
         Ok(lists)
+    }
+
+    /// A law; the call does nothing. There are ten bins.
+    pub fn laws(&self)
+        ensures { length self.now.bins ≡ 10 }
+    {
+        let _ = &self.bins;
     }
 }
 

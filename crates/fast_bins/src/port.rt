@@ -1,6 +1,6 @@
 //! A port to the fast bins of an arena.
 
-ghost use Rattle.std.specs.Prelude.{◌≡◌, ◌<◌, IsTrue, OnOk};
+ghost use Rattle.std.specs.Prelude.{◌≡◌, ◌<◌, IsTrue, OnOk, OnErr};
 ghost use Rattle.fast_bins.specs.FastPorts.{Fast, Flags, Clears, Pushes, Pops, Gathers, Owns, Did, Idles, HasRoom};
 
 use chunk_tags::{Addr, NoMemory};
@@ -11,10 +11,12 @@ use chunk_tags::{Addr, NoMemory};
 pub trait FastPort {
     ghost fast: { Fast Self };
 
-    /// Makes room for one push into any bin. No bin changes, whatever the answer.
+    /// Makes room for one push into any bin. No bin changes, whatever the answer; `NoMemory` comes only where a bin had no
+    /// room.
     fn make_room(&mut self) -> Result<(), NoMemory>
         ensures idle { Idles fast self.old self.new }
-        ensures room { OnOk result (HasRoom fast self.new) };
+        ensures room { OnOk result (HasRoom fast self.new) }
+        ensures full { OnErr result (HasRoom fast self.old → ⊥) };
 
     /// Whether chunks may be in a bin (glibc's `have_fastchunks`).
     fn flag(&mut self) -> bool

@@ -1,6 +1,6 @@
 //! One fast bin: a chain and a private list, in one stack.
 
-ghost use Rattle.std.specs.Prelude.{◌≡◌, ◌≤◌, length, IsTrue, IfOk, OnOk, IsSome};
+ghost use Rattle.std.specs.Prelude.{◌≡◌, ◌≤◌, false, length, IsTrue, IfOk, OnOk, OnErr, IsSome};
 ghost use Rattle.fast_bins.specs.PlainBins.{empty_bin, listed, pushed, front_of, without_front, gathered, own_front, without_own, has_room};
 
 use chunk_tags::{Addr, NoMemory};
@@ -44,7 +44,11 @@ impl BinStack {
         ensures bin { self.new.bin ≡ self.old.bin }
         ensures more { self.old.room ≤ self.new.room }
         ensures room { OnOk result (IsTrue (has_room self.new)) }
+        ensures full { OnErr result (has_room self.old ≡ false) }
     {
+        if self.items.len() < self.items.capacity() {
+            return Ok(());
+        }
         self.items.reserve(1)?;
         Ok(())
     }

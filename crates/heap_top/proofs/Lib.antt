@@ -1,4 +1,3 @@
-pub mod Filling
 pub mod TopLaws
 pub mod MainMoves
 mod Scenes

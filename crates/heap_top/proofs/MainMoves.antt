@@ -1,5 +1,5 @@
 -- Main after each move of its top or of its ranges, for this crate and those above it.
-use Rattle.std.proofs.Common.{◌≡◌, ℕ, ◌+◌, ◌-◌, ◌%◌, ◌<◌, ◌≤◌, Bool, true, false, cond, List, [], ◌∷◌, Option, Some, None, IsTrue, refl, ap}
+use Rattle.std.proofs.Common.{◌≡◌, ℕ, ◌+◌, ◌-◌, ◌%◌, ◌<◌, ◌≤◌, Bool, true, false, cond, [], ◌∷◌, Option, Some, None, IsTrue, refl, ap}
 use Rattle.chunk_tags.specs.declared.tiles.Chunk.{Chunk}
 use Rattle.chunk_tags.specs.Sizes.{IsChunkSize}
 use Rattle.chunk_tags.specs.Tiles.{top_of}
@@ -7,44 +7,26 @@ use Rattle.chunk_tags.specs.Tunables.{main_limit}
 use Rattle.chunk_tags.specs.declared.tiles.Tile.{Tile}
 use Rattle.chunk_tags.specs.declared.tiles.TileKind.TheVariants.{Used, Top}
 use Rattle.address_space.specs.Spaces.{main_start, piece_start}
+use Rattle.arena_rules.specs.MainPlaces.{IsMainPlaced}
 use Rattle.arena_rules.specs.PlainArena.{Plain, IsSound}
 use Rattle.arena_rules.specs.Moves.{tile_of, closed_top, cut_from_top, top_size, with_new_top, with_moved_top, with_tiles, with_top_size}
 use Rattle.arena_rules.specs.Growth.{break_taken, has_top_for, is_top_at_break, piece_taken, with_break, with_piece}
 use Rattle.arena_rules.specs.Trim.{main_cut, CanCutMain}
-use Rattle.arena_rules.proofs.MainPlaces.{break_grown, piece_grown, main_cut_moved}
+use Rattle.arena_rules.proofs.MainPlaces.{placed_along, break_grown, piece_grown, main_cut_moved}
 use Rattle.arena_rules.proofs.Moved.{Moved, nothing}
 use Rattle.arena_rules.proofs.TopMoves.{cut_moved}
-use Rattle.heap_top.specs.MainRanges.{IsMainFilled}
-use Rattle.heap_top.proofs.Filling.{filled_moved, filled_break, filled_piece, filled_cut}
 use Rattle.heap_top.proofs.TopLaws.{has_room, no_room}
 
--- main is sound and filled still, with the same bins
+-- main is sound and fills its ranges still, with the same bins
 pub record IsMainKept (a new : Plain) : Type 0 where
   pub sound : IsSound new
-  pub filled : IsMainFilled new
+  pub placed : IsMainPlaced new
   pub bins : new.bins ≡ a.bins
   pub number : new.number ≡ a.number
 
 -- all of an arena but its tiles
 abbrev but_tiles : Plain → Plain
 but_tiles a = record a { tiles = [] }
-
--- the same with other bins and another last remainder, and with the most bytes that there were
-pub filled_beside : (a : Plain) (bins : List (List Chunk)) (last : Option ℕ) (most : ℕ) → IsMainFilled a → IsMainFilled (record a { bins = bins; last = last; most = most })
-filled_beside a bins last most f = record {
-  placed = record {
-    outside = λ n out. f.placed.outside n (record { break = out.break; pieces = out.pieces });
-    start = f.placed.start;
-    limit = f.placed.limit;
-    pieces = f.placed.pieces;
-    piece_limit = f.placed.piece_limit;
-    break_page = f.placed.break_page;
-    piece_page = f.placed.piece_page;
-    system = f.placed.system;
-  };
-  filled = f.filled;
-  system = f.system;
-}
 
 -- ---- a chunk is cut off
 
@@ -65,12 +47,12 @@ cut_off a nb s chunk room =
     ] in
     cases (top_of a.tiles) refl
 
-pub cut_kept : (a : Plain) (nb : ℕ) → IsSound a → IsMainFilled a → IsChunkSize nb → IsTrue (has_top_for a nb) → IsMainKept a (cut_from_top a nb)
+pub cut_kept : (a : Plain) (nb : ℕ) → IsSound a → IsMainPlaced a → IsChunkSize nb → IsTrue (has_top_for a nb) → IsMainKept a (cut_from_top a nb)
 cut_kept a nb s f chunk room =
     let c : IsCutOff a nb = cut_off a nb s chunk room in
     record {
       sound = c.moved.sound;
-      filled = filled_moved a (cut_from_top a nb) _ c.came c.moved (ap (λ (x : Plain). record x { bins = [] }) c.same) f;
+      placed = placed_along a (cut_from_top a nb) _ c.came c.moved (ap (λ (x : Plain). record x { bins = [] }) c.same) f;
       bins = ap (λ (x : Plain). x.bins) c.same;
       number = ap (λ (x : Plain). x.number) c.same;
     }
@@ -88,14 +70,14 @@ break_same a growth =
     ] in
     cases (is_top_at_break a)
 
-pub break_kept : (a : Plain) (growth : ℕ) → IsSound a → IsMainFilled a → 0 < growth → growth % 4096 ≡ 0 → a.break_at + growth ≤ main_start + main_limit → IsMainKept a (break_taken a growth)
+pub break_kept : (a : Plain) (growth : ℕ) → IsSound a → IsMainPlaced a → 0 < growth → growth % 4096 ≡ 0 → a.break_at + growth ≤ main_start + main_limit → IsMainKept a (break_taken a growth)
 break_kept a growth s f some pages window =
     let new : Plain = break_taken a growth in
     let same : but_tiles new ≡ but_tiles (with_break a growth) = break_same a growth in
-    let grown = break_grown a growth s f.placed some pages window in
+    let grown = break_grown a growth s f some pages window in
     record {
       sound = grown.moved.sound;
-      filled = filled_break a new _ growth grown (ap (λ (x : Plain). x.break_at) same) (ap (λ (x : Plain). x.next_piece) same) (ap (λ (x : Plain). x.system) same) f;
+      placed = grown.placed;
       bins = ap (λ (x : Plain). x.bins) same;
       number = ap (λ (x : Plain). x.number) same;
     }
@@ -106,14 +88,14 @@ piece_same a len =
     let moved : (o : Option Tile) → but_tiles (elim o [ None ↦ with_new_top b a.next_piece len | Some t ↦ with_new_top (with_tiles b t.addr (closed_top t)) a.next_piece len ]) ≡ but_tiles b = elim [ None ↦ refl | Some t ↦ refl ] in
     moved (top_of a.tiles)
 
-pub piece_kept : (a : Plain) (len : ℕ) → IsSound a → IsMainFilled a → 0 < len → len % 4096 ≡ 0 → a.next_piece + len ≤ piece_start + main_limit → IsMainKept a (piece_taken a len)
+pub piece_kept : (a : Plain) (len : ℕ) → IsSound a → IsMainPlaced a → 0 < len → len % 4096 ≡ 0 → a.next_piece + len ≤ piece_start + main_limit → IsMainKept a (piece_taken a len)
 piece_kept a len s f some pages window =
     let new : Plain = piece_taken a len in
     let same : but_tiles new ≡ but_tiles (with_piece a len) = piece_same a len in
-    let grown = piece_grown a len s f.placed some pages window in
+    let grown = piece_grown a len s f some pages window in
     record {
       sound = grown.moved.sound;
-      filled = filled_piece a new _ len grown (ap (λ (x : Plain). x.break_at) same) (ap (λ (x : Plain). x.next_piece) same) (ap (λ (x : Plain). x.system) same) f;
+      placed = grown.placed;
       bins = ap (λ (x : Plain). x.bins) same;
       number = ap (λ (x : Plain). x.number) same;
     }
@@ -125,13 +107,13 @@ sized_same a size =
     let sized : (o : Option Tile) → but_tiles (elim o [ None ↦ a | Some t ↦ with_tiles a t.addr (tile_of Top t.addr size ∷ []) ]) ≡ but_tiles a = elim [ None ↦ refl | Some t ↦ refl ] in
     sized (top_of a.tiles)
 
-pub trim_kept : (a : Plain) (bytes : ℕ) → IsSound a → IsMainFilled a → CanCutMain a bytes → IsMainKept a (main_cut a bytes)
+pub trim_kept : (a : Plain) (bytes : ℕ) → IsSound a → IsMainPlaced a → CanCutMain a bytes → IsMainKept a (main_cut a bytes)
 trim_kept a bytes s f can =
     let same : but_tiles (with_top_size a (top_size a - bytes)) ≡ but_tiles a = sized_same a (top_size a - bytes) in
-    let cut = main_cut_moved a bytes s f.placed can in
+    let cut = main_cut_moved a bytes s f can in
     record {
       sound = cut.moved.sound;
-      filled = filled_cut a bytes cut (ap (λ (x : Plain). x.next_piece) same) f;
+      placed = cut.placed;
       bins = ap (λ (x : Plain). x.bins) same;
       number = ap (λ (x : Plain). x.number) same;
     }

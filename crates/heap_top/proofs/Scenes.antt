@@ -1,39 +1,27 @@
 -- Main of the tests through each call.
 use Rattle.std.proofs.Common.{◌≡◌, ℕ, ◌+◌, ◌-◌, ◌/◌, ◌%◌, ◌≤◌, [], None, refl, sym, ◌∙◌, subst, arith}
-use Rattle.std.proofs.lemmas.Bool.Decides.{nat_tests}
 use Rattle.part_words.specs.Extents.{Extent, AreOpen, extended}
 use Rattle.part_words.proofs.Opening.{AreOpen-range, AreOpen-extended, AreOpen-drop, AreOpen-take}
 use Rattle.address_space.specs.Spaces.{main_start, piece_start}
 use Rattle.chunk_image.specs.Rows.{TileRow}
 use Rattle.arena_rules.specs.PlainArena.{Plain, IsSound, empty_bins, empty_main}
 use Rattle.arena_rules.specs.Growth.{noted}
-use Rattle.arena_rules.specs.MainPlaces.{covers}
-use Rattle.arena_rules.proofs.MainPlaces.{empty_placed}
+use Rattle.arena_rules.specs.MainPlaces.{IsMainPlaced}
+use Rattle.arena_rules.proofs.MainPlaces.{empty_placed, placed_beside}
 use Rattle.arena_rules.proofs.Moved.{sound_empty, sound_as}
 use Rattle.heap_top.specs.declared.regions.Regions.{Regions}
-use Rattle.heap_top.specs.MainRanges.{IsMainFilled}
 use Rattle.heap_top.specs.Regions.{arena_of, HasTop}
 use Rattle.heap_top.specs.Scenes.{IsScene, scene_words}
-use Rattle.heap_top.proofs.MainMoves.{IsMainKept, filled_beside}
+use Rattle.heap_top.proofs.MainMoves.{IsMainKept}
 use Rattle.heap_top.proofs.TopLaws.{knows_top}
 
 -- ---- before the first growth
-
-covers_none : (n at : ℕ) → covers n at 0 ≡ 0
-covers_none n at = grind (arith, nat_tests)
-
-empty_filled : IsMainFilled empty_main
-empty_filled = record {
-  placed = empty_placed;
-  filled = λ n. omega (arith, covers_none n main_start, covers_none n piece_start);
-  system = refl;
-}
 
 pub scene_start : (r : Regions) (w : TileRow) → arena_of r [] empty_bins None ≡ empty_main → r.top ≡ None → w ≡ record { tiles = []; extent = scene_words } → IsScene r w
 scene_start r w arena top is =
     let here : IsScene r (record { tiles = []; extent = scene_words }) = record {
       sound = subst IsSound (sym arena) sound_empty;
-      filled = subst IsMainFilled (sym arena) empty_filled;
+      placed = subst IsMainPlaced (sym arena) empty_placed;
       known = record { row = tt; is = sym top };
       words = refl;
     } in
@@ -70,15 +58,15 @@ piece_part w at len is ge page le =
 
 -- ---- a call
 
-pub bare_scene : (r : Regions) (w : TileRow) → IsScene r w → IsMainFilled (arena_of r w.tiles [] None)
-bare_scene r w g = filled_beside (arena_of r w.tiles empty_bins None) [] None r.most g.filled
+pub bare_scene : (r : Regions) (w : TileRow) → IsScene r w → IsMainPlaced (arena_of r w.tiles [] None)
+bare_scene r w g = placed_beside (arena_of r w.tiles empty_bins None) [] None r.most g.placed
 
 pub scene_next : (r s : Regions) (w v : TileRow) (new : Plain) → IsScene r w → IsMainKept (arena_of r w.tiles empty_bins None) new → arena_of s v.tiles empty_bins None ≡ new → HasTop s.top v.tiles → v.extent ≡ w.extent → IsScene s v
 scene_next r s w v new g kept is top extent =
     let sound : IsSound (arena_of s v.tiles empty_bins None) = subst IsSound (sym is) kept.sound in
     record {
       sound = sound;
-      filled = subst IsMainFilled (sym is) kept.filled;
+      placed = subst IsMainPlaced (sym is) kept.placed;
       known = knows_top (arena_of s v.tiles empty_bins None) s.top sound top;
       words = extent ∙ g.words;
     }
@@ -88,7 +76,7 @@ scene_noted r s w g top is =
     let a : Plain = arena_of r w.tiles empty_bins None in
     record {
       sound = subst IsSound (sym is) (sound_as a (noted a) refl refl g.sound);
-      filled = subst IsMainFilled (sym is) (filled_beside a empty_bins None (noted a).most g.filled);
+      placed = subst IsMainPlaced (sym is) (placed_beside a empty_bins None (noted a).most g.placed);
       known = record { row = g.known.row; is = g.known.is ∙ sym top };
       words = g.words;
     }

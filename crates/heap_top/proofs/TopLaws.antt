@@ -1,17 +1,19 @@
 -- Laws of top in a row that changes, for this crate and those above it.
-use Rattle.std.proofs.Common.{◌≡◌, ℕ, ◌+◌, ◌-◌, ◌<◌, ◌≤◌, Bool, true, false, cond, IsTrue, List, [], ◌∷◌, ◌++◌, Option, Some, None, refl, sym, ap, ◌∙◌, subst, inl, inr, arith}
+use Rattle.std.proofs.Common.{◌≡◌, ℕ, ◌+◌, ◌-◌, ◌%◌, ◌^◌, ◌<◌, ◌≤◌, Bool, true, false, cond, IsTrue, List, [], ◌∷◌, ◌++◌, Option, Some, None, refl, sym, ap, ◌∙◌, subst, inl, inr, arith}
 use Rattle.std.specs.Prelude.{nat_eq, nat_lt, sum_by, drop, ◌⊎◌}
 use Rattle.std.proofs.lemmas.Bool.{cond-true, cond-false, eq-eqb, leb-true, ne_eqb}
 use Rattle.std.proofs.lemmas.List.Sums.{sum_by-cons}
-use Rattle.chunk_tags.specs.Tiles.{end_of, Row, swapped, fused, entered, tile_at, top_of}
+use Rattle.chunk_tags.specs.Tunables.{main_limit}
+use Rattle.address_space.specs.Spaces.{main_start}
+use Rattle.chunk_tags.specs.Tiles.{end_of, Row, swapped, fused, entered, tile_at, tile_behind, top_of}
 use Rattle.chunk_tags.specs.declared.tiles.Tile.{Tile}
 use Rattle.chunk_tags.specs.declared.tiles.TileKind.TheVariants.{Used, Top, Fence}
 use Rattle.chunk_tags.specs.declared.tiles.Chunk.{Chunk}
 use Rattle.part_words.specs.Extents.{Extent}
-use Rattle.chunk_image.specs.Rows.{IsRoom}
+use Rattle.chunk_image.specs.Rows.{IsRoom, IsWordSize}
 use Rattle.chunk_image.proofs.Rows.{apart}
-use Rattle.arena_rules.specs.PlainArena.{Plain, IsSound}
-use Rattle.arena_rules.specs.MainPlaces.{covers}
+use Rattle.arena_rules.specs.PlainArena.{Plain, IsSound, tiled_bytes}
+use Rattle.arena_rules.specs.MainPlaces.{covers, IsMainPlaced}
 use Rattle.arena_rules.specs.Moves.{tile_of, absorbed, closed_top, top_end, top_size, with_moved_top, with_new_top, with_tiles, with_top_size}
 use Rattle.arena_rules.specs.Growth.{has_top_for}
 use Rattle.arena_rules.proofs.Changes.{tile_is}
@@ -135,6 +137,28 @@ tile_weighs w at t (u ∷ us) e =
     cases (nat_eq u.addr at) e
 
 -- no tile begins at a byte that none has
+-- a tile and the one behind it
+pub neighbours_weigh : (w : Tile → ℕ) (at : ℕ) (t u : Tile) (ts : List Tile) → tile_at at ts ≡ Some t → tile_behind at ts ≡ Some u → w t + w u ≤ sum_by w ts
+neighbours_weigh w at t u [] found behind = absurd cc
+neighbours_weigh w at t u (x ∷ []) found behind = absurd cc
+neighbours_weigh w at t u (x ∷ y ∷ ys) found behind =
+    let one = sum_by-cons w x (y ∷ ys) in
+    let two = sum_by-cons w y ys in
+    let cases : (b : Bool) → cond b (Some x) (tile_at at (y ∷ ys)) ≡ Some t → cond b (Some y) (tile_behind at (y ∷ ys)) ≡ Some u → w t + w u ≤ sum_by w (x ∷ y ∷ ys) = elim [
+      | true ↦ λ f g. let first : x ≡ t = cc in let second : y ≡ u = cc in omega (arith, one, two, ap w first, ap w second)
+      | false ↦ λ f g. omega (arith, one, neighbours_weigh w at t u (y ∷ ys) f g)
+    ] in
+    cases (nat_eq x.addr at) found behind
+
+-- main has at most the bytes of its windows
+pub main_bytes : (a : Plain) → IsMainPlaced a → tiled_bytes a ≤ 2 ^ 31
+main_bytes a f =
+    omega (arith, f.tiled, f.system, f.limit, f.piece_limit, f.start, f.pieces)
+
+pub pair_below : (a : Plain) (t u : Tile) (at : ℕ) → IsMainPlaced a → tile_at at a.tiles ≡ Some t → tile_behind at a.tiles ≡ Some u → t.size + u.size < 2 ^ 34
+pair_below a t u at f found behind =
+    omega (arith, main_bytes a f, neighbours_weigh (λ (x : Tile). x.size) at t u a.tiles found behind)
+
 pub uncovered_none : (n : ℕ) (ts : List Tile) → Row ts → sum_by (weight_byte n) ts ≡ 0 → tile_at n ts ≡ None
 uncovered_none n ts row bare =
     let cases : (o : Option Tile) → tile_at n ts ≡ o → o ≡ None = elim [
@@ -233,3 +257,20 @@ pub moved_is : (a : Plain) (at size : ℕ) → record a { tiles = entered (tile_
 moved_is a at size =
     let cases : (o : Option Tile) → record a { tiles = entered (tile_of Top at size) (elim o [ None ↦ a.tiles | Some t ↦ swapped t.addr (closed_top t) a.tiles ]) } ≡ elim o [ None ↦ with_new_top a at size | Some t ↦ with_new_top (with_tiles a t.addr (closed_top t)) at size ] = elim [ None ↦ refl | Some t ↦ refl ] in
     cases (top_of a.tiles)
+
+-- a top that grows within main's window has a size that a word can say
+pub grown_top_fits : (a : Plain) (growth : ℕ) → IsMainPlaced a → Row a.tiles → growth % 4096 ≡ 0 → a.break_at + growth ≤ main_start + main_limit → IsWordSize (top_size a + growth)
+grown_top_fits a growth f row pages window = go (top_of a.tiles) refl
+  where
+    go : (o : Option Tile) → top_of a.tiles ≡ o → IsWordSize (top_size a + growth)
+    go None none = record {
+      whole = omega (arith, pages, no_top_size a none);
+      below = omega (arith, window, f.start, no_top_size a none);
+    }
+    go (Some t) top =
+        let found = (top_found t a.tiles row top).found in
+        let size = top_size_is a t top in
+        record {
+          whole = omega (arith, pages, size, (tile_is _ _ row found).size.1);
+          below = omega (arith, window, f.start, size, main_bytes a f, tile_weighs (λ (x : Tile). x.size) t.addr t a.tiles found);
+        }

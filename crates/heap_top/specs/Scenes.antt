@@ -4,8 +4,8 @@ use Rattle.std.specs.Prelude.{◌≡◌, ◌-◌, ◌/◌, [], ◌∷◌, None}
 use Rattle.part_words.specs.Extents.{Extent}
 use Rattle.address_space.specs.Spaces.{main_start, piece_start}
 use Rattle.chunk_image.specs.Rows.{TileRow}
+use Rattle.arena_rules.specs.MainPlaces.{IsMainPlaced}
 use Rattle.arena_rules.specs.PlainArena.{IsSound, empty_bins}
-use Rattle.heap_top.specs.MainRanges.{IsMainFilled}
 use Rattle.heap_top.specs.Regions.{arena_of, KnowsTop}
 use Rattle.heap_top.specs.declared.regions.Regions.{Regions}
 
@@ -18,6 +18,6 @@ scene_words = record {
 
 pub record IsScene (r : Regions) (w : TileRow) : Type 0 where
   pub sound : IsSound (arena_of r w.tiles empty_bins None)
-  pub filled : IsMainFilled (arena_of r w.tiles empty_bins None)
+  pub placed : IsMainPlaced (arena_of r w.tiles empty_bins None)
   pub known : KnowsTop r.top w.tiles
   pub words : w.extent ≡ scene_words

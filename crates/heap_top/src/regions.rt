@@ -7,14 +7,14 @@ ghost use Rattle.chunk_tags.specs.declared.tiles.Chunk.{Chunk as Piece};
 ghost use Rattle.chunk_tags.specs.declared.tiles.Tile.{Tile as Square};
 ghost use Rattle.chunk_tags.specs.Tunables.{main_limit};
 ghost use Rattle.address_space.specs.Spaces.{main_start, piece_start};
-ghost use Rattle.chunk_image.specs.Rows.{IsRoom};
+ghost use Rattle.chunk_image.specs.Rows.{IsRoom, IsWordSize};
 ghost use Rattle.arena_rules.specs.PlainArena.{Plain, empty_bins, empty_main};
-ghost use Rattle.arena_rules.specs.MainPlaces.{times_covered};
+ghost use Rattle.arena_rules.specs.MainPlaces.{times_covered, IsMainPlaced};
 ghost use Rattle.arena_rules.specs.Moves.{tile_of, absorbed, closed_top, cut_from_top, left_of_top, top_end, top_size, top_start, with_moved_top, with_top_size};
 ghost use Rattle.arena_rules.specs.Growth.{is_top_at_break, break_taken, break_rest, has_top_for, noted, piece_taken};
 ghost use Rattle.arena_rules.specs.Trim.{main_cut, CanCutMain};
 ghost use Rattle.heap_top.specs.Regions.{arena_of, bare_arena, closed_tiles, left_of_closed, KnowsTop, HasTop};
-ghost use Rattle.heap_top.specs.MainRanges.{IsMainFilled, IsNewRange};
+ghost use Rattle.heap_top.specs.MainRanges.{IsNewRange};
 
 use address_space::{MAIN_START, PIECE_START};
 use chunk_image::TileWords;
@@ -61,6 +61,7 @@ impl Regions {
         requires { KnowsTop self.now.top tiles.now.tiles }
         ensures top { result ≡ top_of tiles.now.tiles }
         ensures room { IfSome result (λ t. IsRoom tiles.now.extent t.addr t.size) }
+        ensures fits { IfSome result (λ t. IsWordSize t.size) }
     {
         match self.top {
             None => None,
@@ -95,6 +96,7 @@ impl Regions {
         requires row { Row tiles.old.tiles }
         requires chunk { tile_at c.at tiles.old.tiles ≡ Some (tile_of TileKind.Used c.at c.size) }
         requires top { tile_behind c.at tiles.old.tiles ≡ top_of tiles.old.tiles }
+        requires main { IsMainPlaced (bare_arena self.old tiles.old.tiles) }
         ensures size { result ≡ c.size + top_size (bare_arena self.old tiles.old.tiles) }
         ensures top { HasTop self.new.top tiles.new.tiles }
         ensures arena { (bins : List (List Piece)) (last : Option ℕ)
@@ -118,7 +120,7 @@ impl Regions {
     /// to be released of an old top (glibc's `sysmalloc` with its `brk`).
     pub fn take_break(&mut self, tiles: &mut TileWords, growth: u64) -> Option<Chunk>
         requires known { KnowsTop self.old.top tiles.old.tiles }
-        requires main { IsMainFilled (bare_arena self.old tiles.old.tiles) }
+        requires main { IsMainPlaced (bare_arena self.old tiles.old.tiles) }
         requires range { IsNewRange tiles.old.extent self.old.break_at growth
             (main_start + main_limit) }
         ensures rest { result ≡ break_rest (bare_arena self.old tiles.old.tiles) }
@@ -144,7 +146,7 @@ impl Regions {
     /// its `mmap`).
     pub fn take_piece(&mut self, tiles: &mut TileWords, len: u64) -> Option<Chunk>
         requires known { KnowsTop self.old.top tiles.old.tiles }
-        requires main { IsMainFilled (bare_arena self.old tiles.old.tiles) }
+        requires main { IsMainPlaced (bare_arena self.old tiles.old.tiles) }
         requires range { IsNewRange tiles.old.extent self.old.next_piece len
             (piece_start + main_limit) }
         ensures rest { result ≡ left_of_top (bare_arena self.old tiles.old.tiles) }
@@ -164,7 +166,7 @@ impl Regions {
     /// Takes so many bytes off the end of top and of main's break (glibc's `systrim`).
     pub fn cut_main(&mut self, tiles: &mut TileWords, bytes: u64)
         requires known { KnowsTop self.old.top tiles.old.tiles }
-        requires main { IsMainFilled (bare_arena self.old tiles.old.tiles) }
+        requires main { IsMainPlaced (bare_arena self.old tiles.old.tiles) }
         requires spare { CanCutMain (bare_arena self.old tiles.old.tiles) bytes }
         ensures top { HasTop self.new.top tiles.new.tiles }
         ensures arena { (bins : List (List Piece)) (last : Option ℕ)
@@ -210,6 +212,7 @@ impl Regions {
         requires top { 0 < top_end (bare_arena self.now tiles.old.tiles) }
         requires room { IsRoom tiles.old.extent
             (top_end (bare_arena self.now tiles.old.tiles)) growth }
+        requires fits { IsWordSize (top_size (bare_arena self.now tiles.old.tiles) + growth) }
         ensures top { HasTop self.now.top tiles.new.tiles }
         ensures arena { (a : Plain) → a.tiles ≡ tiles.old.tiles
             → record a { tiles = tiles.new.tiles } ≡ with_top_size a (top_size a + growth) }
@@ -227,6 +230,7 @@ impl Regions {
         requires free { times_covered at (bare_arena self.old tiles.old.tiles) ≡ 0 }
         requires some { 0 < size }
         requires room { IsRoom tiles.old.extent at size }
+        requires fits { IsWordSize size }
         ensures rest { result ≡ left_of_top (bare_arena self.old tiles.old.tiles) }
         ensures top { HasTop self.new.top tiles.new.tiles }
         ensures arena { (bins : List (List Piece)) (last : Option ℕ)

@@ -80,6 +80,8 @@ fn is_mapping(block: &Block) -> bool
         && block.size.0 >= 32
         && block.size.0 % 16 == 0
         && block.lead <= block.addr.0
+        && block.addr.0 % 16 == 0
+        && (block.addr.0 - block.lead) % 4096 == 0
         && block.addr.0 < 18_446_744_073_709_551_615 - block.size.0
 }
 

@@ -4,7 +4,7 @@ ghost use Rattle.std.specs.Prelude.{◌≡◌, ℕ, ◌+◌, ◌<◌, ◌≤◌,
 ghost use Rattle.chunk_tags.specs.BinOrder.{IsFalling};
 ghost use Rattle.chunk_tags.specs.Tiles.{entered, tile_at};
 ghost use Rattle.bin_links.specs.Extents.{IsOpen};
-ghost use Rattle.chunk_image.specs.Rows.{IsRoom};
+ghost use Rattle.chunk_image.specs.Rows.{IsRoom, IsWordSize};
 ghost use Rattle.bin_links.specs.Lists.{bin_count, empty_lists, list_at, times_listed};
 ghost use Rattle.large_bins.specs.SeenChunks.{size_at, chunks_by, HaveTiles};
 
@@ -21,6 +21,7 @@ const BIN: u8 = 79;
 fn stand(tiles: &mut TileWords, at: u64, size: u64)
     requires none { tile_at at tiles.old.tiles ≡ None }
     requires some { 0 < size }
+    requires fits { IsWordSize size }
     requires room { IsRoom tiles.old.extent at size }
     ensures { tiles.new ≡ record tiles.old {
       tiles = entered (record { addr = at; size = size; kind = TileKind.Used }) tiles.old.tiles;

@@ -17,7 +17,7 @@ use Rattle.malloc_calls.specs.declared.reply.Origin.TheVariants.{Cached}
 use Rattle.malloc_calls.specs.declared.own.Own.{Own}
 use Rattle.malloc_calls.specs.declared.reply.Reply.{Reply}
 use Rattle.malloc_calls.specs.Places.{PlaceWays, Setting, Standing, standing, both_of, Carries, weight_of, in_names, in_cache, in_own}
-use Rattle.malloc_calls.specs.Calls.{to_cache, past_cache, free_call, freed_block, without_name, from_arena, from_cache, malloc_call, opening, opened_in, answered, reply_of, named_as, taken_of, with_cache, FitsName}
+use Rattle.malloc_calls.specs.Calls.{to_cache, past_cache, free_call, free_of_block, without_name, from_arena, from_cache, malloc_call, opening, cache_with_structure, answer_with, reply_of, names_with, taken_of, with_cache, FitsName}
 use Rattle.malloc_calls.specs.Going as going
 use Rattle.malloc_calls.specs.Going.{Does, Pushed, here, idled, pushed, freed}
 use Rattle.malloc_calls.specs.Holding.{Takes, Gives, FreesMapped, PushesWithRoom}
@@ -34,21 +34,21 @@ opening_here s t who a cache o e = rw e (does_here cache o)
 
 pub opening_taken : {P H D K : Type 0} {s : Setting P H D K} {t : Tunables} {who : Who} {a : ℕ} {cache left : CacheValue} {o z : Standing P K}
     {place : ℕ} {block : Option Block} → is_open cache ≡ false → Takes s t who a structure_size cache o place block left z →
-    Does s t who (opening t a cache) o (opened_in t block left) z
+    Does s t who (opening t a cache) o (cache_with_structure t block left) z
 opening_taken {t = t} {a = a} {left = left} closed h =
-    rw (closed, h.found) (does_last (λ e. opened_in t (taken_of a e.ended) e.cache) h.does)
+    rw (closed, h.found) (does_last (λ e. cache_with_structure t (taken_of a e.ended) e.cache) h.does)
 
 -- ---- a chunk from an arena
 
 pub from_arena_does : {P H D K : Type 0} {s : Setting P H D K} {t : Tunables} {who : Who} {a nb : ℕ} {left : CacheValue} {o z : Standing P K}
     {place : ℕ} {block : Option Block} (name : ℕ) (own : Own) (reply : Reply) (names : List (Option Block)) →
-    Takes s t who a nb own.cache o place block left z → reply ≡ reply_of place block → names ≡ named_as name block own.names →
+    Takes s t who a nb own.cache o place block left z → reply ≡ reply_of place block → names ≡ names_with name block own.names →
     Does s t who (from_arena a name nb own) o (reply, record { cache = left; names = names }) z
 from_arena_does {a = a} {left = left} name own reply names h e n =
-    rw (e, n, h.found) (does_last (λ x. answered name x.place (taken_of a x.ended) (with_cache x.cache own)) h.does)
+    rw (e, n, h.found) (does_last (λ x. answer_with name x.place (taken_of a x.ended) (with_cache x.cache own)) h.does)
 
 in_names-named : (name : ℕ) (block : Option Block) (names : List (Option Block)) (weigh : Block → ℕ) →
-    name < length names → block_at names name ≡ None → in_names (named_as name block names) weigh ≡ weight_of block weigh + in_names names weigh
+    name < length names → block_at names name ≡ None → in_names (names_with name block names) weigh ≡ weight_of block weigh + in_names names weigh
 in_names-named name None names weigh below empty = omega arith
 in_names-named name (Some b) names weigh below empty = in_names-with name b names weigh below empty
 
@@ -56,7 +56,7 @@ in_names-named name (Some b) names weigh below empty = in_names-with name b name
 pub carries_named : {P H D K : Type 0} {s : Setting P H D K} {t : Tunables} {who : Who} {a nb : ℕ} {left : CacheValue} {o z : Standing P K}
     {place : ℕ} {block : Option Block} (name : ℕ) (own : Own) (names : List (Option Block)) → SameLaw s.ways →
     name < length own.names → block_at own.names name ≡ None →
-    Takes s t who a nb own.cache o place block left z → names ≡ named_as name block own.names →
+    Takes s t who a nb own.cache o place block left z → names ≡ names_with name block own.names →
     Carries s.ways true (in_own own) o (in_own (record { cache = left; names = names })) z
 carries_named {left = left} {block = block} name own names same below empty h e =
     carries_as same (in_own own) (in_own (record { cache = left; names = names })) (λ w. omega arith)
@@ -97,7 +97,7 @@ nothing_fits nb name names empty = λ b is. let no : None ≡ Some b = sym empty
 given_fits : (nb name : ℕ) (a : Block) (names : List (Option Block)) → need_of a.arena nb ≤ a.size → FitsName nb name (with_block name a names)
 given_fits nb name a names enough = λ b is. subst (λ (x : Block). need_of x.arena nb ≤ x.size) (given_name names name a b is) enough
 
-pub found_fits : (nb name : ℕ) (block : Option Block) (names now : List (Option Block)) → block_at names name ≡ None → now ≡ named_as name block names →
+pub found_fits : (nb name : ℕ) (block : Option Block) (names now : List (Option Block)) → block_at names name ≡ None → now ≡ names_with name block names →
     IfSome block (λ b. need_of b.arena nb ≤ b.size) → FitsName nb name now
 found_fits nb name None names now empty e enough = rw e (nothing_fits nb name names empty)
 found_fits nb name (Some a) names now empty e enough = rw e (given_fits nb name a names enough)
@@ -187,7 +187,7 @@ pub free_does : {P H D K E : Type 0} (s : Setting P H D K) (t : Tunables) (who :
     IfOk r (λ reply. Does s t who (to_cache t a b (record { cache = cache; names = names })) p (reply, after) z) →
     IfOk r (λ reply. Does s t who (free_call t 0 name own) o (reply, after) z)
 free_does s t who o p z a name b own cache names (Ok reply) after at arena named d e =
-    let P : Option ℕ → Type 0 = λ x. Does s t who (freed_block t 0 name b x own) o (reply, after) z in
+    let P : Option ℕ → Type 0 = λ x. Does s t who (free_of_block t 0 name b x own) o (reply, after) z in
     rw at (subst P (sym arena) (does_then (λ c. to_cache t a b (without_name name (with_cache c own))) d (rw named at e)))
 free_does s t who o p z a name b own cache names (Err x) after at arena named d e = tt
 
@@ -195,7 +195,7 @@ pub free_unmaps : {P H D K : Type 0} {s : Setting P H D K} {t : Tunables} (who :
     block_at own.names name ≡ Some b → b.arena ≡ None → names ≡ without_block name own.names → FreesMapped s t b o z →
     Does s t who (free_call t 0 name own) o (Freed sinks.Unmapped, record own { names = names }) z
 free_unmaps {s = s} {t = t} who {o = o} {z = z} name b own names at arena named h =
-    let P : Option ℕ → Type 0 = λ x. Does s t who (freed_block t 0 name b x own) o (Freed sinks.Unmapped, without_name name own) z in
+    let P : Option ℕ → Type 0 = λ x. Does s t who (free_of_block t 0 name b x own) o (Freed sinks.Unmapped, without_name name own) z in
     rw (at, named) (subst P (sym arena) (record { told = going.Freed h.threshold ∷ []; goes = freed h.step here }))
 
 -- what the names are where memory was short, when a block had left its name

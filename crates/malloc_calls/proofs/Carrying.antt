@@ -1,9 +1,10 @@
 -- Laws of what a step keeps: steps in a row, beside other blocks, and said of the same hands.
-use Rattle.std.proofs.Common.{◌≡◌, ℕ, ◌≤◌, Bool, true, false, refl, ◌∙◌, arith}
+use Rattle.std.proofs.Common.{◌≡◌, ℕ, ◌≤◌, Bool, true, false, refl, ap, ◌∙◌, arith}
 use Rattle.std.specs.Prelude.{Result, Ok, Err, IsErr, is_ok}
 use Rattle.chunk_tags.specs.declared.block.Block.{Block}
 use Rattle.chunk_tags.specs.declared.tunables.Tunables.{Tunables}
-use Rattle.malloc_calls.specs.Places.{PlaceWays, Standing, Hands, both_of, Carries, IsServed}
+use Rattle.address_space.specs.declared.space.Space.{Space}
+use Rattle.malloc_calls.specs.Places.{PlaceWays, Standing, Hands, both_of, as_mapped_byte, given_byte, Carries, IsServed}
 use Rattle.malloc_calls.specs.Returning.{IsUnseen}
 
 -- as often the same blocks are given out
@@ -17,13 +18,14 @@ FewerLaw {P = P} ways = (p : P) (hands some : Hands) → ((weigh : Block → ℕ
     ways.serves false p hands → ways.serves false p some
 
 pub carries_here : {P H D K : Type 0} (ways : PlaceWays P H D) (well : Bool) (hands : Hands) (o : Standing P K) → Carries ways well hands o hands o
-carries_here ways well hands o = record { serves = λ exact known others s. s; notes = λ others n. n; tunables = refl; windows = refl; there = λ a. refl }
+carries_here ways well hands o = record { serves = λ exact known others s. s; notes = λ others n. n; mapped = λ n. omega arith; tunables = refl; windows = refl; there = λ a. refl }
 
 pub carries_then : {P H D K : Type 0} {ways : PlaceWays P H D} {well : Bool} {given between got : Hands} {o p z : Standing P K} →
     Carries ways true given o between p → Carries ways well between p got z → Carries ways well given o got z
 carries_then a b = record {
   serves = λ exact known others s. b.serves exact known others (a.serves exact (λ _. refl) others s);
   notes = λ others n. b.notes others (a.notes others n);
+  mapped = λ n. omega (arith, a.mapped n, b.mapped n);
   tunables = b.tunables ∙ a.tunables;
   windows = b.windows ∙ a.windows;
   there = λ n. b.there n ∙ a.there n;
@@ -37,6 +39,7 @@ carries_as {given = given} {got = got} {o = o} {z = z} same given' got' e f c = 
       same exact z.places (both_of got others) (both_of got' others) (λ w. omega (arith, f w))
       (c.serves exact known others (same exact o.places (both_of given' others) (both_of given others) (λ w. omega (arith, e w)) s));
   notes = c.notes;
+  mapped = λ n. omega (arith, e (as_mapped_byte n), f (as_mapped_byte n), c.mapped n);
   tunables = c.tunables;
   windows = c.windows;
   there = c.there;
@@ -50,6 +53,7 @@ carries_beside {given = given} {got = got} {o = o} {z = z} same others c = recor
       (c.serves exact known (both_of others more)
       (same exact o.places (both_of (both_of given others) more) (both_of given (both_of others more)) (λ w. omega arith) s));
   notes = c.notes;
+  mapped = λ n. omega (arith, c.mapped n);
   tunables = c.tunables;
   windows = c.windows;
   there = c.there;
@@ -63,23 +67,25 @@ carries_fewer {ways = ways} {given = given} {got = got} {o = o} {z = z} fewer so
       | true ↦ λ known others s. let e : false ≡ true = known refl in absurd cc
       | false ↦ λ known others s. fewer z.places (both_of got others) (both_of some others) (λ w. omega (arith, e w)) (c.serves false known others s)
     ] in
-    record { serves = serves; notes = c.notes; tunables = c.tunables; windows = c.windows; there = c.there }
+    record { serves = serves; notes = c.notes; mapped = λ n. omega (arith, e (as_mapped_byte n), c.mapped n); tunables = c.tunables; windows = c.windows; there = c.there }
 
 pub carries_short : {P H D K : Type 0} {ways : PlaceWays P H D} {given got : Hands} {o z : Standing P K} → Carries ways true given o got z → Carries ways false given o got z
 carries_short c = record {
   serves = λ exact known others s. c.serves exact (λ _. refl) others s;
   notes = c.notes;
+  mapped = c.mapped;
   tunables = c.tunables;
   windows = c.windows;
   there = c.there;
 }
 
 -- what is unseen in the places is kept, where the space stays
-pub carries_unseen : {P H D K : Type 0} {ways : PlaceWays P H D} {given got : Hands} {o z : Standing P K} (well : Bool) → z.space ≡ o.space →
+pub carries_unseen : {P H D K : Type 0} {ways : PlaceWays P H D} {given got : Hands} {o z : Standing P K} (well : Bool) → z.space ≡ o.space → ((weigh : Block → ℕ) → got weigh ≤ given weigh) →
     IsUnseen ways o.places given got z.places → Carries ways well given o got z
-carries_unseen {ways = ways} {z = z} well same u = record {
+carries_unseen {K = K} {ways = ways} {z = z} well same fewer u = record {
   serves = λ exact known others s. u.serves exact others s;
   notes = λ others n. rw same (u.notes _ others n);
+  mapped = λ n. omega (arith, fewer (as_mapped_byte n), ap (λ (s : Space K). given_byte n s) same);
   tunables = u.tunables;
   windows = rw same refl;
   there = u.there;

@@ -1,8 +1,9 @@
 -- What a hold of an arena needs of what was lent, and what it keeps.
-use Rattle.std.proofs.Common.{◌≡◌, ℕ, ◌+◌, ◌<◌, ◌≤◌, Bool, true, false, ◌&&◌, cond, List, [], Option, Some, None, inl, inr, Result, Ok, Err, refl, sym, ap, ◌∙◌, subst, arith}
+use Rattle.std.proofs.Common.{◌≡◌, ℕ, ◌+◌, ◌-◌, ◌<◌, ◌≤◌, Bool, true, false, ◌&&◌, cond, List, [], Option, Some, None, inl, inr, Result, Ok, Err, refl, sym, ap, ◌∙◌, subst, arith}
 use Rattle.std.proofs.Math.Bool.{and-false}
 use Rattle.std.specs.Prelude.{nat_eq, IfSome, IsSome, IfOk, IfErr, OnOk, OnErr}
 use Rattle.std.proofs.lemmas.Bool.{ltb-false}
+use Rattle.std.proofs.lemmas.Bool.Decides.{nat_tests}
 use Rattle.chunk_tags.specs.BinOrder.{once, same_chunk}
 use Rattle.chunk_tags.specs.Sizes.{IsChunkSize}
 use Rattle.chunk_tags.specs.Tunables.{IsTuned}
@@ -10,16 +11,17 @@ use Rattle.chunk_tags.specs.declared.block.Block.{Block}
 use Rattle.chunk_tags.specs.declared.refusals.NoMemory.{NoMemory}
 use Rattle.chunk_tags.specs.declared.tiles.Chunk.{Chunk}
 use Rattle.chunk_tags.specs.declared.tunables.Tunables.{Tunables}
-use Rattle.address_space.specs.Spaces.{map_length}
+use Rattle.address_space.specs.Spaces.{map_length, map_start}
 use Rattle.address_space.specs.declared.space.Space.{Space}
 use Rattle.thread_cache.specs.Caches.{CacheValue, structure_of}
 use Rattle.thread_cache.specs.Held.{IsSound as IsSoundCache}
 use Rattle.arena_rules.specs.PlainArena.{Plain, IsSound, times_used}
-use Rattle.arena_rules.specs.MainPlaces.{IsPlaced}
+use Rattle.arena_rules.specs.MainPlaces.{covers, IsPlaced}
 use Rattle.arena_rules.specs.Rules.{block_of}
 use Rattle.arena_rules.specs.Moves.{tile_of}
 use Rattle.arena_rules.proofs.Bins.{once_self}
 use Rattle.arena_rules.proofs.Changes.{tile_is}
+use Rattle.arena_rules.proofs.Covered.{covers_adds}
 use Rattle.arena_rules.proofs.Counts.{used_tile}
 use Rattle.chunk_tags.specs.Tiles.{IsTile}
 use Rattle.chunk_tags.specs.declared.tiles.TileKind.TheVariants.{Used}
@@ -33,7 +35,7 @@ use Rattle.arena_core.specs.Arenas.{Held, held, Takes, Records, RecordsShort, Fa
 use Rattle.arena_core.specs.Asking.{IsReady, IsSearchable, AllowsMaps, beside_arena, found_of, chunks_found}
 use Rattle.arena_core.specs.Ledgers.{stage}
 use Rattle.arena_core.specs.Replay.{IsReplay, chunk_at}
-use Rattle.arena_core.specs.Shown.{Shown, ShowsMapped, EndsCounted, StopsCounted}
+use Rattle.arena_core.specs.Shown.{MappedShown, ShowsMapped, EndsCounted, StopsCounted, IsCounted}
 use Rattle.arena_core.specs.Journal.{Recorded}
 use Rattle.arena_core.proofs.Mapped.{IsFramed, walked_frame, walked_to_end, walked_short, rules_map_once, request_of}
 use Rattle.arena_core.specs.declared.found.Found.{Found}
@@ -43,7 +45,7 @@ use Rattle.arena_core.specs.declared.journal.Act.TheVariants as acts
 use Rattle.arena_core.specs.declared.journal.Who.{Who}
 use Rattle.arena_core.specs.declared.take.GiveShort.{GiveShort}
 use Rattle.arena_core.specs.declared.take.Take.{Take}
-use Rattle.malloc_calls.specs.Places.{KeptArena, PlaceWays, PlaceLaws, IsLent, IsServed, Carries, standing, Hands, both_of, weight_of, in_cache, as_chunk_of, as_mapped, as_mapped_bytes, Covers, unopened}
+use Rattle.malloc_calls.specs.Places.{KeptArena, PlaceWays, PlaceLaws, IsLent, IsServed, Carries, standing, Hands, both_of, weight_of, in_cache, as_chunk_of, as_mapped, as_mapped_bytes, as_mapped_byte, given_byte, Covers, new_arena}
 use Rattle.malloc_calls.specs.Names.{IsHeld}
 use Rattle.malloc_calls.specs.Returning.{IsReturn, IsUnlocked, IsAccounted, IsNoted}
 use Rattle.malloc_calls.proofs.Weights.{in_lists-nothing}
@@ -66,6 +68,9 @@ mapped_none b some = rw some refl
 
 pub bytes_none : (b : Block) → IsSome b.arena → as_mapped_bytes b ≡ 0
 bytes_none b some = rw some refl
+
+byte_none : (n : ℕ) (b : Block) → IsSome b.arena → as_mapped_byte n b ≡ 0
+byte_none n b some = rw some refl
 
 -- the chunks of an arena in a cache
 cached_is : (n : ℕ) (c : CacheValue) (e : Chunk) → in_cache c (as_chunk_of n e) ≡ times_cached n c e + weight_of (structure_of c) (as_chunk_of n e)
@@ -149,7 +154,7 @@ is_return ways fast dials words p q a port k k' t laws lent tuned left replay =
       number = left.number ∙ is.number;
       sound = left.sound;
       placed = left.placed;
-      replays = subst (λ (x : Tunables). IsReplay x (unopened a) k'.journal k'.arena) (sym tuned) (replay (unopened a) (subst (λ (x : Tunables). IsReplay x (unopened a) k.journal k.arena) tuned is.replays));
+      replays = subst (λ (x : Tunables). IsReplay x (new_arena a) k'.journal k'.arena) (sym tuned) (replay (new_arena a) (subst (λ (x : Tunables). IsReplay x (new_arena a) k.journal k.arena) tuned is.replays));
     }
 
 -- ---- the account of a hold
@@ -175,34 +180,97 @@ found_other n x e (finds.InMapping c) other = ap {B = ℕ} (λ (b : Bool). cond 
 found_other n x e finds.Nowhere other = refl
 
 -- mapped chunks: what is shown, and what was got
-found_mapped : {P K : Type 0} {shown : P → Shown} {nb : ℕ} {o z : Outside P K} {arena : Plain} (n : ℕ) (found : Found) →
+found_mapped : {P K : Type 0} {shown : P → MappedShown} {nb : ℕ} {o z : Outside P K} {arena : Plain} (n : ℕ) (found : Found) →
     EndsCounted shown nb o z (record { found = found_of found; arena = arena }) →
     (weight_of (block_found n found) as_mapped + (shown o.port).count ≡ (shown z.port).count)
     × (weight_of (block_found n found) as_mapped_bytes + (shown o.port).bytes ≡ (shown z.port).bytes)
     × ((shown z.port).count + o.space.mapped ≤ (shown o.port).count + z.space.mapped)
 found_mapped {shown = shown} n (finds.InArena c) ends =
     let same = ends.none (λ d is. absurd cc) in
-    let count = ap (λ (s : Shown). s.count) same in
-    let bytes = ap (λ (s : Shown). s.bytes) same in
+    let count = ap (λ (s : MappedShown). s.count) same in
+    let bytes = ap (λ (s : MappedShown). s.bytes) same in
     (omega (arith, count), omega (arith, bytes), omega (arith, count, bytes, ends.bytes))
 found_mapped {shown = shown} {nb = nb} n (finds.InMapping c) ends =
     let one = ends.one c refl in
-    let count = ap (λ (s : Shown). s.count) one.0 in
-    let bytes = ap (λ (s : Shown). s.bytes) one.0 in
-    (omega (arith, count), omega (arith, bytes), omega (arith, count, bytes, ends.bytes, one.1))
+    let count = ap (λ (s : MappedShown). s.count) one.shows in
+    let bytes = ap (λ (s : MappedShown). s.bytes) one.shows in
+    (omega (arith, count), omega (arith, bytes), omega (arith, count, bytes, ends.bytes, one.length))
 found_mapped {shown = shown} n finds.Nowhere ends =
     let same = ends.none (λ d is. absurd cc) in
-    let count = ap (λ (s : Shown). s.count) same in
-    let bytes = ap (λ (s : Shown). s.bytes) same in
+    let count = ap (λ (s : MappedShown). s.count) same in
+    let bytes = ap (λ (s : MappedShown). s.bytes) same in
     (omega (arith, count), omega (arith, bytes), omega (arith, count, bytes, ends.bytes))
 
+-- a hold leaves what a cache weighs, where chunks of arenas weigh nothing
+cache_same : (c d : CacheValue) (weigh : Block → ℕ) → ((b : Block) → IsSome b.arena → weigh b ≡ 0) → IfSome c IsSoundCache → IfSome d IsSoundCache → structure_of d ≡ structure_of c → in_cache d weigh ≡ in_cache c weigh
+cache_same c d weigh none sound left same =
+    omega (arith, in_lists-nothing c weigh sound none, in_lists-nothing d weigh left none, ap (λ (o : Option Block). weight_of o weigh) same)
+
 cache_mapped : (c d : CacheValue) → IfSome c IsSoundCache → IfSome d IsSoundCache → structure_of d ≡ structure_of c → in_cache d as_mapped ≡ in_cache c as_mapped
-cache_mapped c d sound left same =
-    omega (arith, in_lists-nothing c as_mapped sound mapped_none, in_lists-nothing d as_mapped left mapped_none, ap (λ (o : Option Block). weight_of o as_mapped) same)
+cache_mapped c d sound left same = cache_same c d as_mapped mapped_none sound left same
 
 cache_mapped_bytes : (c d : CacheValue) → IfSome c IsSoundCache → IfSome d IsSoundCache → structure_of d ≡ structure_of c → in_cache d as_mapped_bytes ≡ in_cache c as_mapped_bytes
-cache_mapped_bytes c d sound left same =
-    omega (arith, in_lists-nothing c as_mapped_bytes sound bytes_none, in_lists-nothing d as_mapped_bytes left bytes_none, ap (λ (o : Option Block). weight_of o as_mapped_bytes) same)
+cache_mapped_bytes c d sound left same = cache_same c d as_mapped_bytes bytes_none sound left same
+
+-- ---- the bytes of mapped chunks
+
+-- a window is only given further
+window_grows : {K : Type 0} (old new : Space K) (n : ℕ) → new.thread ≡ old.thread → old.mapped ≤ new.mapped → given_byte n old ≤ given_byte n new
+window_grows old new n thread le =
+    let start : ℕ = map_start old.thread in
+    let whole : old.mapped + (new.mapped - old.mapped) ≡ new.mapped = omega (arith, le) in
+    omega (
+      arith,
+      (covers_adds n).adds start old.mapped (new.mapped - old.mapped),
+      ap (covers n start) whole,
+      ap (λ t. covers n (map_start t) new.mapped) thread,
+    )
+
+-- a hold leaves no less of it
+pub framed_window : {P K : Type 0} (m : Means P K) (o z : Outside P K) (n : ℕ) → IsFramed m o z → given_byte n o.space ≤ given_byte n z.space
+framed_window m o z n f = window_grows o.space z.space n f.thread f.mapped
+
+block_byte : (n : ℕ) (c : Chunk) → 0 < c.size → as_mapped_byte n (mapped_block c) ≡ covers n c.at c.size
+block_byte n c some = grind (arith, nat_tests)
+
+-- what was found has the bytes that the window gave
+found_byte : {P K : Type 0} {shown : P → MappedShown} {nb : ℕ} {arena : Plain} (m : Means P K) (o z : Outside P K) (number n : ℕ) (found : Found) → IsFramed m o z →
+    EndsCounted shown nb o z (record { found = found_of found; arena = arena }) →
+    weight_of (block_found number found) (as_mapped_byte n) + given_byte n o.space ≤ given_byte n z.space
+found_byte m o z number n (finds.InArena c) f ends = omega (arith, framed_window m o z n f)
+found_byte m o z number n finds.Nowhere f ends = omega (arith, framed_window m o z n f)
+found_byte {shown = shown} {nb = nb} m o z number n (finds.InMapping c) f ends =
+    let one : IsCounted shown nb o z c = ends.one c refl in
+    let start : ℕ = map_start o.space.thread in
+    let thread : map_start z.space.thread ≡ start = ap map_start f.thread in
+    let length : o.space.mapped + c.size ≡ z.space.mapped = omega (arith, one.place, one.behind, thread) in
+    omega (
+      arith,
+      block_byte n c (omega (arith, one.length)),
+      ap (λ at. covers n at c.size) one.place,
+      (covers_adds n).adds start o.space.mapped c.size,
+      ap (covers n start) length,
+      ap (λ at. covers n at z.space.mapped) thread,
+    )
+
+-- the thread's blocks after a search have no bytes in mapped chunks but those
+pub mapped_taken : {P H D K : Type 0} (ways : PlaceWays P H D) (m : Means H K) {t : Tunables} {who : Who} {nb : ℕ} {k k' : KeptArena} {port left : H} {cache now : CacheValue} {space later : Space K}
+    (found : Found) (n : ℕ) → ShowsMapped m.fast m.dials ways.shown → IfSome cache IsSoundCache → IfSome now IsSoundCache →
+    Records m t who (acts.Take nb) (held k.arena port cache space k.journal) no_chunk found (held k'.arena left now later k'.journal) →
+    both_of (weight_of (block_found k.arena.number found)) (in_cache now) (as_mapped_byte n) + given_byte n space ≤ in_cache cache (as_mapped_byte n) + given_byte n later
+mapped_taken ways m {t = t} {nb = nb} {k = k} {k' = k'} {port = port} {left = left} {cache = cache} {now = now} {space = space} {later = later} found n shows sound well r =
+    let o : Outside _ _ = beside_arena port cache space in
+    let z : Outside _ _ = beside_arena left now later in
+    let frame : IsFramed m o z = walked_frame {m = m} r.walks.walks in
+    let ends : EndsCounted ways.shown nb o z (record { found = found_of found; arena = k'.arena }) =
+    walked_to_end m k.arena.number ways.shown shows nb (rules_map_once t (acts.Take nb) k.arena) r.walks.walks in
+    omega (arith, found_byte m o z k.arena.number n found frame ends, cache_same cache now (as_mapped_byte n) (byte_none n) sound well frame.structure)
+
+-- those of one that memory was too short for have none but what they had
+pub mapped_short : {H K : Type 0} (m : Means H K) (n : ℕ) (cache now : CacheValue) (port left : H) (space later : Space K) → IfSome cache IsSoundCache → IfSome now IsSoundCache → IsFramed m (beside_arena port cache space) (beside_arena left now later) →
+    in_cache now (as_mapped_byte n) + given_byte n space ≤ in_cache cache (as_mapped_byte n) + given_byte n later
+mapped_short m n cache now port left space later sound well frame =
+    omega (arith, framed_window m (beside_arena port cache space) (beside_arena left now later) n frame, cache_same cache now (as_mapped_byte n) (byte_none n) sound well frame.structure)
 
 -- a search that went well
 pub account_taken : {P H D K : Type 0} (ways : PlaceWays P H D) (m : Means H K) {t : Tunables} {who : Who} {nb : ℕ} {k k' : KeptArena} {port left : H} {cache now : CacheValue} {space later : Space K}
@@ -262,8 +330,8 @@ account_short ways m {t = t} {nb = nb} {k = k} {port = port} {left = left} {cach
     record {
       chunks = λ e. omega (arith, b.kept e, cached_is n cache e, cached_is n now e, ap (λ (o : Option Block). weight_of o (as_chunk_of n e)) frame.structure);
       others = λ x e other. omega (arith, b.others x other e, cached_is x cache e, cached_is x now e, ap (λ (o : Option Block). weight_of o (as_chunk_of x e)) frame.structure);
-      count = omega (arith, ap (λ (s : Shown). s.count) stops.same, cache_mapped cache now sound well frame.structure);
-      bytes = omega (arith, ap (λ (s : Shown). s.bytes) stops.same, cache_mapped_bytes cache now sound well frame.structure);
+      count = omega (arith, ap (λ (s : MappedShown). s.count) stops.same, cache_mapped cache now sound well frame.structure);
+      bytes = omega (arith, ap (λ (s : MappedShown). s.bytes) stops.same, cache_mapped_bytes cache now sound well frame.structure);
     }
 
 pub noted_short : {P H D K : Type 0} (ways : PlaceWays P H D) (m : Means H K) {t : Tunables} {who : Who} {act : Act} {before after : Held H K} {given : Chunks} →
@@ -273,7 +341,7 @@ noted_short ways m {t = t} {act = act} {before = before} {after = after} shows r
     let stops : StopsCounted ways.shown before.outside after.outside =
     walked_short m before.arena.number ways.shown shows (request_of act) (rules_map_once t act before.arena) r.stops.reaches.walks in
     let frame : IsFramed m before.outside after.outside = walked_frame {m = m} r.stops.reaches.walks in
-    record { count = omega (arith, ap (λ (s : Shown). s.count) stops.same, frame.mapped); bytes = omega (arith, ap (λ (s : Shown). s.bytes) stops.same, frame.mapped) }
+    record { count = omega (arith, ap (λ (s : MappedShown). s.count) stops.same, frame.mapped); bytes = omega (arith, ap (λ (s : MappedShown). s.bytes) stops.same, frame.mapped) }
 
 -- a chunk that is given back
 pub account_given : {P H D K : Type 0} (ways : PlaceWays P H D) (m : Means H K) {t : Tunables} {who : Who} {k k' : KeptArena} {port left : H} {space later : Space K} (b : Block) →
@@ -288,8 +356,8 @@ account_given ways m {t = t} {k = k} {k' = k'} {port = port} {left = left} {spac
     record {
       chunks = λ e. covers_any exact _ _ (omega (arith, r.balances.kept e, chunk_is n e b arena));
       others = λ x e other. covers_any exact _ _ (omega (arith, chunk_other n x e b arena other));
-      count = covers_any exact _ _ (omega (arith, ap (λ (s : Shown). s.count) same, mapped_none b (rw arena refl)));
-      bytes = covers_any exact _ _ (omega (arith, ap (λ (s : Shown). s.bytes) same, bytes_none b (rw arena refl)));
+      count = covers_any exact _ _ (omega (arith, ap (λ (s : MappedShown). s.count) same, mapped_none b (rw arena refl)));
+      bytes = covers_any exact _ _ (omega (arith, ap (λ (s : MappedShown). s.bytes) same, bytes_none b (rw arena refl)));
     }
 
 pub noted_given : {P H D K : Type 0} (ways : PlaceWays P H D) (m : Means H K) {t : Tunables} {who : Who} {at size : ℕ} {before : Held H K} {given : Chunks} {arena : Plain} {left : H} {now : CacheValue} {later : Space K} {journal : List Recorded} →
@@ -299,7 +367,7 @@ noted_given ways m {t = t} {at = at} {size = size} {before = before} {arena = ar
     let ends : EndsCounted ways.shown 0 before.outside (beside_arena left now later) (record { found = growth.Nowhere; arena = arena }) =
     walked_to_end m before.arena.number ways.shown shows 0 (rules_map_once t (acts.Give at size) before.arena) r.walks.walks in
     let frame : IsFramed m before.outside (beside_arena left now later) = walked_frame {m = m} r.walks.walks in
-    record { count = omega (arith, ap (λ (s : Shown). s.count) (ends.none (λ d is. absurd cc)), frame.mapped); bytes = ends.bytes }
+    record { count = omega (arith, ap (λ (s : MappedShown). s.count) (ends.none (λ d is. absurd cc)), frame.mapped); bytes = ends.bytes }
 
 pub account_given_short : {P H D K : Type 0} (ways : PlaceWays P H D) (m : Means H K) {t : Tunables} {who : Who} {k k' : KeptArena} {port left : H} {space later : Space K} (b : Block) →
     ShowsMapped m.fast m.dials ways.shown → b.arena ≡ Some k.arena.number →
@@ -312,8 +380,8 @@ account_given_short ways m {t = t} {k = k} {port = port} {left = left} {space = 
     record {
       chunks = λ e. omega (arith, r.loses.kept e, chunk_is n e b arena);
       others = λ x e other. omega arith;
-      count = omega (arith, ap (λ (s : Shown). s.count) stops.same);
-      bytes = omega (arith, ap (λ (s : Shown). s.bytes) stops.same);
+      count = omega (arith, ap (λ (s : MappedShown). s.count) stops.same);
+      bytes = omega (arith, ap (λ (s : MappedShown). s.bytes) stops.same);
     }
 
 -- nothing changed
@@ -330,11 +398,12 @@ account_none ways fast a hands some port k fewer = record {
 
 pub carries_held : {P H D K : Type 0} {ways : PlaceWays P H D} {fast : Fast H} {places new : P} {a : ℕ} {port left : H} {before after : KeptArena} (well : Bool) (given got : Hands) (space later : Space K) →
     IsUnlocked ways fast places a port before left after new → ((exact : Bool) → (exact ≡ true → well ≡ true) → IsAccounted ways fast a exact given port before got left after) →
-    IsNoted ways port left space.mapped later.mapped → later.windows ≡ space.windows →
+    IsNoted ways port left space.mapped later.mapped → ((n : ℕ) → got (as_mapped_byte n) + given_byte n space ≤ given (as_mapped_byte n) + given_byte n later) → later.windows ≡ space.windows →
     Carries ways well given (standing places space) got (standing new later)
-carries_held well given got space later u account noted windows = record {
+carries_held well given got space later u account noted mapped windows = record {
   serves = λ exact known others s. u.serves exact given got others (account exact known) s;
   notes = λ others n. u.notes space.mapped later.mapped others noted n;
+  mapped = mapped;
   tunables = u.tunables;
   windows = windows;
   there = u.there;
@@ -347,7 +416,7 @@ only_least A least false known = least
 
 -- ---- the block that was found
 
-pub held_found : {H K : Type 0} {m : Means H K} {t : Tunables} {who : Who} {nb : ℕ} {k k' : KeptArena} {port left : H} {cache now : CacheValue} {space later : Space K} (shown : H → Shown) (found : Found) →
+pub held_found : {H K : Type 0} {m : Means H K} {t : Tunables} {who : Who} {nb : ℕ} {k k' : KeptArena} {port left : H} {cache now : CacheValue} {space later : Space K} (shown : H → MappedShown) (found : Found) →
     ShowsMapped m.fast m.dials shown → (fits : (e : Chunk) → m.fast.stock port e + in_cache cache (as_chunk_of k.arena.number e) ≤ times_used e k.arena) →
     Records m t who (acts.Take nb) (held k.arena port cache space k.journal) no_chunk found (held k'.arena left now later k'.journal) → IfSome (block_found k.arena.number found) IsHeld
 held_found {k = k} {k' = k'} {cache = cache} shown (finds.InArena c) shows fits r =
@@ -358,6 +427,9 @@ held_found {m = m} {t = t} {nb = nb} {k = k} {k' = k'} {port = port} {left = lef
     let ends : EndsCounted shown nb (beside_arena port cache space) (beside_arena left now later) (record { found = growth.InMapping c; arena = k'.arena }) =
     walked_to_end m k.arena.number shown shows nb (rules_map_once t (acts.Take nb) k.arena) r.walks.walks in
     let one = ends.one c refl in
-    let size : IsChunkSize c.size = (omega (arith, one.1), omega (arith, one.1)) in
-    record { chunk = size; mapped = λ e. record { arena = refl; size = size; lead = omega arith; fits = omega (arith, one.2) } }
+    let size : IsChunkSize c.size = (omega (arith, one.length), omega (arith, one.length)) in
+    record {
+      chunk = size;
+      mapped = λ e. record { arena = refl; size = size; lead = omega arith; place = omega (arith, one.page); page = omega (arith, one.page); fits = omega (arith, one.limit) };
+    }
 held_found shown finds.Nowhere shows fits r = tt

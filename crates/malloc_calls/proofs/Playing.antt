@@ -22,11 +22,11 @@ use Rattle.arena_rules.specs.Rules.{Rules, Stop, Need, Flagged, Pops, Owns, Room
 use Rattle.arena_rules.specs.Walks as walks
 use Rattle.arena_rules.specs.Walks.{Walks}
 use Rattle.consolidate_trim.specs.Outside.{Outside, Goes, Does, ways}
-use Rattle.malloc_calls.specs.Playing.{HoldWorld, PlainPort, plain_means, world_of, word_of, answer_of, world_told, world_done, PlayedHold, told_first, played_hold}
+use Rattle.malloc_calls.specs.Playing.{HoldWorld, PlainPort, plain_means, world_of, word_of, world_answer, world_told, world_done, PlayedHold, told_first, played_hold}
 
 -- the world gave this answer, and is what it is then
 pub record Answered {K : Type 0} (port : Port K) (o : Outside PlainPort K) (n : Need) (s : Said) (p : Outside PlainPort K) : Type 0 where
-  pub said : s ≡ answer_of port n (world_of o)
+  pub said : s ≡ world_answer port n (world_of o)
   pub world : world_of p ≡ world_told port n (world_of o)
   pub tells : IsTrue (space_tells port p.space)
 

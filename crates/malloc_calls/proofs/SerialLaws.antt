@@ -19,7 +19,7 @@ use Rattle.arena_rules.proofs.MainPlaces.{empty_placed}
 use Rattle.arena_ground.specs.Grounds.{GroundView}
 use Rattle.arena_core.specs.Journal.{Recorded}
 use Rattle.chunk_tags.specs.declared.tunables.Tunables.{Tunables}
-use Rattle.malloc_calls.specs.Places.{KeptArena, kept, Hands, both_of, as_chunk_of, as_mapped, as_mapped_bytes, Covers}
+use Rattle.malloc_calls.specs.Places.{KeptArena, with_journal, Hands, both_of, as_chunk_of, as_mapped, as_mapped_bytes, Covers}
 use Rattle.malloc_calls.specs.Returning.{IsUnlocked, AreReturned, IsUnseen, maps_in, unmaps_in}
 use Rattle.malloc_calls.specs.Joined.{joined_fast}
 use Rattle.malloc_calls.specs.Playing.{PlainPort}
@@ -256,11 +256,11 @@ room_at st b port bin at arena room below =
 
 -- ---- the beginning and the end
 
-main_kept : (t : Tunables) (k : KeptArena) → k ≡ kept empty_main [] → IsKeptMain t k
+main_kept : (t : Tunables) (k : KeptArena) → k ≡ with_journal empty_main [] → IsKeptMain t k
 main_kept t k e = subst (IsKeptMain t) (sym e) (record { number = refl; sound = sound_empty; placed = λ _. empty_placed; replays = record { gives = refl } })
 
-pub first_kept : (t : Tunables) (g : GroundView) (journal : List Recorded) → g.arena ≡ empty_main → journal ≡ [] → IsKeptMain t (kept g.arena journal)
-first_kept t g journal e f = main_kept t (kept g.arena journal) (ap (λ (a : Plain). kept a journal) e ∙ ap (λ (js : List Recorded). kept empty_main js) f)
+pub first_kept : (t : Tunables) (g : GroundView) (journal : List Recorded) → g.arena ≡ empty_main → journal ≡ [] → IsKeptMain t (with_journal g.arena journal)
+first_kept t g journal e f = main_kept t (with_journal g.arena journal) (ap (λ (a : Plain). with_journal a journal) e ∙ ap (λ (js : List Recorded). with_journal empty_main js) f)
 
 pub ends_as : (st : SerialState) (k : KeptArena) → st.main ≡ Some k → IsSerial st → IsKeptMain st.tunables k
 ends_as st k e is = let P : Option KeptArena → Type 0 = λ o. IfSome o (IsKeptMain st.tunables) in let kept : P (Some k) = subst P e is.main in kept
@@ -275,7 +275,7 @@ first_serves t st exact f =
     let mapped : f.port.dials.state.mapped ≡ 0 = ap (λ (d : DialState). d.mapped) f.dials in
     let bytes : f.port.dials.state.bytes ≡ 0 = ap (λ (d : DialState). d.bytes) f.dials in
     record {
-      main = kept empty_main [];
+      main = with_journal empty_main [];
       port = f.port;
       main_at = f.main;
       port_at = f.port_at;

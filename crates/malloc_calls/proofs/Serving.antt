@@ -24,7 +24,7 @@ use Rattle.arena_core.specs.Journal.{Recorded}
 use Rattle.arena_core.specs.Replay.{rules_of, ended_of}
 use Rattle.arena_rules.specs.Growth.{Took}
 use Rattle.malloc_calls.specs.Playing.{PlainPort, PlayedHold, played_hold}
-use Rattle.malloc_calls.specs.Places.{KeptArena, kept, Standing}
+use Rattle.malloc_calls.specs.Places.{KeptArena, with_journal, Standing}
 use Rattle.malloc_calls.specs.Calls.{Call, Done, Holds}
 use Rattle.malloc_calls.specs.Going as going
 use Rattle.malloc_calls.specs.Going.{Told}
@@ -87,7 +87,7 @@ plays_call {K = K} view kernel {t = t} {who = who} {c = c} {o = o} {z = z} x mai
     record { main = r.main; port = r.port; at = r.at; played = ap (played_call kernel t who c) (sym w) ∙ r.played }
 plays_call {K = K} {A = A} view kernel {t = t} {who = who} {o = o} {z = z} x main port e at
     (going.held {a = a} {act = act} {cache = cache} {left = left} {next = next} {p = p} {place = place} {before = before} {entry = entry} h rest) =
-    let main' : KeptArena = kept h.took.arena (h.journal ++ entry ∷ []) in
+    let main' : KeptArena = with_journal h.took.arena (h.journal ++ entry ∷ []) in
     let here : IsAt view kernel p main' h.last_hold = record {
       main_at = ap (λ v. v.main) h.gave;
       port_at = ap (λ v. v.port) h.gave;
@@ -96,27 +96,27 @@ plays_call {K = K} {A = A} view kernel {t = t} {who = who} {o = o} {z = z} x mai
     let r : PlaysTo view kernel t who (next place entry.ended left) (world_at main' h.last_hold p.space) x z =
     plays_call view kernel x main' h.last_hold e here rest in
     let S : ℕ → Ended → Recorded → Type 0 = λ n d en.
-    played_call kernel t who (next n d left) (world_at (kept h.took.arena (h.journal ++ en ∷ [])) h.last_hold p.space)
+    played_call kernel t who (next n d left) (world_at (with_journal h.took.arena (h.journal ++ en ∷ [])) h.last_hold p.space)
     ≡ Some (x, world_at r.main r.port z.space) in
     let ended : Ended = ended_of act h.took.found in
     let F : PlayedHold K Took → _ = λ k. played_call kernel t who
     (next (length h.journal) (ended_of act k.result.found) k.world.cache)
-    (world_held who act (world_at (kept before h.journal) h.hold o.space) k) in
+    (world_held who act (world_at (with_journal before h.journal) h.hold o.space) k) in
     let holds : Option (A × SerialWorld K) = option_and_then F
-    (played_hold kernel before.number (rules_of t act before) (hold_world (world_at (kept before h.journal) h.hold o.space) cache)) in
+    (played_hold kernel before.number (rules_of t act before) (hold_world (world_at (with_journal before h.journal) h.hold o.space) cache)) in
     let in_main : holds ≡ Some (x, world_at r.main r.port z.space) =
     ap (option_and_then F) (plays kernel before.number h.took refl at.tells h.walk)
     ∙ subst (S (length h.journal) ended) (entry_same entry who act ended h.whose h.acts h.ended)
     (subst (λ d. S (length h.journal) d entry) h.ended (subst (λ n. S n entry.ended entry) (sym h.at) r.played)) in
-    let canonical : played_call kernel t who (Holds a act cache next) (world_at (kept before h.journal) h.hold o.space) ≡ Some (x, world_at r.main r.port z.space) =
+    let canonical : played_call kernel t who (Holds a act cache next) (world_at (with_journal before h.journal) h.hold o.space) ≡ Some (x, world_at r.main r.port z.space) =
     subst (λ (v : Bool). cond v holds None ≡ Some (x, world_at r.main r.port z.space)) (sym (ap (λ n. nat_eq n 0) h.lent.number)) in_main in
     let Q : KeptArena → PlainPort → Type 0 = λ m k. played_call kernel t who (Holds a act cache next) (world_at m k o.space) ≡ Some (x, world_at r.main r.port z.space) in
     record {
       main = r.main;
       port = r.port;
       at = r.at;
-      played = subst (λ m. Q m port) (some_same (kept before h.journal) main h.lent.main at.main_at)
-          (subst (Q (kept before h.journal)) (some_same h.hold port h.lent.port_at at.port_at) canonical);
+      played = subst (λ m. Q m port) (some_same (with_journal before h.journal) main h.lent.main at.main_at)
+          (subst (Q (with_journal before h.journal)) (some_same h.hold port h.lent.port_at at.port_at) canonical);
     }
 plays_call {K = K} view kernel {t = t} {who = who} {o = o} {z = z} x main port e at (going.pushed {b = b} {c = c} {p = p} h a) =
     let u = h.pushed in

@@ -34,9 +34,9 @@ use Rattle.malloc_calls.specs.Calls.{hold_end, taken_of}
 use Rattle.malloc_calls.specs.Going as going
 use Rattle.malloc_calls.specs.Going.{Does, HoldStep, Held as HeldTold, here}
 use Rattle.malloc_calls.specs.Holding.{Takes, Gives, block_in}
-use Rattle.malloc_calls.specs.Places.{KeptArena, kept, PlaceLaws, IsLent, IsServed, Carries, Setting, Standing, standing, Hands, both_of, weight_of, in_cache, as_chunk_of}
+use Rattle.malloc_calls.specs.Places.{KeptArena, with_journal, PlaceLaws, IsLent, IsServed, Carries, Setting, Standing, standing, Hands, both_of, weight_of, in_cache, as_chunk_of, as_mapped_byte}
 use Rattle.malloc_calls.specs.Returning.{IsUnlocked, IsAccounted}
-use Rattle.malloc_calls.proofs.Holds.{block_found, held_found, account_taken, noted_taken, account_short, noted_short, account_given, noted_given, account_given_short, account_none, carries_held, only_least}
+use Rattle.malloc_calls.proofs.Holds.{block_found, held_found, account_taken, noted_taken, account_short, noted_short, account_given, noted_given, account_given_short, account_none, framed_window, mapped_taken, mapped_short, carries_held, only_least}
 
 found_block : (nb a n : ℕ) (found : Found) → n ≡ a → block_found n found ≡ taken_of a (ended_of (acts.Take nb) (found_of found))
 found_block nb a n (finds.InArena c) e = ap (λ x. block_found x (finds.InArena c)) e
@@ -51,7 +51,7 @@ taken_block n finds.Nowhere = refl
 does_hold : {P H D K : Type 0} (s : Setting P H D K) {t : Tunables} {who : Who} {a : ℕ} {act : Act} {cache now : CacheValue} {o : Standing P K} {q r : P} {port left : H} {later : Space K}
     (k k' : KeptArena) (found : Found) (given : Chunks) → s.ways.lent o.places a port (Some k) q → s.ways.gave q left k' r →
     Records s.means t who act (held k.arena port cache o.space k.journal) given found (held k'.arena left now later k'.journal) →
-    Does s t who (calls.held a act cache) o (hold_end (length k.journal) (ended_of act (found_of found)) now) (standing r later)
+    Does s t who (calls.hold_of a act cache) o (hold_end (length k.journal) (ended_of act (found_of found)) now) (standing r later)
 does_hold s {t = t} {who = who} {a = a} {act = act} {cache = cache} {now = now} {o = o} {q = q} {r = r} {port = port} {left = left} {later = later} k k' found given lent gave rs =
     let entry : Recorded = recorded who act rs.said (ended_of act (found_of found)) in
     record {
@@ -68,7 +68,7 @@ does_hold s {t = t} {who = who} {a = a} {act = act} {cache = cache} {now = now} 
         acts = refl;
         walk = subst (λ (ss : List Said). Walks t (ways s.means k.arena.number) (rules_of t act k.arena) (beside_arena port cache o.space) ss (Stop (record { found = found_of found; arena = k'.arena })) (beside_arena left now later)) (sym rs.walks.added) rs.walks.walks;
         ended = refl;
-        gave = subst (λ (js : List Recorded). s.ways.gave q left (kept k'.arena js) r) rs.added gave;
+        gave = subst (λ (js : List Recorded). s.ways.gave q left (with_journal k'.arena js) r) rs.added gave;
       }) here;
     }
 
@@ -109,7 +109,8 @@ takes_held s words {t = t} {a = a} {nb = nb} {cache = cache} {now = now} {o = o}
       later = reached_refusals {m = s.means} h.records.walks;
       opens = open_same cache now frame.structure;
       carries = rw block (carries_held true (in_cache cache) (both_of (weight_of (block_found n h.found)) (in_cache now)) o.space later unlocked'
-          (λ exact known. account_taken s.ways s.means h.found laws.shows sound well h.records exact) (noted_taken s.ways s.means h.found laws.shows h.records) frame.windows);
+          (λ exact known. account_taken s.ways s.means h.found laws.shows sound well h.records exact) (noted_taken s.ways s.means h.found laws.shows h.records)
+          (λ n. mapped_taken s.ways s.means h.found n laws.shows sound well h.records) frame.windows);
     }
 
 -- where there was no memory for the entry nothing changed
@@ -119,10 +120,10 @@ carries_none : {P H D K : Type 0} (s : Setting P H D K) {a : ℕ} {places r : P}
 carries_none {H = H} {K = K} s {a = a} {places = places} {r = r} {port = port} {left = left} {space = space} {later = later} k k' cache now given got unlocked same fewer =
     let port_same : left ≡ port = ap (λ (x : Held H K). x.outside.port) same in
     let space_same : later ≡ space = ap (λ (x : Held H K). x.outside.space) same in
-    let kept_same : k' ≡ k = ap (λ (x : Held H K). kept x.arena x.journal) same in
+    let kept_same : k' ≡ k = ap (λ (x : Held H K). with_journal x.arena x.journal) same in
     let Q : H → KeptArena → Type 0 = λ x y. IsUnlocked s.ways s.means.fast places a port k x y r in
     let u : IsUnlocked s.ways s.means.fast places a port k port k r = subst (λ (x : H). Q x k) port_same (subst (Q left) kept_same unlocked) in
-    rw space_same (carries_held false given got space space u (only_least (λ x. IsAccounted s.ways s.means.fast a x given port k got port k) (account_none s.ways s.means.fast a given got port k fewer)) (record { count = omega arith; bytes = omega arith }) refl)
+    rw space_same (carries_held false given got space space u (only_least (λ x. IsAccounted s.ways s.means.fast a x given port k got port k) (account_none s.ways s.means.fast a given got port k fewer)) (record { count = omega arith; bytes = omega arith }) (λ n. omega (arith, fewer (as_mapped_byte n))) refl)
 
 pub takes_short : {P H D K : Type 0} (s : Setting P H D K) (words : Dialled D) {t : Tunables} {who : Who} {a nb : ℕ} {cache now : CacheValue} {o : Standing P K} {q r : P} {port left : H} {later : Space K}
     (k k' : KeptArena) → PlaceLaws s.ways s.means.fast s.means.dials words → IfSome cache IsSoundCache → IfSome now IsSoundCache → s.ways.lent o.places a port (Some k) q →
@@ -138,7 +139,8 @@ takes_short {H = H} {K = K} s words {t = t} {who = who} {a = a} {nb = nb} {cache
       | inr rs ↦
           let frame : IsFramed s.means (beside_arena port cache o.space) (beside_arena left now later) = walked_frame {m = s.means} rs.stops.reaches.walks in
           carries_held false (in_cache cache) (in_cache now) o.space later unlocked'
-          (only_least (λ x. IsAccounted s.ways s.means.fast n x (in_cache cache) port k (in_cache now) left k') (account_short s.ways s.means laws.shows sound well rs)) (noted_short s.ways s.means laws.shows rs) frame.windows
+          (only_least (λ x. IsAccounted s.ways s.means.fast n x (in_cache cache) port k (in_cache now) left k') (account_short s.ways s.means laws.shows sound well rs)) (noted_short s.ways s.means laws.shows rs)
+          (λ n. mapped_short s.means n cache now port left o.space later sound well frame) frame.windows
     ]
 
 pub gives_held : {P H D K : Type 0} (s : Setting P H D K) (words : Dialled D) {t : Tunables} {who : Who} {a : ℕ} {o : Standing P K} {q r : P} {port left : H} {later : Space K}
@@ -156,7 +158,8 @@ gives_held s words {t = t} {a = a} {o = o} {q = q} {r = r} {port = port} {left =
       ended = ended_of (acts.Give b.addr b.size) (found_of finds.Nowhere);
       does = does_hold s k k' finds.Nowhere (one_chunk (chunk_at b.addr b.size)) lent gave (records cache);
       carries = carries_held true (λ weigh. weigh b) (λ weigh. 0) o.space later unlocked'
-          (λ exact known. account_given s.ways s.means b laws.shows own (records None) exact) (noted_given s.ways s.means laws.shows (records None)) frame.windows;
+          (λ exact known. account_given s.ways s.means b laws.shows own (records None) exact) (noted_given s.ways s.means laws.shows (records None))
+          (λ n. omega (arith, framed_window s.means (beside_arena port None o.space) (beside_arena left None later) n frame)) frame.windows;
     }
 
 pub gives_short : {P H D K : Type 0} (s : Setting P H D K) (words : Dialled D) (t : Tunables) (who : Who) {a : ℕ} {o : Standing P K} {q r : P} {port left : H} {later : Space K}
@@ -172,4 +175,5 @@ gives_short s words t who {a = a} {o = o} {q = q} {r = r} {port = port} {left = 
     let unlocked' : IsUnlocked s.ways s.means.fast o.places n port k left k' r = subst (λ (x : ℕ). IsUnlocked s.ways s.means.fast o.places x port k left k' r) (sym is.number) unlocked in
     let frame : IsFramed s.means (beside_arena port None o.space) (beside_arena left None later) = walked_frame {m = s.means} h.stops.reaches.walks in
     carries_held false (λ weigh. weigh b) (λ weigh. 0) o.space later unlocked'
-    (only_least (λ x. IsAccounted s.ways s.means.fast n x (λ weigh. weigh b) port k (λ weigh. 0) left k') (account_given_short s.ways s.means b laws.shows (arena ∙ ap Some (sym is.number)) h)) (noted_short s.ways s.means laws.shows h) frame.windows
+    (only_least (λ x. IsAccounted s.ways s.means.fast n x (λ weigh. weigh b) port k (λ weigh. 0) left k') (account_given_short s.ways s.means b laws.shows (arena ∙ ap Some (sym is.number)) h)) (noted_short s.ways s.means laws.shows h)
+    (λ n. omega (arith, framed_window s.means (beside_arena port None o.space) (beside_arena left None later) n frame)) frame.windows

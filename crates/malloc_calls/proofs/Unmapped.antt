@@ -11,9 +11,9 @@ use Rattle.address_space.specs.declared.space.Space.{Space}
 use Rattle.mapped_chunks.specs.DialPorts.{DialStep, Reads, Raises, Unmaps}
 use Rattle.mapped_chunks.specs.Mappings.{IsMapped, FreesChunk, AllSteps, freeing_steps, is_raise, mapping_bytes}
 use Rattle.malloc_calls.specs.Holding.{FreesMapped}
-use Rattle.malloc_calls.specs.Places.{Setting, Standing, standing, as_chunk_of, as_mapped, as_mapped_bytes}
+use Rattle.malloc_calls.specs.Places.{Setting, Standing, standing, as_chunk_of, as_mapped, as_mapped_bytes, given_byte}
 use Rattle.malloc_calls.specs.Returning.{AreReturned, IsSettled, maps_in, unmaps_in}
-use Rattle.arena_core.specs.Shown.{Shown}
+use Rattle.arena_core.specs.Shown.{MappedShown}
 
 -- the steps count one mapping no more, and none besides
 record CountsOne (b : Block) (steps : List DialStep) : Type 0 where
@@ -41,8 +41,8 @@ settled_freed exact b steps none c =
     let all : as_mapped_bytes b ≡ mapping_bytes b = ap (λ (o : Option ℕ). cond (is_some o) 0 (mapping_bytes b)) none in
     record {
       chunks = λ n e. sym (unmapped_chunk n e b none);
-      count = omega (arith, one, c.count, ap (λ (x : Shown). x.count) c.maps);
-      bytes = omega (arith, all, c.bytes, ap (λ (x : Shown). x.bytes) c.maps);
+      count = omega (arith, one, c.count, ap (λ (x : MappedShown). x.count) c.maps);
+      bytes = omega (arith, all, c.bytes, ap (λ (x : MappedShown). x.bytes) c.maps);
       had = omega (arith, one, c.count);
       had_bytes = omega (arith, all, c.bytes);
     }
@@ -61,7 +61,8 @@ frees_mapped {K = K} s {t = t} b o q r first d later mapped lent frees gave retu
       carries = record {
         serves = λ exact known others h. back.serves exact (λ weigh. weigh b) (λ weigh. 0) others (settled_freed exact b steps mapped.arena c) h;
         notes = λ others n.
-            back.notes o.space.mapped later.mapped others (omega (arith, same, ap (λ (x : Shown). x.count) c.maps)) (omega (arith, same, ap (λ (x : Shown). x.bytes) c.maps)) n;
+            back.notes o.space.mapped later.mapped others (omega (arith, same, ap (λ (x : MappedShown). x.count) c.maps)) (omega (arith, same, ap (λ (x : MappedShown). x.bytes) c.maps)) n;
+        mapped = λ n. omega (arith, ap (λ (x : Space K). given_byte n x) frees.given.others);
         tunables = back.tunables;
         windows = ap (λ (x : Space K). x.windows) frees.given.others;
         there = back.there;

@@ -48,8 +48,8 @@ abbrev pub hold_end : ℕ → Ended → CacheValue → HoldEnd
 hold_end place ended cache = record { place = place; ended = ended; cache = cache }
 
 -- one hold
-abbrev pub held : ℕ → Act → CacheValue → Call HoldEnd
-held a act cache = Holds a act cache (λ place ended left. Done (hold_end place ended left))
+abbrev pub hold_of : ℕ → Act → CacheValue → Call HoldEnd
+hold_of a act cache = Holds a act cache (λ place ended left. Done (hold_end place ended left))
 
 -- the block that a hold of an arena took
 abbrev pub block_taken : ℕ → ℕ → ℕ → Bool → Block
@@ -71,14 +71,14 @@ with_cache cache own = record own { cache = cache }
 -- ---- the cache is opened where it is closed
 
 -- the cache in the chunk that was taken for its structure; where none was, it stays closed
-abbrev pub opened_in : Tunables → Option Block → CacheValue → CacheValue
-opened_in t None cache = cache
-opened_in t (Some b) cache = opened b t.tcache_count t.tcache_bins
+abbrev pub cache_with_structure : Tunables → Option Block → CacheValue → CacheValue
+cache_with_structure t None cache = cache
+cache_with_structure t (Some b) cache = opened b t.tcache_count t.tcache_bins
 
 abbrev pub opening : Tunables → ℕ → CacheValue → Call CacheValue
 opening t home cache =
     if is_open cache then Done cache
-    else then_call (held home (Take structure_size) cache) (λ e. Done (opened_in t (taken_of home e.ended) e.cache))
+    else then_call (hold_of home (Take structure_size) cache) (λ e. Done (cache_with_structure t (taken_of home e.ended) e.cache))
 
 -- ---- malloc
 
@@ -88,17 +88,17 @@ reply_of place None = Null Refused
 reply_of place (Some b) = Got b.addr b.size (origin_of place b)
 
 -- it has the name then
-abbrev pub named_as : ℕ → Option Block → List (Option Block) → List (Option Block)
-named_as name None names = names
-named_as name (Some b) names = with_block name b names
+abbrev pub names_with : ℕ → Option Block → List (Option Block) → List (Option Block)
+names_with name None names = names
+names_with name (Some b) names = with_block name b names
 
-abbrev pub answered : ℕ → ℕ → Option Block → Own → Reply × Own
-answered name place o own = (reply_of place o, record own { names = named_as name o own.names })
+abbrev pub answer_with : ℕ → ℕ → Option Block → Own → Reply × Own
+answer_with name place o own = (reply_of place o, record own { names = names_with name o own.names })
 
 -- a chunk from the thread's arena
 abbrev pub from_arena : ℕ → ℕ → ℕ → Own → Call (Reply × Own)
-from_arena home name nb own = then_call (held home (Take nb) own.cache) (λ e.
-    Done (answered name e.place (taken_of home e.ended) (with_cache e.cache own)))
+from_arena home name nb own = then_call (hold_of home (Take nb) own.cache) (λ e.
+    Done (answer_with name e.place (taken_of home e.ended) (with_cache e.cache own)))
 
 -- the newest chunk of its list in the cache, else one from the thread's arena
 abbrev pub from_cache : ℕ → ℕ → ℕ → Option Block → Own → Call (Reply × Own)
@@ -127,7 +127,7 @@ abbrev pub past_cache : Tunables → ℕ → Block → Own → Call (Reply × Ow
 past_cache t a b own =
     if nat_le b.size t.max_fast
     then Pushes b (Done (Freed (sinks.Fast a (fast_index_of b.size)), own))
-    else then_call (held a (Give b.addr b.size) own.cache) (λ e.
+    else then_call (hold_of a (Give b.addr b.size) own.cache) (λ e.
     Done (Freed (sinks.Binned a e.place), with_cache e.cache own))
 
 -- a chunk of an arena: into the cache where that takes it
@@ -135,17 +135,17 @@ abbrev pub to_cache : Tunables → ℕ → Block → Own → Call (Reply × Own)
 to_cache t a b own =
     if takes own.cache b then Done (Freed sinks.Cached, with_cache (with_newest own.cache b) own) else past_cache t a b own
 
-abbrev pub freed_block : Tunables → ℕ → ℕ → Block → Option ℕ → Own → Call (Reply × Own)
-freed_block t home name b None own = Frees b (Done (Freed sinks.Unmapped, without_name name own))
-freed_block t home name b (Some a) own = then_call (opening t home own.cache) (λ cache.
+abbrev pub free_of_block : Tunables → ℕ → ℕ → Block → Option ℕ → Own → Call (Reply × Own)
+free_of_block t home name b None own = Frees b (Done (Freed sinks.Unmapped, without_name name own))
+free_of_block t home name b (Some a) own = then_call (opening t home own.cache) (λ cache.
     to_cache t a b (without_name name (with_cache cache own)))
 
-abbrev pub freed : Tunables → ℕ → ℕ → Option Block → Own → Call (Reply × Own)
-freed t home name None own = Done (NotYours, own)
-freed t home name (Some b) own = freed_block t home name b b.arena own
+abbrev pub free_of_name : Tunables → ℕ → ℕ → Option Block → Own → Call (Reply × Own)
+free_of_name t home name None own = Done (NotYours, own)
+free_of_name t home name (Some b) own = free_of_block t home name b b.arena own
 
 abbrev pub free_call : Tunables → ℕ → ℕ → Own → Call (Reply × Own)
-free_call t home name own = freed t home name (block_at own.names name) own
+free_call t home name own = free_of_name t home name (block_at own.names name) own
 
 -- ---- what malloc promises of a name
 

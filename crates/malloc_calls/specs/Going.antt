@@ -16,7 +16,7 @@ use Rattle.arena_core.specs.declared.journal.Ended.{Ended}
 use Rattle.arena_core.specs.Journal.{Recorded}
 use Rattle.arena_core.specs.Replay.{rules_of, ended_of}
 use Rattle.consolidate_trim.specs.Outside.{Outside, ways}
-use Rattle.malloc_calls.specs.Places.{kept, Setting, Standing}
+use Rattle.malloc_calls.specs.Places.{with_journal, Setting, Standing}
 use Rattle.malloc_calls.specs.Calls.{Call, Done, Holds, Pushes, Frees}
 
 -- What a call is told: of a hold the arena's number, the place of its entry, the arena before it, and the entry; a push; a
@@ -38,14 +38,14 @@ pub record HoldStep {P H D K : Type 0} (s : Setting P H D K) (t : Tunables) (who
   pub last_hold : H
   pub journal : List Recorded
   pub took : Took
-  pub lent : s.ways.lent old.places a hold (Some (kept before journal)) lending
+  pub lent : s.ways.lent old.places a hold (Some (with_journal before journal)) lending
   pub at : length journal ≡ place
   pub whose : entry.who ≡ who
   pub acts : entry.act ≡ act
   pub walk : Walks t (ways s.means before.number) (rules_of t act before) (beside hold cache old.space) entry.said
       (Stop took) (beside last_hold left new.space)
   pub ended : entry.ended ≡ ended_of act took.found
-  pub gave : s.ways.gave lending last_hold (kept took.arena (journal ++ entry ∷ [])) new.places
+  pub gave : s.ways.gave lending last_hold (with_journal took.arena (journal ++ entry ∷ [])) new.places
 
 -- a block is pushed into a fast bin of its arena
 pub record PushStep {P H D K : Type 0} (s : Setting P H D K) (b : Block) (old new : Standing P K) : Type 0 where

@@ -12,7 +12,7 @@ use Rattle.arena_core.specs.declared.take.Take as take
 use Rattle.arena_core.specs.declared.take.Take.TheVariants as takes
 use Rattle.arena_core.specs.declared.journal.Ended.{Ended}
 use Rattle.malloc_calls.specs.Names.{IsHeld}
-use Rattle.malloc_calls.specs.Calls.{held, hold_end, taken_of}
+use Rattle.malloc_calls.specs.Calls.{hold_of, hold_end, taken_of}
 use Rattle.malloc_calls.specs.Going.{Does, FreeStep}
 use Rattle.malloc_calls.specs.Places.{PlaceWays, Setting, Standing, Carries, both_of, weight_of, in_cache}
 
@@ -26,7 +26,7 @@ pub record Takes {P H D K : Type 0} (s : Setting P H D K) (t : Tunables) (who : 
     (old : Standing P K) (place : ℕ) (block : Option Block) (left : CacheValue) (new : Standing P K) : Type 0 where
   pub ended : Ended
   pub found : block ≡ taken_of a ended
-  pub does : Does s t who (held a (Take nb) cache) old (hold_end place ended left) new
+  pub does : Does s t who (hold_of a (Take nb) cache) old (hold_end place ended left) new
   pub held : IfSome block IsHeld
   pub fits : IfSome block (λ b. need_of b.arena nb ≤ b.size)
   pub refused : block ≡ None → Rose (space_refusals s.means.kernel old.space) (space_refusals s.means.kernel new.space)
@@ -38,7 +38,7 @@ pub record Takes {P H D K : Type 0} (s : Setting P H D K) (t : Tunables) (who : 
 pub record Gives {P H D K : Type 0} (s : Setting P H D K) (t : Tunables) (who : Who) (a : ℕ) (b : Block) (cache : CacheValue)
     (old : Standing P K) (place : ℕ) (new : Standing P K) : Type 0 where
   pub ended : Ended
-  pub does : Does s t who (held a (Give b.addr b.size) cache) old (hold_end place ended cache) new
+  pub does : Does s t who (hold_of a (Give b.addr b.size) cache) old (hold_end place ended cache) new
   pub carries : Carries s.ways true (λ weigh. weigh b) old (λ weigh. 0) new
 
 -- A mapped chunk was freed.

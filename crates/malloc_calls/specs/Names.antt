@@ -9,8 +9,8 @@ abbrev pub block_at : List (Option Block) → ℕ → Option Block
 block_at names name = slice_index_or names name None
 
 -- the table with places for the names up to one
-abbrev pub readied : ℕ → List (Option Block) → List (Option Block)
-readied name names = names ++ replicate (name + 1 - length names) None
+abbrev pub with_places_to : ℕ → List (Option Block) → List (Option Block)
+with_places_to name names = names ++ replicate (name + 1 - length names) None
 
 abbrev pub with_block : ℕ → Block → List (Option Block) → List (Option Block)
 with_block name b names = slice_set names name (Some b)

@@ -63,23 +63,23 @@ abbrev pub cached_for : ℕ → CacheValue → Option Block
 cached_for size cache = option_and_then (λ nb. newest_of_size nb cache) (padded_request size)
 
 -- it leaves the cache, and has a name
-abbrev pub named : ℕ → ℕ → Option Block → Own → Own
-named name nb None own = own
-named name nb (Some b) own = record { cache = without_newest_of nb own.cache; names = with_block name b own.names }
+abbrev pub with_cached_block : ℕ → ℕ → Option Block → Own → Own
+with_cached_block name nb None own = own
+with_cached_block name nb (Some b) own = record { cache = without_newest_of nb own.cache; names = with_block name b own.names }
 
 abbrev pub cached_malloc_of : ℕ → ℕ → Own → Own
 cached_malloc_of name size own =
-    elim (padded_request size) [ None ↦ own | Some nb ↦ named name nb (newest_of_size nb own.cache) own ]
+    elim (padded_request size) [ None ↦ own | Some nb ↦ with_cached_block name nb (newest_of_size nb own.cache) own ]
 
 -- a block goes from its name into the cache, where that takes it
 abbrev pub cached_end : Own → Option Block → CachedFree
 cached_end own None = NotYours
 cached_end own (Some b) = if takes own.cache b then Done else NoRoom
 
-abbrev pub cached : ℕ → Option Block → Own → Own
-cached name None own = own
-cached name (Some b) own =
+abbrev pub into_cache : ℕ → Option Block → Own → Own
+into_cache name None own = own
+into_cache name (Some b) own =
     if takes own.cache b then record { cache = with_newest own.cache b; names = without_block name own.names } else own
 
 abbrev pub cached_free_of : ℕ → Own → Own
-cached_free_of name own = cached name (block_at own.names name) own
+cached_free_of name own = into_cache name (block_at own.names name) own

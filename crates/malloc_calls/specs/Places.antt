@@ -1,21 +1,21 @@
 -- Where a thread's calls find arenas, fast bins and the words beside them, as contracts see it (this project's own form).
-use Rattle.std.specs.Prelude.{◌≡◌, ℕ, ◌+◌, ◌≤◌, Bool, false, true, List, Option, Some, None, is_some, IsTrue, sum_by, if◌then◌else◌}
+use Rattle.std.specs.Prelude.{◌≡◌, ℕ, ◌+◌, ◌-◌, ◌≤◌, ◌&&◌, nat_le, Bool, false, true, List, Option, Some, None, is_some, IsTrue, sum_by, if◌then◌else◌}
 use Rattle.chunk_tags.specs.declared.block.Block.{Block}
 use Rattle.chunk_tags.specs.declared.tiles.Chunk.{Chunk}
 use Rattle.chunk_tags.specs.declared.tunables.Tunables.{Tunables}
 use Rattle.address_space.specs.declared.space.Space.{Space}
-use Rattle.address_space.specs.Spaces.{map_length}
+use Rattle.address_space.specs.Spaces.{map_length, map_start}
 use Rattle.mapped_chunks.specs.DialPorts.{Dialled, Maps, Unmaps}
-use Rattle.mapped_chunks.specs.Mappings.{mapping_bytes, IsSteady}
+use Rattle.mapped_chunks.specs.Mappings.{mapping_start, mapping_bytes, IsSteady}
 use Rattle.fast_bins.specs.FastPorts.{Fast}
 use Rattle.thread_cache.specs.Caches.{CacheValue, blocks_of, structure_of}
 use Rattle.arena_rules.specs.PlainArena.{Plain, IsSound, is_main, empty_main, times_used}
-use Rattle.arena_rules.specs.MainPlaces.{IsPlaced}
+use Rattle.arena_rules.specs.MainPlaces.{covers, IsPlaced}
 use Rattle.arena_rules.specs.Rules.{windows_of}
 use Rattle.arena_core.specs.declared.arena.Arena.{Arena}
 use Rattle.arena_core.specs.Journal.{Recorded}
 use Rattle.arena_core.specs.Replay.{IsReplay}
-use Rattle.arena_core.specs.Shown.{Shown, ShowsMapped}
+use Rattle.arena_core.specs.Shown.{MappedShown, ShowsMapped}
 use Rattle.consolidate_trim.specs.Holds.{is_block_of}
 use Rattle.consolidate_trim.specs.Outside.{Means, Apart}
 use Rattle.malloc_calls.specs.declared.own.Own.{Own}
@@ -25,15 +25,15 @@ pub record KeptArena : Type 0 where
   pub arena : Plain
   pub journal : List Recorded
 
-abbrev pub kept : Plain → List Recorded → KeptArena
-kept arena journal = record { arena = arena; journal = journal }
+abbrev pub with_journal : Plain → List Recorded → KeptArena
+with_journal arena journal = record { arena = arena; journal = journal }
 
 abbrev pub kept_of : {M : Type 0} → (M → Plain) → Arena M → KeptArena
-kept_of plain a = kept (plain a.ground) a.journal.items
+kept_of plain a = with_journal (plain a.ground) a.journal.items
 
 -- the arena with a number, before its first hold
-abbrev pub unopened : ℕ → Plain
-unopened a = record empty_main { number = a }
+abbrev pub new_arena : ℕ → Plain
+new_arena a = record empty_main { number = a }
 
 -- ---- blocks in somebody's hands
 
@@ -73,6 +73,17 @@ as_mapped b = if is_some b.arena then 0 else 1
 abbrev pub as_mapped_bytes : Block → ℕ
 as_mapped_bytes b = if is_some b.arena then 0 else mapping_bytes b
 
+-- the last byte of a block, and 1 where a byte is of the mapping of a mapped chunk, else 0
+abbrev pub last_byte : Block → ℕ
+last_byte b = b.addr + (b.size - 1)
+
+abbrev pub as_mapped_byte : ℕ → Block → ℕ
+as_mapped_byte n b = if is_some b.arena then 0 else (if nat_le (mapping_start b) n && nat_le n (last_byte b) then 1 else 0)
+
+-- 1 where a byte is of a thread's window for mappings, as far as that was given, else 0
+abbrev pub given_byte : {K : Type 0} → ℕ → Space K → ℕ
+given_byte n s = covers n (map_start s.thread) s.mapped
+
 -- as many as that, or where not all need be known, at most as many
 abbrev pub Covers : Bool → ℕ → ℕ → Type 0
 Covers true n m = n ≡ m
@@ -97,7 +108,7 @@ pub record PlaceWays (P H D : Type 0) : Type 1 where
   pub room : P → ℕ → Type 0
   pub tunables : P → Tunables
   pub there : P → ℕ → Bool
-  pub shown : H → Shown
+  pub shown : H → MappedShown
 
 -- what a call stands on: the places, what is beside an arena in a hold, and the words
 pub record Setting (P H D K : Type 0) : Type 1 where
@@ -127,12 +138,14 @@ pub record IsServed {P H D K : Type 0} (ways : PlaceWays P H D) (t : Tunables) (
   pub home : IsTrue (ways.there o.places 0)
 
 -- What a step keeps: whatever else is given out stays so while these blocks are given up and those are got, known exactly
--- where all went well; the mappings stay noted; and tunables, windows and arenas are the same.
+-- where all went well; the mappings stay noted; no byte is got in a mapped chunk but what was given up in one or the thread's
+-- window gave; and tunables, windows and arenas are the same.
 pub record Carries {P H D K : Type 0} (ways : PlaceWays P H D) (well : Bool) (given : Hands) (old : Standing P K) (got : Hands)
     (new : Standing P K) : Type 0 where
   pub serves : (exact : Bool) → (exact ≡ true → well ≡ true) → (others : Hands) →
       ways.serves exact old.places (both_of given others) → ways.serves exact new.places (both_of got others)
   pub notes : (others : ℕ) → ways.notes old.places old.space.mapped others → ways.notes new.places new.space.mapped others
+  pub mapped : (n : ℕ) → got (as_mapped_byte n) + given_byte n old.space ≤ given (as_mapped_byte n) + given_byte n new.space
   pub tunables : ways.tunables new.places ≡ ways.tunables old.places
   pub windows : new.space.windows ≡ old.space.windows
   pub there : (a : ℕ) → ways.there new.places a ≡ ways.there old.places a
@@ -145,7 +158,7 @@ pub record IsLent {P H D : Type 0} (ways : PlaceWays P H D) (fast : Fast H) (dia
   pub main : IsTrue (is_main k.arena)
   pub sound : IsSound k.arena
   pub placed : IsPlaced k.arena
-  pub replays : IsReplay (ways.tunables p) (unopened a) k.journal k.arena
+  pub replays : IsReplay (ways.tunables p) (new_arena a) k.journal k.arena
   pub backed : (hands : Hands) → ways.serves false p hands → (e : Chunk) → fast.stock port e + hands (as_chunk_of a e) ≤ times_used e k.arena
   pub maps : (own others len : ℕ) → ways.notes p own others → own + len ≤ map_length → dials.allows port (Maps len)
 

@@ -46,14 +46,14 @@ word_of TrimThreshold d = d.trim_threshold
 word_of MappedCount d = d.mapped
 
 -- what the world answers
-abbrev pub answer_of : {K : Type 0} → Port K → Need → HoldWorld K → Said
-answer_of port Flagged w = told.Flag w.bins.flag
-answer_of port (Pops bin) w = told.Popped (front_of (bin_at w.bins bin))
-answer_of port (Owns bin) w = told.Own (own_front (bin_at w.bins bin))
-answer_of port (Rooms size) w = told.Room (has_room w.cache size)
-answer_of port (Asks ask) w = told.Asked ask (space_answer port w.space (passes_window w.space.windows ask) ask)
-answer_of port (Maps len) w = told.Asked (map_ask w.space len) (place_answer (space_place port w.space len))
-answer_of port (Reads which) w = told.Dial (word_of which w.dials)
+abbrev pub world_answer : {K : Type 0} → Port K → Need → HoldWorld K → Said
+world_answer port Flagged w = told.Flag w.bins.flag
+world_answer port (Pops bin) w = told.Popped (front_of (bin_at w.bins bin))
+world_answer port (Owns bin) w = told.Own (own_front (bin_at w.bins bin))
+world_answer port (Rooms size) w = told.Room (has_room w.cache size)
+world_answer port (Asks ask) w = told.Asked ask (space_answer port w.space (passes_window w.space.windows ask) ask)
+world_answer port (Maps len) w = told.Asked (map_ask w.space len) (place_answer (space_place port w.space len))
+world_answer port (Reads which) w = told.Dial (word_of which w.dials)
 
 -- the world when it has answered
 abbrev pub world_told : {K : Type 0} → Port K → Need → HoldWorld K → HoldWorld K
@@ -90,4 +90,4 @@ played_hold port number (Stop x) w = Some (record { result = x; said = []; world
 played_hold port number Misfit w = None
 played_hold port number (Does d r) w = played_hold port number r (world_done port number d w)
 played_hold port number (Needs a n f) w =
-    option_map (told_first (answer_of port n w)) (played_hold port number (f (answer_of port n w)) (world_told port n w))
+    option_map (told_first (world_answer port n w)) (played_hold port number (f (world_answer port n w)) (world_told port n w))

@@ -7,8 +7,8 @@ use Rattle.fast_bins.specs.FastPorts.{Fast}
 use Rattle.arena_rules.specs.PlainArena.{IsSound, times_used}
 use Rattle.arena_rules.specs.MainPlaces.{IsPlaced}
 use Rattle.arena_core.specs.Replay.{IsReplay}
-use Rattle.arena_core.specs.Shown.{Shown}
-use Rattle.malloc_calls.specs.Places.{KeptArena, PlaceWays, Hands, both_of, as_chunk_of, as_mapped, as_mapped_bytes, Covers, unopened}
+use Rattle.arena_core.specs.Shown.{MappedShown}
+use Rattle.malloc_calls.specs.Places.{KeptArena, PlaceWays, Hands, both_of, as_chunk_of, as_mapped, as_mapped_bytes, Covers, new_arena}
 
 -- An arena that comes back with its port: it was lent, is sound, and is what the replay of its journal gives.
 pub record IsReturn {P H D : Type 0} (ways : PlaceWays P H D) (k : KeptArena) (q : P) : Type 0 where
@@ -20,7 +20,7 @@ pub record IsReturn {P H D : Type 0} (ways : PlaceWays P H D) (k : KeptArena) (q
   pub number : k.arena.number ≡ arena
   pub sound : IsSound k.arena
   pub placed : IsPlaced k.arena
-  pub replays : IsReplay (ways.tunables places) (unopened arena) k.journal k.arena
+  pub replays : IsReplay (ways.tunables places) (new_arena arena) k.journal k.arena
 
 -- The used chunks of a held arena changed as the port's, and those given up and got, did; those of other arenas are the
 -- same; and mapped chunks as the port shows them. All is known exactly, or in hands is at most what there is.
@@ -47,6 +47,12 @@ pub record IsUnlocked {P H D : Type 0} (ways : PlaceWays P H D) (fast : Fast H) 
   pub tunables : ways.tunables new ≡ ways.tunables places
   pub there : (n : ℕ) → ways.there new n ≡ ways.there places n
 
+-- what unlocking keeps, whatever was lent
+abbrev pub Unlocks : {P H D : Type 0} → PlaceWays P H D → Fast H → P → H → KeptArena → P → Type 0
+Unlocks {P} {H} ways fast lending left after new =
+    (places : P) (a : ℕ) (port : H) (before : KeptArena) → ways.lent places a port (Some before) lending →
+    IsUnlocked ways fast places a port before left after new
+
 -- ---- the words
 
 -- the words come back after these steps
@@ -58,7 +64,7 @@ pub record AreReturn {P H D : Type 0} (ways : PlaceWays P H D) (words : Dialled 
   pub walk : AllSteps words first steps d
 
 -- the mappings that steps count, and those that they count no more
-abbrev pub maps_in : List DialStep → Shown
+abbrev pub maps_in : List DialStep → MappedShown
 maps_in [] = record { count = 0; bytes = 0 }
 maps_in (Reads w n ∷ ss) = maps_in ss
 maps_in (Raises size ∷ ss) = maps_in ss
@@ -66,7 +72,7 @@ maps_in (Maps len ∷ ss) = record { count = (maps_in ss).count + 1; bytes = (ma
 maps_in (Unmaps len ∷ ss) = maps_in ss
 maps_in (Remaps old_len new_len ∷ ss) = record (maps_in ss) { bytes = (maps_in ss).bytes + new_len }
 
-abbrev pub unmaps_in : List DialStep → Shown
+abbrev pub unmaps_in : List DialStep → MappedShown
 unmaps_in [] = record { count = 0; bytes = 0 }
 unmaps_in (Reads w n ∷ ss) = unmaps_in ss
 unmaps_in (Raises size ∷ ss) = unmaps_in ss
@@ -90,6 +96,12 @@ pub record AreReturned {P H D : Type 0} (ways : PlaceWays P H D) (places : P) (s
       ways.notes places own others → ways.notes new own' others
   pub tunables : ways.tunables new ≡ ways.tunables places
   pub there : (n : ℕ) → ways.there new n ≡ ways.there places n
+
+-- so it does, whatever was lent and whatever steps were made
+abbrev pub ReturnsWords : {P H D : Type 0} → PlaceWays P H D → Dialled D → P → D → P → Type 0
+ReturnsWords {P} {H} {D} ways words lending d new =
+    (places : P) (first : D) (steps : List DialStep) → ways.dials_lent places first lending →
+    AllSteps words first steps d → AreReturned ways places steps new
 
 -- ---- room, and a push
 

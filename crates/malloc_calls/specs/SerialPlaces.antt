@@ -17,7 +17,7 @@ use Rattle.consolidate_trim.proofs.HoldSteps.{block_is}
 use Rattle.malloc_calls.specs.Places.{KeptArena, Hands, both_of, as_chunk_of, as_mapped, as_mapped_bytes, Covers, IsLent, PlaceLaws}
 use Rattle.malloc_calls.specs.Joined.{joined_fast, joined_dials}
 use Rattle.malloc_calls.specs.Playing.{PlainPort}
-use Rattle.malloc_calls.specs.SerialWays.{SerialState, Serves, LentMain, DialsOut, IsKeptMain, is_there, serial_ways, shown_of}
+use Rattle.malloc_calls.specs.SerialWays.{SerialState, Serves, LentMain, DialsOut, IsKeptMain, is_there, serial_ways, mapped_in_words}
 
 pub covers_same : (exact : Bool) (n m k : ℕ) → m ≡ n → Covers exact n k → Covers exact m k
 covers_same true n m k e c = e ∙ c
@@ -75,7 +75,8 @@ lends p q a port k h =
 abbrev pub chunk_in : Block → Chunk
 chunk_in b = record { at = b.addr; size = b.size }
 
-own_chunk : (b : Block) (a : ℕ) → b.arena ≡ Some a → as_chunk_of a (chunk_in b) b ≡ 1
+-- a block of an arena is its chunk there
+pub own_chunk : (b : Block) (a : ℕ) → b.arena ≡ Some a → as_chunk_of a (chunk_in b) b ≡ 1
 own_chunk b a e = ap {B = ℕ} (λ (o : Option ℕ). cond (same_chunk (chunk_in b) (chunk_in b) && (elim o [ None ↦ false | Some n ↦ nat_eq n a ])) 1 0) e
     ∙ block_is a (chunk_in b) (chunk_in b) ∙ once_self (chunk_in b)
 
@@ -109,10 +110,10 @@ serial_laws = record {
     reads = λ p q w n d h may. plain_steady.reads p.dials q.dials w n d h.0 may;
   };
   shows = record {
-    maps = λ p q len h. ap (λ (d : PlainDials). shown_of (record p { dials = d })) h.0.1;
-    reads = λ p q w n h. ap (λ (d : PlainDials). shown_of (record p { dials = d })) h.0.1;
-    steps = λ p q s h. ap (λ (d : PlainDials). shown_of (record p { dials = d })) h.1;
-    idles = λ p q h. ap (λ (d : PlainDials). shown_of (record p { dials = d })) h.1;
+    maps = λ p q len h. ap (λ (d : PlainDials). mapped_in_words (record p { dials = d })) h.0.1;
+    reads = λ p q w n h. ap (λ (d : PlainDials). mapped_in_words (record p { dials = d })) h.0.1;
+    steps = λ p q s h. ap (λ (d : PlainDials). mapped_in_words (record p { dials = d })) h.1;
+    idles = λ p q h. ap (λ (d : PlainDials). mapped_in_words (record p { dials = d })) h.1;
   };
   steady = plain_steady;
   same = serves_same;

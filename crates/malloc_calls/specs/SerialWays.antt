@@ -28,10 +28,10 @@ use Rattle.arena_core.specs.declared.journal.Who.{Who}
 use Rattle.thread_cache.specs.Caches.{CacheValue}
 use Rattle.arena_core.specs.Journal.{Recorded}
 use Rattle.arena_core.specs.Replay.{rules_of, ended_of, IsReplay}
-use Rattle.arena_core.specs.Shown.{Shown}
+use Rattle.arena_core.specs.Shown.{MappedShown}
 use Rattle.arena_rules.specs.Growth.{Took}
 use Rattle.malloc_calls.specs.Playing.{HoldWorld, PlainPort, plain_means, PlayedHold, played_hold}
-use Rattle.malloc_calls.specs.Places.{KeptArena, kept, kept_of, unopened, Hands, as_chunk_of, as_mapped, as_mapped_bytes, Covers, PlaceWays, Setting, setting}
+use Rattle.malloc_calls.specs.Places.{KeptArena, with_journal, kept_of, new_arena, Hands, as_chunk_of, as_mapped, as_mapped_bytes, Covers, PlaceWays, Setting, setting}
 use Rattle.malloc_calls.specs.Joined.{joined_fast}
 use Rattle.malloc_calls.specs.Calls.{Call, Done, Holds, Pushes, Frees}
 
@@ -49,7 +49,11 @@ pub record IsKeptMain (t : Tunables) (k : KeptArena) : Type 0 where
   pub number : k.arena.number ≡ 0
   pub sound : IsSound k.arena
   pub placed : IsPlaced k.arena
-  pub replays : IsReplay t (unopened 0) k.journal k.arena
+  pub replays : IsReplay t (new_arena 0) k.journal k.arena
+
+-- an arena in its words, as it is kept
+abbrev pub kept_ground : Arena GroundView → KeptArena
+kept_ground arena = kept_of (λ g. g.arena) arena
 
 -- the state of places, of its parts
 abbrev pub state_at : Option (Arena GroundView) → Option PlainPort → Tunables → SerialState
@@ -77,7 +81,7 @@ first_words t = record {
 
 -- the places before the first call
 pub record IsFirst (t : Tunables) (st : SerialState) : Type 0 where
-  pub main : st.main ≡ Some (kept empty_main [])
+  pub main : st.main ≡ Some (with_journal empty_main [])
   pub port : PlainPort
   pub port_at : st.port ≡ Some port
   pub bins : state_of port.bins ≡ empty_state
@@ -160,8 +164,8 @@ abbrev pub is_there : SerialState → ℕ → Bool
 is_there st a = nat_eq a 0 && is_some st.main && is_some st.port
 
 -- the mapped chunks that the words count
-abbrev pub shown_of : PlainPort → Shown
-shown_of port = record { count = port.dials.state.mapped; bytes = port.dials.state.bytes }
+abbrev pub mapped_in_words : PlainPort → MappedShown
+mapped_in_words port = record { count = port.dials.state.mapped; bytes = port.dials.state.bytes }
 
 -- what places are that are seen so
 abbrev pub serial_ways : {P : Type 0} → (P → SerialState) → PlaceWays P PlainPort PlainDials
@@ -177,8 +181,12 @@ serial_ways view = record {
   room = λ p a. HasPortRoom (view p).port;
   tunables = λ p. (view p).tunables;
   there = λ p a. is_there (view p) a;
-  shown = shown_of;
+  shown = mapped_in_words;
 }
+
+-- those of the state itself
+abbrev pub state_ways : PlaceWays SerialState PlainPort PlainDials
+state_ways = serial_ways (λ s. s)
 
 abbrev pub serial_setting : {P K : Type 0} → (P → SerialState) → Port K → Setting P PlainPort PlainDials K
 serial_setting view port = setting (serial_ways view) (plain_means port) plain_dials
@@ -204,7 +212,7 @@ entry_of who act p = record { who = who; act = act; said = p.said; ended = ended
 
 abbrev pub world_held : {K : Type 0} → Who → Act → SerialWorld K → PlayedHold K Took → SerialWorld K
 world_held who act w p = record {
-  main = kept p.result.arena (w.main.journal ++ entry_of who act p ∷ []);
+  main = with_journal p.result.arena (w.main.journal ++ entry_of who act p ∷ []);
   bins = p.world.bins;
   dials = p.world.dials;
   space = p.world.space;

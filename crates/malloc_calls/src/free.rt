@@ -1,10 +1,13 @@
 //! free.
 
-ghost use Rattle.std.specs.Prelude.{◌≡◌, ◌<◌, ◌≤◌, ◌⊎◌, false, nat_le, Some, None, IsTrue, IfOk, IfErr, OnOk, OnErr, is_ok, length};
+ghost use Rattle.std.specs.Prelude.{◌≡◌, ◌<◌, ◌≤◌, ◌⊎◌, false, nat_le, Some, None, Ok, IsTrue, IfOk, IfErr, OnOk, OnErr, is_ok, length};
 ghost use Rattle.chunk_tags.specs.Tunables.{IsTuned};
 ghost use Rattle.consolidate_trim.specs.Outside.{means};
 ghost use Rattle.malloc_calls.specs.Names.{IsHeld, block_at, with_block, without_block};
 ghost use Rattle.malloc_calls.specs.Calls.{to_cache, past_cache, free_call};
+ghost use Rattle.chunk_tags.specs.declared.block.Block.{Block as Piece};
+ghost use Rattle.malloc_calls.specs.declared.reply.Reply.TheVariants.{Freed, NotYours};
+ghost use Rattle.malloc_calls.specs.declared.reply.To.TheVariants.{Unmapped};
 ghost use Rattle.malloc_calls.specs.Going.{Does};
 ghost use Rattle.malloc_calls.specs.Holding.{PushesWithRoom};
 ghost use Rattle.malloc_calls.specs.Places.{setting, IsServed, Carries, standing, both_of, in_own};
@@ -122,7 +125,7 @@ fn free_chunk<P: Places, K: Kernel>(
 }
 
 /// free of a name's block (glibc's `__libc_free`). `NotYours` exactly where the name holds nothing. After `NoMemory` the name
-/// holds its block, or nothing where the block was given up.
+/// holds its block, or nothing where the block was given up; it never comes for a mapped block or a name that holds nothing.
 pub fn free<P: Places, K: Kernel>(
     own: &mut Own,
     alloc: Global,
@@ -137,6 +140,9 @@ pub fn free<P: Places, K: Kernel>(
     ensures does { IfOk result (λ reply.
         Does (setting P.ways (means P.Hold.fast P.Hold.dials K.port) P.Dial.dials) t.now who.now (free_call t.now 0 name own.old)
         (standing p.old space.old) (reply, own.new) (standing p.new space.new)) }
+    ensures none { block_at own.old.names name ≡ None → result ≡ Ok NotYours }
+    ensures mapped { (b : Piece) → block_at own.old.names name ≡ Some b → b.arena ≡ None
+        → result ≡ Ok (Freed Unmapped) }
     ensures carries { Carries P.ways (is_ok result) (in_own own.old) (standing p.old space.old)
         (in_own own.new) (standing p.new space.new) }
     ensures names { OnErr result

@@ -1,15 +1,15 @@
 //! malloc.
 
-ghost use Rattle.std.specs.Prelude.{◌≡◌, ◌<◌, None, IfOk, OnErr, IfSome, is_ok, length};
-ghost use Rattle.chunk_tags.specs.Sizes.{IsRequestSize, chunk_size_of};
+ghost use Rattle.std.specs.Prelude.{◌≡◌, ◌<◌, None, Ok, IfOk, OnErr, IfSome, is_ok, length};
+ghost use Rattle.chunk_tags.specs.Sizes.{IsRequestSize, chunk_size_of, padded_request};
 ghost use Rattle.chunk_tags.specs.Tunables.{IsTuned};
 ghost use Rattle.address_space.specs.Ports.{Rose};
 ghost use Rattle.address_space.specs.Spaces.{space_refusals};
 ghost use Rattle.consolidate_trim.specs.Outside.{means};
 ghost use Rattle.malloc_calls.specs.Names.{IsHeld, block_at};
-ghost use Rattle.malloc_calls.specs.Calls.{from_arena, from_cache, malloc_call, origin_of, reply_of, named_as, FitsName};
+ghost use Rattle.malloc_calls.specs.Calls.{from_arena, from_cache, malloc_call, origin_of, reply_of, names_with, FitsName};
 ghost use Rattle.malloc_calls.specs.declared.reply.Reply.TheVariants.{Null};
-ghost use Rattle.malloc_calls.specs.declared.reply.Why.TheVariants.{Refused};
+ghost use Rattle.malloc_calls.specs.declared.reply.Why.TheVariants.{Big, Refused};
 ghost use Rattle.malloc_calls.specs.Going.{Does};
 ghost use Rattle.malloc_calls.specs.Own.{newest_of_size};
 ghost use Rattle.malloc_calls.specs.Places.{setting, IsServed, Carries, standing, in_own};
@@ -41,7 +41,7 @@ fn answer(names: &mut Names, name: u32, hold: u64, block: Option<Block>) -> Repl
     requires empty { block_at names.old name ≡ None }
     requires held { IfSome block IsHeld }
     ensures reply { result ≡ reply_of hold block }
-    ensures names { names.new ≡ named_as name block names.old }
+    ensures names { names.new ≡ names_with name block names.old }
 {
     match block {
         None => Reply::Null(Why::Refused),
@@ -88,7 +88,7 @@ fn malloc_from_main<P: Places, K: Kernel>(
 }
 
 /// malloc of a size, under a name that holds nothing: the newest chunk of its list in the cache, else one from main (glibc's
-/// `__libc_malloc`). After `NoMemory` the names hold what they held.
+/// `__libc_malloc`). After `NoMemory` the names hold what they held; it never comes where the size is too big.
 pub fn malloc<P: Places, K: Kernel>(
     own: &mut Own,
     alloc: Global,
@@ -106,6 +106,7 @@ pub fn malloc<P: Places, K: Kernel>(
     ensures does { IfOk result (λ reply.
         Does (setting P.ways (means P.Hold.fast P.Hold.dials K.port) P.Dial.dials) t.now who.now (malloc_call t.now 0 name size own.old)
         (standing p.old space.old) (reply, own.new) (standing p.new space.new)) }
+    ensures big { padded_request size ≡ None → result ≡ Ok (Null Big) }
     ensures fits { IfOk result (λ _. FitsName (chunk_size_of size) name own.new.names) }
     ensures refused { IfOk result (λ reply. reply ≡ Null Refused
         → Rose (space_refusals K.port space.old) (space_refusals K.port space.new)) }

@@ -1,7 +1,7 @@
 //! The blocks of a thread, by name.
 
 ghost use Rattle.std.specs.Prelude.{◌≡◌, ◌-◌, ◌^◌, ◌<◌, ◌≤◌, [], ◌++◌, length, replicate, None, Some, IsSome, IfSome, OnOk, OnErr, option_copied, slice_set};
-ghost use Rattle.malloc_calls.specs.Names.{IsHeld, block_at, readied, with_block, without_block};
+ghost use Rattle.malloc_calls.specs.Names.{IsHeld, IsTable, block_at, with_places_to, with_block, without_block};
 
 use chunk_tags::{Block, NoMemory};
 use std::alloc::Global;
@@ -48,6 +48,13 @@ impl Names {
         }
     }
 
+    /// A law; the call does nothing. Each name that holds something holds a chunk.
+    pub fn laws(&self)
+        ensures { IsTable self.now }
+    {
+        let _ = &self.slots;
+    }
+
     /// How many names have a place: those below this.
     pub fn room(&self) -> u32
         ensures { result ≡ length self.now }
@@ -58,7 +65,7 @@ impl Names {
     /// Makes places for the names up to one. After `NoMemory` nothing changed.
     pub fn ready(&mut self, name: u32) -> Result<(), NoMemory>
         requires { name < 2 ^ 32 - 1 }
-        ensures ok { OnOk result (self.new ≡ readied name self.old) }
+        ensures ok { OnOk result (self.new ≡ with_places_to name self.old) }
         ensures err { OnErr result (self.new ≡ self.old) }
     {
         let missing = (name as usize + 1).saturating_sub(self.slots.len());

@@ -2,7 +2,8 @@
 
 ghost use Rattle.std.specs.Prelude.{◌≡◌, ◌<◌, None, IsSome, IfSome, IfNone, length};
 ghost use Rattle.std.specs.Option.{option_map};
-ghost use Rattle.chunk_tags.specs.Sizes.{IsChunkSize};
+ghost use Rattle.chunk_tags.specs.Sizes.{IsChunkSize, chunk_size_of};
+ghost use Rattle.malloc_calls.specs.Calls.{FitsName};
 ghost use Rattle.malloc_calls.specs.Names.{block_at, IsHeld};
 ghost use Rattle.malloc_calls.specs.Own.{new_own, newest_of_size, without_newest_of, cached_for, cached_malloc_of, cached_end, cached_free_of};
 
@@ -53,6 +54,7 @@ impl Own {
         requires empty { block_at self.old.names name ≡ None }
         ensures addr { result ≡ option_map (λ b. b.addr) (cached_for size self.old.cache) }
         ensures own { self.new ≡ cached_malloc_of name size self.old }
+        ensures fits { FitsName (chunk_size_of size) name self.new.names }
     {
         let block = take_newest(&mut self.cache, request_size(size)?)?;
         let addr = block.addr;

@@ -1,13 +1,10 @@
 //! Where a thread's calls find arenas and the words beside them.
 
-ghost use Rattle.std.specs.Prelude.{◌≡◌, ℕ, ◌≤◌, false, Some, IsTrue, IsSome, OnOk, option_map};
+ghost use Rattle.std.specs.Prelude.{◌≡◌, ℕ, ◌≤◌, false, Some, IsTrue, IsSome, OnOk, OnErr, option_map};
 ghost use Rattle.chunk_tags.specs.Sizes.{IsChunkSize};
 ghost use Rattle.chunk_tags.specs.declared.block.Block.{Block};
-ghost use Rattle.mapped_chunks.specs.DialPorts.{DialStep};
-ghost use Rattle.mapped_chunks.specs.Mappings.{AllSteps};
-ghost use Rattle.malloc_calls.specs.Places.{KeptArena, PlaceWays, PlaceLaws, Hands, both_of, kept_of};
-ghost use Rattle.malloc_calls.specs.Returning.{IsReturn, IsUnlocked, AreReturn, AreReturned, IsUnseen};
-ghost use Rattle.std.specs.Prelude.{List};
+ghost use Rattle.malloc_calls.specs.Places.{PlaceWays, PlaceLaws, Hands, both_of, kept_of};
+ghost use Rattle.malloc_calls.specs.Returning.{IsReturn, Unlocks, AreReturn, ReturnsWords, IsUnseen};
 
 use arena_core::Arena;
 use arena_rules::Moves;
@@ -32,15 +29,16 @@ pub trait Places {
     /// Locks an arena, which is lent with its port. `None` where the arena isn't in its place.
     fn lock(&mut self, a: u8) -> (Self::Hold, Option<Arena<Self::Ground>>)
         requires there { IsTrue (ways.there self.old a) }
-        ensures lent { ways.lent self.old a result.0 (option_map (kept_of Self.Ground.plain) result.1) self.new }
+        ensures lent { ways.lent self.old a result.0
+            (option_map (kept_of Self.Ground.plain) result.1) self.new }
         ensures some { IsSome result.1 };
 
     /// Gives an arena back, and unlocks it.
     fn unlock(&mut self, hold: Self::Hold, arena: Arena<Self::Ground>)
         requires lent { IsReturn ways (kept_of Self.Ground.plain arena) self.old }
         ensures gave { ways.gave self.old hold (kept_of Self.Ground.plain arena) self.new }
-        ensures unlocked { (places : Self) (a : ℕ) (port : Self.Hold) (before : KeptArena) → ways.lent places a port (Some before) self.old →
-            IsUnlocked ways Self.Hold.fast places a port before hold (kept_of Self.Ground.plain arena) self.new };
+        ensures unlocked { Unlocks ways Self.Hold.fast self.old hold
+            (kept_of Self.Ground.plain arena) self.new };
 
     /// Lends the words, outside all holds.
     fn dial_out(&mut self) -> Self::Dial
@@ -51,14 +49,14 @@ pub trait Places {
     fn dial_in(&mut self, d: Self::Dial)
         requires lent { AreReturn ways Self.Dial.dials d self.old }
         ensures gave { ways.dials_gave self.old d self.new }
-        ensures returned { (places : Self) (first : Self.Dial) (steps : List DialStep) → ways.dials_lent places first self.old →
-            AllSteps Self.Dial.dials first steps d → AreReturned ways places steps self.new };
+        ensures returned { ReturnsWords ways Self.Dial.dials self.old d self.new };
 
-    /// Makes room for one push of a block of an arena. Nothing else is seen.
+    /// Makes room for one push of a block of an arena. Nothing else is seen; `NoMemory` comes only where there was no room.
     fn make_room(&mut self, a: u8) -> Result<(), NoMemory>
         requires there { IsTrue (ways.there self.old a) }
         ensures idle { ways.idle self.old self.new }
         ensures room { OnOk result (ways.room self.new a) }
+        ensures full { OnErr result (ways.room self.old a → ⊥) }
         ensures unseen { IsUnseen ways self.old (λ _. 0) (λ _. 0) self.new };
 
     /// Pushes a block of an arena into its fast bin. No memory is asked for.

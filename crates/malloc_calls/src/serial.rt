@@ -1,8 +1,8 @@
 //! The places of one order of calls.
 
-ghost use Rattle.std.specs.Prelude.{◌≡◌, length, map, IfOk};
+ghost use Rattle.std.specs.Prelude.{◌≡◌, length, map, IfSome, IfOk};
 ghost use Rattle.chunk_tags.specs.Tunables.{IsTuned};
-ghost use Rattle.malloc_calls.specs.SerialWays.{IsIdle, IsFirst, EndsAs};
+ghost use Rattle.malloc_calls.specs.SerialWays.{IsKeptMain, IsIdle, IsFirst, EndsAs};
 
 use crate::both::Both;
 use crate::places::Places;
@@ -72,10 +72,22 @@ impl Serial {
         })
     }
 
+    /// Laws; the call does nothing. Main, where it isn't lent, is as it always is between two holds, and there are ten fast
+    /// bins.
+    pub fn laws(&self)
+        ensures kept { IfSome self.now.main (IsKeptMain self.now.tunables) }
+        ensures ten { IfSome self.now.port (λ port. length port.bins.bins ≡ 10) }
+    {
+        if let Some(port) = &self.port {
+            port.bins.laws();
+        }
+    }
+
     /// What it has at the end.
     pub fn end(self, alloc: Global) -> Result<SerialEnd, NoMemory>
         requires { IsIdle self }
-        ensures ends { IfOk result (λ e. EndsAs self e.arenas.items (map (λ l. l.items) e.fast.items) e.dials) }
+        ensures ends { IfOk result (λ e.
+            EndsAs self e.arenas.items (map (λ l. l.items) e.fast.items) e.dials) }
         ensures ten { IfOk result (λ e. length e.fast.items ≡ 10) }
     {
         let port = self.port.unwrap();
@@ -98,16 +110,13 @@ impl Places for Serial {
 
     type Dial = PlainDials;
 
-    ghost use Rattle.std.specs.Prelude.{ℕ, Some};
     ghost use Rattle.fast_bins.specs.PlainBins.{plain_fast};
     ghost use Rattle.malloc_calls.specs.Joined.{joined_fast};
-    ghost use Rattle.malloc_calls.specs.Places.{KeptArena, kept_of};
-    ghost use Rattle.malloc_calls.specs.Playing.{PlainPort};
-    ghost use Rattle.malloc_calls.specs.Returning.{IsReturn, IsUnlocked};
+    ghost use Rattle.malloc_calls.specs.Returning.{IsReturn, Unlocks};
     ghost use Rattle.malloc_calls.specs.SerialPlaces.{serial_laws};
-    ghost use Rattle.malloc_calls.specs.SerialWays.{SerialState, serial_ways};
+    ghost use Rattle.malloc_calls.specs.SerialWays.{kept_ground, state_ways};
 
-    ghost ways = { serial_ways (λ s. s) };
+    ghost ways = { state_ways };
 
     ghost laws = { serial_laws };
 
@@ -117,10 +126,10 @@ impl Places for Serial {
     }
 
     fn unlock(&mut self, hold: Both<PlainFast, PlainDials>, arena: Arena<Ground>)
-        requires lent { IsReturn (serial_ways (λ s. s)) (kept_of (λ g. g.arena) arena) self.old }
-        ensures gave { (serial_ways (λ s. s)).gave self.old hold (kept_of (λ g. g.arena) arena) self.new }
-        ensures unlocked { (places : SerialState) (a : ℕ) (port : PlainPort) (before : KeptArena) → (serial_ways (λ s. s)).lent places a port (Some before) self.old →
-            IsUnlocked (serial_ways (λ s. s)) (joined_fast plain_fast) places a port before hold (kept_of (λ g. g.arena) arena) self.new }
+        requires lent { IsReturn state_ways (kept_ground arena) self.old }
+        ensures gave { state_ways.gave self.old hold (kept_ground arena) self.new }
+        ensures unlocked { Unlocks state_ways (joined_fast plain_fast) self.old hold
+            (kept_ground arena) self.new }
     {
         self.main = Some(arena);
         self.port = Some(hold);

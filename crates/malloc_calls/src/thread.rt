@@ -1,18 +1,20 @@
 //! A thread, and what of its calls its cache answers.
 
-ghost use Rattle.std.specs.Prelude.{◌≡◌, ◌-◌, ◌^◌, ◌<◌, ◌≤◌, ◌⊎◌, None, IsTrue, IfSome, IfOk, OnOk, OnErr, is_ok, option_copied, length};
+ghost use Rattle.std.specs.Prelude.{◌≡◌, ◌-◌, ◌^◌, ◌<◌, ◌≤◌, ◌⊎◌, None, Some, Ok, IsTrue, IfSome, IfOk, OnOk, OnErr, is_ok, option_copied, length};
 ghost use Rattle.std.specs.Option.{option_map};
-ghost use Rattle.chunk_tags.specs.Sizes.{chunk_size_of};
+ghost use Rattle.chunk_tags.specs.Sizes.{chunk_size_of, padded_request};
+ghost use Rattle.chunk_tags.specs.declared.block.Block.{Block as Piece};
 ghost use Rattle.chunk_tags.specs.Tunables.{IsTuned};
 ghost use Rattle.address_space.specs.Ports.{Rose};
 ghost use Rattle.address_space.specs.Spaces.{space_refusals, map_place};
 ghost use Rattle.consolidate_trim.specs.Outside.{means};
 ghost use Rattle.malloc_calls.specs.Calls.{malloc_call, free_call, FitsName};
-ghost use Rattle.malloc_calls.specs.declared.reply.Reply.TheVariants.{Null};
-ghost use Rattle.malloc_calls.specs.declared.reply.Why.TheVariants.{Refused};
+ghost use Rattle.malloc_calls.specs.declared.reply.Reply.TheVariants.{Freed, NotYours, Null};
+ghost use Rattle.malloc_calls.specs.declared.reply.To.TheVariants.{Unmapped};
+ghost use Rattle.malloc_calls.specs.declared.reply.Why.TheVariants.{Big, Refused};
 ghost use Rattle.malloc_calls.specs.Going.{Does};
 ghost use Rattle.malloc_calls.specs.Places.{setting, IsServed, Carries, standing, in_own};
-ghost use Rattle.malloc_calls.specs.Names.{block_at, readied, with_block, without_block, IsHeld};
+ghost use Rattle.malloc_calls.specs.Names.{block_at, with_places_to, with_block, without_block, IsHeld, IsTable};
 ghost use Rattle.malloc_calls.specs.Own.{new_thread, number_of, who_of, own_of, with_own, with_names, names_of, space_of, IsSpaceOf, cached_for, cached_malloc_of, cached_end, cached_free_of};
 
 use crate::cached::CachedFree;
@@ -51,7 +53,8 @@ impl<K: Kernel> Thread<K> {
     /// Makes room for the names up to one. After `NoMemory` nothing changed.
     pub fn ready(&mut self, name: u32) -> Result<(), NoMemory>
         requires { name < 2 ^ 32 - 1 }
-        ensures ok { OnOk result (self.new ≡ with_names (readied name (names_of self.old)) self.old) }
+        ensures ok { OnOk result
+            (self.new ≡ with_names (with_places_to name (names_of self.old)) self.old) }
         ensures err { OnErr result (self.new ≡ self.old) }
     {
         self.own.names.ready(name)
@@ -78,11 +81,14 @@ impl<K: Kernel> Thread<K> {
         &self.own.cache
     }
 
-    /// A law; the call does nothing. The place of the next mapping is an address.
+    /// Laws; the call does nothing. The place of the next mapping is an address, and each name that holds something holds a
+    /// chunk.
     pub fn laws(&self)
-        ensures { map_place (space_of self.now) < 2 ^ 64 }
+        ensures place { map_place (space_of self.now) < 2 ^ 64 }
+        ensures held { IsTable (names_of self.now) }
     {
         let _ = self.space.map_place();
+        self.own.names.laws();
     }
 
     /// malloc, where the cache has a chunk for it. `None` exactly where the size is past `MAX_REQUEST`, its chunk is too large
@@ -92,6 +98,7 @@ impl<K: Kernel> Thread<K> {
         requires empty { block_at (names_of self.old) name ≡ None }
         ensures addr { result ≡ option_map (λ b. b.addr) (cached_for size (own_of self.old).cache) }
         ensures own { self.new ≡ with_own (cached_malloc_of name size (own_of self.old)) self.old }
+        ensures fits { FitsName (chunk_size_of size) name (names_of self.new) }
     {
         self.own.cached_malloc(name, size)
     }
@@ -134,7 +141,7 @@ impl<K: Kernel> Thread<K> {
     }
 
     /// malloc of a size, under a name that holds nothing, in a line of the trace (glibc's `__libc_malloc`). After `NoMemory`
-    /// the names hold what they held.
+    /// the names hold what they held; it never comes where the size is too big.
     pub fn malloc<P: Places>(
         &mut self,
         alloc: Global,
@@ -147,17 +154,22 @@ impl<K: Kernel> Thread<K> {
         requires room { name < length (names_of self.old) }
         requires empty { block_at (names_of self.old) name ≡ None }
         requires tuned { IsTuned t.now }
-        requires served { IsServed P.ways t.now (in_own (own_of self.old)) (standing p.old (space_of self.old)) }
+        requires served { IsServed P.ways t.now (in_own (own_of self.old))
+            (standing p.old (space_of self.old)) }
         ensures does { IfOk result (λ reply.
-            Does (setting P.ways (means P.Hold.fast P.Hold.dials K.port) P.Dial.dials) t.now (who_of line self.old)
-            (malloc_call t.now 0 name size (own_of self.old)) (standing p.old (space_of self.old))
+            Does (setting P.ways (means P.Hold.fast P.Hold.dials K.port) P.Dial.dials) t.now
+            (who_of line self.old) (malloc_call t.now 0 name size (own_of self.old))
+            (standing p.old (space_of self.old))
             (reply, own_of self.new) (standing p.new (space_of self.new))) }
+        ensures big { padded_request size ≡ None → result ≡ Ok (Null Big) }
         ensures fits { IfOk result (λ _. FitsName (chunk_size_of size) name (names_of self.new)) }
 
         // No block is answered only where the kernel refused an ask of this call.
         ensures refused { IfOk result (λ reply. reply ≡ Null Refused
-            → Rose (space_refusals K.port (space_of self.old)) (space_refusals K.port (space_of self.new))) }
-        ensures carries { Carries P.ways (is_ok result) (in_own (own_of self.old)) (standing p.old (space_of self.old))
+            → Rose (space_refusals K.port (space_of self.old))
+            (space_refusals K.port (space_of self.new))) }
+        ensures carries { Carries P.ways (is_ok result)
+            (in_own (own_of self.old)) (standing p.old (space_of self.old))
             (in_own (own_of self.new)) (standing p.new (space_of self.new)) }
         ensures names { OnErr result (names_of self.new ≡ names_of self.old) }
         ensures number { number_of self.new ≡ number_of self.old }
@@ -176,7 +188,8 @@ impl<K: Kernel> Thread<K> {
     }
 
     /// free of a name's block, in a line of the trace (glibc's `__libc_free`). `NotYours` exactly where the name holds nothing.
-    /// After `NoMemory` the name holds its block, or nothing where the block was given up.
+    /// After `NoMemory` the name holds its block, or nothing where the block was given up; it never comes for a mapped block or
+    /// a name that holds nothing.
     pub fn free<P: Places>(
         &mut self,
         alloc: Global,
@@ -186,12 +199,18 @@ impl<K: Kernel> Thread<K> {
         t: &Tunables,
     ) -> Result<Reply, NoMemory>
         requires tuned { IsTuned t.now }
-        requires served { IsServed P.ways t.now (in_own (own_of self.old)) (standing p.old (space_of self.old)) }
+        requires served { IsServed P.ways t.now (in_own (own_of self.old))
+            (standing p.old (space_of self.old)) }
         ensures does { IfOk result (λ reply.
-            Does (setting P.ways (means P.Hold.fast P.Hold.dials K.port) P.Dial.dials) t.now (who_of line self.old)
-            (free_call t.now 0 name (own_of self.old)) (standing p.old (space_of self.old))
+            Does (setting P.ways (means P.Hold.fast P.Hold.dials K.port) P.Dial.dials) t.now
+            (who_of line self.old) (free_call t.now 0 name (own_of self.old))
+            (standing p.old (space_of self.old))
             (reply, own_of self.new) (standing p.new (space_of self.new))) }
-        ensures carries { Carries P.ways (is_ok result) (in_own (own_of self.old)) (standing p.old (space_of self.old))
+        ensures none { block_at (names_of self.old) name ≡ None → result ≡ Ok NotYours }
+        ensures mapped { (b : Piece) → block_at (names_of self.old) name ≡ Some b → b.arena ≡ None
+            → result ≡ Ok (Freed Unmapped) }
+        ensures carries { Carries P.ways (is_ok result)
+            (in_own (own_of self.old)) (standing p.old (space_of self.old))
             (in_own (own_of self.new)) (standing p.new (space_of self.new)) }
         ensures names { OnErr result ((names_of self.new ≡ names_of self.old)
             ⊎ (names_of self.new ≡ without_block name (names_of self.old))) }

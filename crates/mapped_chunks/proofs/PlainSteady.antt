@@ -1,6 +1,7 @@
--- The words for one order of calls are steady. Other crates may cite this file.
+-- The words for one order of calls are steady, and no new length of a mapping changes most of them. Other crates may cite
+-- this file.
 use Rattle.std.proofs.Common.{◌≡◌, ◌*◌, subst, sym, ap}
-use Rattle.mapped_chunks.specs.Mappings.{IsSteady, MayRaise}
+use Rattle.mapped_chunks.specs.Mappings.{IsSteady, IsFixed, MayRaise}
 use Rattle.mapped_chunks.specs.PlainDials.{Allows, MayUnmap, plain_dials}
 use Rattle.mapped_chunks.specs.declared.plain.DialState.{DialState}
 use Rattle.mapped_chunks.specs.declared.plain.PlainDials.{PlainDials}
@@ -15,3 +16,12 @@ plain_steady = record {
       let e : q.state ≡ p.state = ap (λ (d : PlainDials). d.state) step.1 in
       subst (λ (d : DialState). MayRaise d.mmap_threshold size) (sym e) (subst (λ t. MayRaise t size) step.0 may);
 }
+
+pub plain_mmap_threshold_fixed : IsFixed plain_dials (λ d. d.state.mmap_threshold)
+plain_mmap_threshold_fixed = record { stays = λ p q old_len new_len step. ap (λ (d : PlainDials). d.state.mmap_threshold) step.1 }
+
+pub plain_trim_threshold_fixed : IsFixed plain_dials (λ d. d.state.trim_threshold)
+plain_trim_threshold_fixed = record { stays = λ p q old_len new_len step. ap (λ (d : PlainDials). d.state.trim_threshold) step.1 }
+
+pub plain_count_fixed : IsFixed plain_dials (λ d. d.state.mapped)
+plain_count_fixed = record { stays = λ p q old_len new_len step. ap (λ (d : PlainDials). d.state.mapped) step.1 }

@@ -1,15 +1,16 @@
--- Chunks in mappings of their own: glibc 2.31 malloc/malloc.c, sysmalloc where it maps, munmap_chunk, and __libc_free
--- where it raises the thresholds.
-use Rattle.std.specs.Prelude.{◌≡◌, ℕ, ◌+◌, ◌-◌, ◌%◌, ◌^◌, ◌<◌, ◌≤◌, Bool, true, false, ◌&&◌, nat_lt, nat_le, List, [], ◌∷◌, Option, None, IfSome, IfNone, OnSome, option_map, if◌then◌else◌}
+-- Chunks in mappings of their own: glibc 2.31 malloc/malloc.c, sysmalloc where it maps, mremap_chunk, munmap_chunk, and
+-- __libc_free where it raises the thresholds.
+use Rattle.std.specs.Prelude.{◌≡◌, ◌≢◌, ℕ, ◌+◌, ◌-◌, ◌%◌, ◌^◌, ◌<◌, ◌≤◌, Bool, true, false, ◌&&◌, nat_lt, nat_le, List, [], ◌∷◌, Option, Some, None, IfSome, IfNone, OnSome, Result, Ok, Err, IfOk, IfErr, OnOk, option_map, if◌then◌else◌}
 use Rattle.chunk_tags.specs.Dials.{Dial, MmapThreshold}
+use Rattle.chunk_tags.specs.Pages.{mapping_length}
 use Rattle.chunk_tags.specs.Sizes.{IsChunkSize}
 use Rattle.chunk_tags.specs.declared.block.Block.{Block}
 use Rattle.address_space.specs.declared.asks.Back.{Back}
 use Rattle.address_space.specs.declared.asks.Back.TheVariants as backs
 use Rattle.address_space.specs.declared.space.Space.{Space}
 use Rattle.address_space.specs.Ports.{Port}
-use Rattle.address_space.specs.Spaces.{MapsWithin, GivesWithin}
-use Rattle.mapped_chunks.specs.DialPorts.{DialStep, Reads, Raises, Maps, Unmaps, Dialled}
+use Rattle.address_space.specs.Spaces.{MapsWithin, RemapsWithin, GivesWithin, LengthChange, length_change}
+use Rattle.mapped_chunks.specs.DialPorts.{DialStep, Reads, Raises, Maps, Unmaps, Remaps, Dialled}
 
 -- the chunk that fills a mapping
 abbrev pub chunk_of_mapping : ℕ → ℕ → Block
@@ -22,11 +23,14 @@ mapping_start b = b.addr - b.lead
 abbrev pub mapping_bytes : Block → ℕ
 mapping_bytes b = b.lead + b.size
 
--- a chunk in a mapping: it belongs to no arena, and the mapping lies in 64 bits
+-- a chunk in a mapping: it belongs to no arena, it begins at a multiple of 16, and its mapping with a page and lies in
+-- 64 bits
 pub record IsMapped (b : Block) : Type 0 where
   pub arena : b.arena ≡ None
   pub size : IsChunkSize b.size
   pub lead : b.lead ≤ b.addr
+  pub place : b.addr % 16 ≡ 0
+  pub page : mapping_start b % 4096 ≡ 0
   pub fits : b.addr + b.size < 2 ^ 64
 
 -- A mapping that was asked for: where it is granted, a chunk fills it, and it is counted.
@@ -35,6 +39,40 @@ pub record MapsChunk {K P : Type 0} (port : Port K) (dials : Dialled P) (old : S
   pub chunk : IfSome block (λ b. b ≡ chunk_of_mapping len b.addr)
   pub counted : OnSome block (dials.step old.1 (Maps len) new.1)
   pub refused : IfNone block (new.1 ≡ old.1)
+
+-- the length that the mapping of a chunk needs for a size: that, its lead and a size word, in whole pages
+abbrev pub remap_length : Block → ℕ → ℕ
+remap_length b nb = mapping_length (nb + b.lead)
+
+-- the chunk behind the same lead in a mapping of a length
+abbrev pub chunk_with_lead : ℕ → Block → ℕ → Block
+chunk_with_lead len b start = record { addr = start + b.lead; size = len - b.lead; lead = b.lead; arena = None }
+
+-- its mapping, with another length
+abbrev pub mapping_change : Block → ℕ → LengthChange
+mapping_change b len = length_change (mapping_start b) (mapping_bytes b) len
+
+-- where the mapping then begins, if the ask was granted
+abbrev pub granted_start : Result Block Block → Option ℕ
+granted_start (Ok c) = Some (mapping_start c)
+granted_start (Err c) = None
+
+-- Another length that was asked for: where it is granted, the chunk fills the mapping behind its lead, and the new length
+-- is counted in place of the old one. Where it is refused, the chunk is handed back as it was.
+pub record ChangesLength {K P : Type 0} (port : Port K) (dials : Dialled P) (old : Space K × P) (b : Block) (len : ℕ) (block : Result Block Block) (new : Space K × P) : Type 0 where
+  pub asked : RemapsWithin port old.0 (mapping_change b len) (granted_start block) new.0
+  pub chunk : IfOk block (λ c. c ≡ chunk_with_lead len b (mapping_start c))
+  pub counted : OnOk block (dials.step old.1 (Remaps (mapping_bytes b) len) new.1)
+  pub refused : IfErr block (λ c. (c ≡ b) × (new.1 ≡ old.1))
+
+-- A mapped chunk whose mapping shall have a length: where it has that, nothing is asked.
+pub record RemapsChunk {K P : Type 0} (port : Port K) (dials : Dialled P) (old : Space K × P) (b : Block) (len : ℕ) (block : Result Block Block) (new : Space K × P) : Type 0 where
+  pub same : len ≡ mapping_bytes b → (block ≡ Ok b) × (new ≡ old)
+  pub other : len ≢ mapping_bytes b → ChangesLength port dials old b len block new
+
+-- what is read of the words and no new length of a mapping changes, as the thresholds
+pub record IsFixed {P : Type 0} (dials : Dialled P) (word : P → ℕ) : Type 0 where
+  pub stays : (p q : P) (old_len new_len : ℕ) → dials.step p (Remaps old_len new_len) q → word q ≡ word p
 
 -- a chunk's mapping, its lead included, goes back
 abbrev pub unmapping : Block → Back

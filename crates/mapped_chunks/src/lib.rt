@@ -5,7 +5,7 @@ mod mapping;
 mod plain;
 mod port;
 
-pub use mapping::{map, unmap, unmap_freed};
+pub use mapping::{map, remap, unmap, unmap_freed};
 pub use plain::{DialState, PlainDials};
 pub use port::Dials;
 

@@ -1,11 +1,11 @@
 //! Chunks in mappings of their own.
 
-ghost use Rattle.std.specs.Prelude.{◌≡◌, false, IfSome};
+ghost use Rattle.std.specs.Prelude.{◌≡◌, ◌≢◌, ℕ, ◌+◌, ◌%◌, ◌^◌, ◌<◌, ◌≤◌, false, IfSome, IfOk};
 ghost use Rattle.chunk_tags.specs.Pages.{mapping_length};
 ghost use Rattle.chunk_tags.specs.Sizes.{IsRequestSize};
-ghost use Rattle.address_space.specs.Spaces.{map_passes};
-ghost use Rattle.mapped_chunks.specs.DialPorts.{Maps, Unmaps};
-ghost use Rattle.mapped_chunks.specs.Mappings.{mapping_bytes, IsMapped, MapsChunk, UnmapsChunk, FreesChunk, IsSteady};
+ghost use Rattle.address_space.specs.Spaces.{map_passes, remap_passes};
+ghost use Rattle.mapped_chunks.specs.DialPorts.{Maps, Unmaps, Remaps};
+ghost use Rattle.mapped_chunks.specs.Mappings.{mapping_bytes, remap_length, mapping_change, IsMapped, MapsChunk, ChangesLength, RemapsChunk, IsFixed, UnmapsChunk, FreesChunk, IsSteady};
 
 use crate::port::Dials;
 use address_space::{Back, Kernel, Space};
@@ -37,6 +37,67 @@ pub fn map<K: Kernel, D: Dials>(nb: Size, space: &mut Space<K>, dials: &mut D) -
         lead: 0,
         arena: None,
     })
+}
+
+/// Asks for another length of a mapped chunk's mapping, so that the chunk has at least `nb` bytes, and counts it (glibc's
+/// `mremap_chunk`). Where the mapping has that length already, nothing is asked. `Err` hands the chunk back, exactly where
+/// the ask was refused.
+pub fn remap<K: Kernel, D: Dials>(
+    b: Block,
+    nb: Size,
+    space: &mut Space<K>,
+    dials: &mut D,
+) -> Result<Block, Block>
+    requires size { IsRequestSize nb }
+    requires mapped { IsMapped b }
+    requires fits { nb + b.lead + 8 + 4095 < 2 ^ 64 }
+    requires counted { remap_length b nb ≢ mapping_bytes b
+        → remap_passes space.old (mapping_change b (remap_length b nb)) ≡ false
+        → D.dials.allows dials.old (Remaps (mapping_bytes b) (remap_length b nb)) }
+    ensures remaps { RemapsChunk K.port D.dials (space.old, dials.old) b (remap_length b nb) result
+        (space.new, dials.new) }
+    ensures mapped { IfOk result IsMapped }
+    ensures fits { IfOk result (λ c. nb + 8 ≤ c.size) }
+    ensures lead { IfOk result (λ c. c.lead ≡ b.lead) }
+    ensures thresholds { (word : D → ℕ) → IsFixed D.dials word → word dials.new ≡ word dials.old }
+{
+    let len = page_up(nb.0 + b.lead + 8);
+    if len == b.lead + b.size.0 {
+        Ok(b)
+    } else {
+        change_length(b, len, space, dials)
+    }
+}
+
+fn change_length<K: Kernel, D: Dials>(
+    b: Block,
+    len: u64,
+    space: &mut Space<K>,
+    dials: &mut D,
+) -> Result<Block, Block>
+    requires mapped { IsMapped b }
+    requires differ { len ≢ mapping_bytes b }
+    requires pages { len % 4096 ≡ 0 }
+    requires room { b.lead + 32 ≤ len }
+    requires counted { remap_passes space.old (mapping_change b len) ≡ false
+        → D.dials.allows dials.old (Remaps (mapping_bytes b) len) }
+    ensures changes { ChangesLength K.port D.dials (space.old, dials.old) b len result
+        (space.new, dials.new) }
+    ensures mapped { IfOk result IsMapped }
+{
+    let old_len = b.lead + b.size.0;
+    match space.remap(b.addr.0 - b.lead, old_len, len) {
+        Some(start) => {
+            dials.note_remap(old_len, len);
+            Ok(Block {
+                addr: Addr(start + b.lead),
+                size: Size(len - b.lead),
+                lead: b.lead,
+                arena: None,
+            })
+        }
+        None => Err(b),
+    }
 }
 
 /// Gives a mapped chunk's mapping back, and counts it no more (glibc's `munmap_chunk`).

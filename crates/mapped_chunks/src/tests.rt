@@ -75,6 +75,52 @@ fn a_lead_goes_back_with_its_mapping(rt: HostRuntime) -> Result<(), Fail> {
 }
 
 #[test]
+fn a_longer_mapping_moves_and_a_refused_one_stays(rt: HostRuntime) -> Result<(), Fail> {
+    let mut refuse_at = Vec::new(rt.alloc());
+    refuse_at.push(4)?;
+    let mut dials = PlainDials { state: START };
+    let mut space = Space::new(Budget::new(1 << 30, refuse_at), 1, windows());
+    let first = map(Size(131_088), &mut space, &mut dials).ok_or("refused")?;
+    let longer = remap(first, Size(200_000), &mut space, &mut dials)?;
+    assert_eq!(rt; longer.addr, Addr(0x6010_0002_1000));
+    assert_eq!(rt; longer.size, Size(200_704));
+    assert_eq!(rt; dials.state.bytes, 200_704);
+    let shorter = remap(longer, Size(4096), &mut space, &mut dials)?;
+    assert_eq!(rt; shorter.addr, Addr(0x6010_0002_1000));
+    assert_eq!(rt; shorter.size, Size(8192));
+    let same = remap(shorter, Size(8176), &mut space, &mut dials)?;
+    assert_eq!(rt; same.size, Size(8192));
+    match remap(same, Size(8192), &mut space, &mut dials) {
+        Ok(_) => assert!(rt; false, "the fourth ask"),
+        Err(block) => assert_eq!(rt; block.size, Size(8192)),
+    }
+    assert_eq!(rt; dials.state.bytes, 8192);
+    assert_eq!(rt; dials.state.max_bytes, 200_704);
+    assert_eq!(rt; dials.state.max_mapped, 1);
+    assert_eq!(rt; dials.mmap_threshold(), 131_072);
+    Ok(())
+}
+
+#[test]
+fn a_lead_moves_with_its_mapping(rt: HostRuntime) -> Result<(), Fail> {
+    let mut dials = PlainDials { state: START };
+    let mut space = Space::new(Always, 0, windows());
+    let whole = map(Size(131_088), &mut space, &mut dials).ok_or("refused")?;
+    let block = Block {
+        addr: Addr(whole.addr.0 + 64),
+        size: Size(whole.size.0 - 64),
+        lead: 64,
+        arena: None,
+    };
+    let longer = remap(block, Size(135_104), &mut space, &mut dials)?;
+    assert_eq!(rt; longer.addr, Addr(0x6000_0002_1040));
+    assert_eq!(rt; longer.size, Size(139_200));
+    assert_eq!(rt; longer.lead, 64);
+    assert_eq!(rt; dials.state.bytes, 139_264);
+    Ok(())
+}
+
+#[test]
 fn another_length_is_counted_once(rt: HostRuntime) {
     let mut dials = PlainDials { state: START };
     dials.note_map(8192);

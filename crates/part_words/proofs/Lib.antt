@@ -1,5 +1,6 @@
 mod Filling
 pub mod Opening
 mod Passing
+pub mod Seeing
 pub mod Updates
 mod WordLaws

@@ -20,6 +20,10 @@ word_at ws default at =
     then slice_index_or (slice_index_or ws.parts (n / ws.width) []) (n % ws.width) default
     else default
 
+-- the same parts, each word seen through a function
+abbrev pub seen_through : {T U : Type 0} → (T → U) → Parts T → Parts U
+seen_through f ws = record { base = ws.base; width = ws.width; parts = map (map f) ws.parts }
+
 -- a function of the address, with another value at one address
 abbrev pub update : {T : Type 0} → (ℕ → T) → ℕ → T → ℕ → T
 update f at value a = if nat_eq a at then value else f a

@@ -1,6 +1,6 @@
 //! Words by address.
 
-ghost use Rattle.std.specs.Prelude.{◌≡◌, ℕ, ◌*◌, MatchOption, IfSome, IfNone, ◌+◌, ◌-◌, ◌<◌, ◌≤◌, ◌^◌, ◌++◌, [], max, length, map, replicate, OnOk, OnErr};
+ghost use Rattle.std.specs.Prelude.{◌≡◌, ℕ, ◌*◌, ◌/◌, ◌%◌, MatchOption, IfSome, IfNone, ◌+◌, ◌-◌, ◌<◌, ◌≤◌, ◌^◌, ◌++◌, [], max, length, map, replicate, OnOk, OnErr};
 ghost use Rattle.part_words.specs.Extents.{extended, changed_at, IsOpen, IsWithinPart};
 ghost use Rattle.part_words.specs.Parts.{no_words, word_at, update, extent_of, filled};
 
@@ -50,9 +50,9 @@ impl<T: Copy> Words<T> {
         requires { IsOpen (extent_of self.now) at }
         ensures { (d : T) → result ≡ word_at self.now d at }
     {
-        let word = (at - self.base) / 16;
-        let part = &self.parts[(word / self.width) as usize];
-        part[(word % self.width) as usize]
+        let (part, place) = place_of((at - self.base) / 16, self.width);
+        let words = &self.parts[part];
+        words[place]
     }
 
     /// Writes the word of an address, in constant time.
@@ -61,9 +61,9 @@ impl<T: Copy> Words<T> {
         ensures word { (d : T) → word_at self.new d ≡ update (word_at self.old d) at value }
         ensures extent { extent_of self.new ≡ extent_of self.old }
     {
-        let word = (at - self.base) / 16;
-        let part = &mut self.parts[(word / self.width) as usize];
-        part[(word % self.width) as usize] = value;
+        let (part, place) = place_of((at - self.base) / 16, self.width);
+        let words = &mut self.parts[part];
+        words[place] = value;
     }
 
     /// Opens the words of a range, with `fill` in those that weren't open. Nothing changes where memory is short.
@@ -105,6 +105,19 @@ impl<T: Copy> Words<T> {
             place = 0;
         }
         None
+    }
+}
+
+/// The part of a word, and the word's place in it. Nothing is divided for the first part, which has most words.
+fn place_of(word: u64, width: u64) -> (usize, usize)
+    requires { 0 < width }
+    ensures part { result.0 ≡ word / width }
+    ensures place { result.1 ≡ word % width }
+{
+    if word < width {
+        (0, word as usize)
+    } else {
+        ((word / width) as usize, (word % width) as usize)
     }
 }
 

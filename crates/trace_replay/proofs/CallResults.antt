@@ -16,7 +16,7 @@ use Rattle.malloc_calls.specs.Going.{Told, Does}
 use Rattle.malloc_calls.specs.Places.{Setting, Standing}
 use Rattle.trace_replay.specs.Naming.{EmptiesName}
 use Rattle.arena_core.specs.declared.journal.Who.{Who}
-use Rattle.malloc_calls.specs.Calls.{Call, Done, Holds, Pushes, Frees, then_call, opening, named_as, taken_of, from_cache, padded_malloc, malloc_call, to_cache, freed_block, freed, free_call}
+use Rattle.malloc_calls.specs.Calls.{Call, Done, Holds, Pushes, Frees, then_call, opening, names_with, taken_of, from_cache, padded_malloc, malloc_call, to_cache, free_of_block, free_of_name, free_call}
 
 abbrev pub AllResults : {A : Type 0} → (A → Type 0) → Call A → Type 0
 AllResults P (Done x) = P x
@@ -37,7 +37,7 @@ results_then P (Frees b c) f h = results_then P c f h
 abbrev pub KeepsOthers : ℕ → List (Option Block) → Reply × Own → Type 0
 KeepsOthers name names r = (n : ℕ) → (n ≡ name → ⊥) → block_at r.1.names n ≡ block_at names n
 
-named_others : (name : ℕ) (o : Option Block) (names : List (Option Block)) (n : ℕ) → (n ≡ name → ⊥) → block_at (named_as name o names) n ≡ block_at names n
+named_others : (name : ℕ) (o : Option Block) (names : List (Option Block)) (n : ℕ) → (n ≡ name → ⊥) → block_at (names_with name o names) n ≡ block_at names n
 named_others name None names n other = refl
 named_others name (Some b) names n other = get_or-set_other names name n (Some b) None other
 
@@ -77,13 +77,13 @@ to_cache_empties t a name b names cache =
     (λ place ended left. emptied name names _ left))
 
 freed_block_empties : (t : Tunables) (home name : ℕ) (b : Block) (o : Option ℕ) (own : Own) →
-    AllResults (EmptiesName name own.names) (freed_block t home name b o own)
+    AllResults (EmptiesName name own.names) (free_of_block t home name b o own)
 freed_block_empties t home name b None own = emptied name own.names _ own.cache
 freed_block_empties t home name b (Some a) own =
     results_then _ (opening t home own.cache) _ (λ cache. to_cache_empties t a name b own.names cache)
 
 freed_empties : (t : Tunables) (home name : ℕ) (o : Option Block) (own : Own) → block_at own.names name ≡ o →
-    AllResults (EmptiesName name own.names) (freed t home name o own)
+    AllResults (EmptiesName name own.names) (free_of_name t home name o own)
 freed_empties t home name None own holds = record { others = λ n other. refl; gone = holds }
 freed_empties t home name (Some b) own holds = freed_block_empties t home name b b.arena own
 

@@ -7,7 +7,7 @@ use Rattle.std.proofs.lemmas.List.Sums.{fold-append}
 use Rattle.chunk_tags.specs.Sizes.{chunk_size_of}
 use Rattle.chunk_tags.specs.declared.block.Block.{Block}
 use Rattle.arena_core.specs.Arenas.{need_of}
-use Rattle.malloc_calls.specs.Names.{block_at, readied}
+use Rattle.malloc_calls.specs.Names.{block_at, with_places_to}
 use Rattle.malloc_calls.specs.declared.own.Own.{Own}
 use Rattle.malloc_calls.specs.declared.reply.Reply.{Reply}
 use Rattle.trace_text.specs.declared.trace.Call.{Call}
@@ -34,8 +34,8 @@ padded [] n k = nothing_at k n
 padded (o ∷ os) zero k = refl
 padded (o ∷ os) (suc n) k = padded os n k
 
-pub block_at-readied : (name n : ℕ) (names : List (Option Block)) → block_at (readied name names) n ≡ block_at names n
-block_at-readied name n names = padded names n (name + 1 - length names)
+pub block_at-with_places_to : (name n : ℕ) (names : List (Option Block)) → block_at (with_places_to name names) n ≡ block_at names n
+block_at-with_places_to name n names = padded names n (name + 1 - length names)
 
 -- ---- what malloc and free leave
 
@@ -48,14 +48,14 @@ asked_here : (name size : ℕ) (was : Option ℕ) (b : Block) → need_of b.aren
 asked_here name size was b le = subst (λ (v : Bool). IsFit (cond v (Some size) was) b) (sym (eq-eqb name name refl)) le
 
 pub malloc_leaves : (line : Line) (name size : ℕ) (names : List (Option Block)) (r : Reply × Own) → line.thread ≡ 0 → line.call ≡ Malloc name size →
-    MakesName name size (readied name names) r → LeavesNames line names r.1.names
+    MakesName name size (with_places_to name names) r → LeavesNames line names r.1.names
 malloc_leaves line name size names r thread call makes = record {
   thread = thread;
   held = λ n was before not_held.
       let h : (name == n || was) ≡ false = ap (held_after n was) (sym call) ∙ not_held in
       let parts : ((name == n) ≡ false) × (was ≡ false) = or_false (name == n) was h in
       let other : n ≡ name → ⊥ = grind (arith, nat_tests) in
-      makes.others n other ∙ block_at-readied name n names ∙ before parts.1;
+      makes.others n other ∙ block_at-with_places_to name n names ∙ before parts.1;
   fit = λ n was before b is.
       subst (λ c. IsFit (asked_next n c was) b) (sym call)
       (elim (eqb_tells name n) [
@@ -64,7 +64,7 @@ malloc_leaves line name size names r thread call makes = record {
             subst P same.1 (λ here. asked_here name size was b (makes.made b here)) is
         | inr other ↦
             subst (λ (v : Bool). IsFit (cond v (Some size) was) b) (sym other.0)
-            (before b (sym (makes.others n (λ e. other.1 (sym e)) ∙ block_at-readied name n names) ∙ is))
+            (before b (sym (makes.others n (λ e. other.1 (sym e)) ∙ block_at-with_places_to name n names) ∙ is))
       ]);
 }
 
@@ -73,7 +73,7 @@ and_false true y h = inl refl
 and_false false y h = inr h
 
 pub free_leaves : (line : Line) (name : ℕ) (names : List (Option Block)) (r : Reply × Own) → line.thread ≡ 0 → line.call ≡ Free name →
-    EmptiesName name (readied name names) r → LeavesNames line names r.1.names
+    EmptiesName name (with_places_to name names) r → LeavesNames line names r.1.names
 free_leaves line name names r thread call empties = record {
   thread = thread;
   held = λ n was before not_held.
@@ -83,14 +83,14 @@ free_leaves line name names r thread call empties = record {
         | inr free ↦
             elim (eqb_tells name n) [
               | inl same ↦ ap (block_at r.1.names) (sym same.1) ∙ empties.gone
-              | inr other ↦ empties.others n (λ e. other.1 (sym e)) ∙ block_at-readied name n names ∙ before free
+              | inr other ↦ empties.others n (λ e. other.1 (sym e)) ∙ block_at-with_places_to name n names ∙ before free
             ]
       ];
   fit = λ n was before b is.
       subst (λ c. IsFit (asked_next n c was) b) (sym call)
       (elim (eqb_tells name n) [
         | inl same ↦ let no : None ≡ Some b = sym (ap (block_at r.1.names) (sym same.1) ∙ empties.gone) ∙ is in absurd cc
-        | inr other ↦ before b (sym (empties.others n (λ e. other.1 (sym e)) ∙ block_at-readied name n names) ∙ is)
+        | inr other ↦ before b (sym (empties.others n (λ e. other.1 (sym e)) ∙ block_at-with_places_to name n names) ∙ is)
       ]);
 }
 

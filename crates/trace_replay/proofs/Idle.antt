@@ -9,7 +9,7 @@ use Rattle.thread_cache.specs.Held.{IsSound}
 use Rattle.std.proofs.lemmas.List.Elements.{All-from_recursion}
 use Rattle.std.proofs.lemmas.List.Sums.{sum_by-cons}
 use Rattle.chunk_tags.specs.declared.tiles.Tile.{Tile}
-use Rattle.heap_top.specs.MainRanges.{IsMainFilled}
+use Rattle.arena_rules.specs.MainPlaces.{IsMainPlaced}
 use Rattle.arena_rules.specs.PlainArena.{Plain}
 use Rattle.stats_text.specs.declared.views.Place.{Place}
 use Rattle.stats_text.specs.declared.views.TileView.{TileView}
@@ -49,12 +49,12 @@ idle_tiles found [] = omega (arith, idle-nil)
 idle_tiles found (t ∷ ts) =
     omega (arith, sum_by-cons (λ (x : Tile). x.size) t ts, idle_tiles found ts, shown_most t (place_in found t) (shown_tiles found ts))
 
-pub idle_in_main : (a : Plain) (found : List Found) → IsMainFilled a → idle_bytes_of (shown_tiles found a.tiles) ≤ a.system
-idle_in_main a found filled = omega (arith, idle_tiles found a.tiles, filled.placed.system)
+pub idle_in_main : (a : Plain) (found : List Found) → IsMainPlaced a → idle_bytes_of (shown_tiles found a.tiles) ≤ a.system
+idle_in_main a found placed = omega (arith, idle_tiles found a.tiles, placed.tiled)
 
-pub system_fits : (a : Plain) → IsMainFilled a → a.system < 2 ^ 32
-system_fits a filled =
-    omega (arith, filled.system, filled.placed.limit, filled.placed.piece_limit)
+pub system_fits : (a : Plain) → IsMainPlaced a → a.system < 2 ^ 32
+system_fits a placed =
+    omega (arith, placed.system, placed.limit, placed.piece_limit)
 
 -- a cache has at most 64 lists
 pub sixty_four : (v : List (Vec ℕ)) (c : CacheValue) → map (λ list. list.items) v ≡ addresses_of c → IfSome c IsSound → length v ≤ 64

@@ -1,10 +1,12 @@
 mod Numbered
+mod Answering
 mod CallResults
 mod HeldNames
 mod Refusals
 mod Idle
 mod Placing
 mod Finding
+mod Mappings
 mod Tiles
 mod Serving
 mod ReplayLoop

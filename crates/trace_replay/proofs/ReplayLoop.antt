@@ -1,6 +1,8 @@
 -- A run over lines, one after another.
-use Rattle.std.proofs.Common.{◌≡◌, ℕ, false, List, [], ◌∷◌, ◌++◌, Result, Ok, Err, refl, sym, ap, ◌∙◌, append_assoc, append-nil, ◌+◌, ◌<◌, length, get_or, drop, add-one, subst, arith}
+use Rattle.std.proofs.Common.{◌≡◌, ℕ, false, List, [], ◌∷◌, ◌++◌, Result, Ok, Err, refl, sym, ap, ◌∙◌, append_assoc, append-nil, ◌+◌, ◌<◌, ◌≤◌, inl, inr, length, get_or, take, drop, add-one, subst, arith}
 use Rattle.std.proofs.Math.Seq.{drop-cons}
+use Rattle.std.proofs.lemmas.Bool.{cases_lt}
+use Rattle.std.proofs.lemmas.List.{take_more, take_all, take-append-drop}
 use Rattle.chunk_tags.specs.declared.tunables.Tunables.{Tunables}
 use Rattle.address_space.specs.Ports.{Port}
 use Rattle.malloc_calls.specs.declared.reply.Reply.{Reply}
@@ -11,19 +13,21 @@ use Rattle.trace_replay.specs.declared.exit.Exit.{Exit}
 use Rattle.trace_replay.specs.declared.exit.Exit.TheVariants.{NoMemory}
 use Rattle.trace_replay.specs.World.{World, step}
 use Rattle.trace_replay.specs.Records.{outcome_of, record_of, records_of}
-use Rattle.trace_replay.specs.SerialText.{Run, in_front, answer_of, answered, replayed}
+use Rattle.trace_replay.specs.SerialText.{Run, in_front, answer_of, line_and_rest, run_of}
 use Rattle.trace_replay.specs.Replays.{RefusesAs, AppendsRecord, AppendsRecords}
+use Rattle.trace_replay.specs.Tiling.{IsTiled, FitsWithin, TilesAfter}
 
 -- replies in front of what the rest of a run gives
 abbrev pub in_fronts : {K : Type 0} → List (Line × Reply) → Result (Run K) Exit → Result (Run K) Exit
 in_fronts replies (Ok run) = Ok (record run { replies = replies ++ run.replies })
 in_fronts replies (Err exit) = Err exit
 
--- the replies so far, in front of those to the rest, are those to all; and their records are written
-pub record SoFar {K : Type 0} (port : Port K) (t : Tunables) (lines rest : List Line) (first now : World K) (before out : List ℕ) : Type 0 where
+-- the replies so far, in front of what any further lines give, are what these give behind the lines in front; and their
+-- records are written
+pub record SoFar {K : Type 0} (port : Port K) (t : Tunables) (front : List Line) (first now : World K) (before out : List ℕ) : Type 0 where
   pub replies : List (Line × Reply)
   pub written : out ≡ before ++ records_of replies
-  pub all : in_fronts replies (replayed port t rest now) ≡ replayed port t lines first
+  pub all : (rest : List Line) → in_fronts replies (run_of port t rest now) ≡ run_of port t (front ++ rest) first
 
 in_fronts-nil : {K : Type 0} (r : Result (Run K) Exit) → in_fronts [] r ≡ r
 in_fronts-nil (Ok run) = refl
@@ -43,13 +47,13 @@ nothing_written : (before : List ℕ) → before ≡ before ++ records_of []
 unfolding records_of
 nothing_written before = sym (append-nil before)
 
-pub nothing_yet : {K : Type 0} (port : Port K) (t : Tunables) (lines : List Line) (first : World K) (before : List ℕ) → SoFar port t lines lines first first before before
-nothing_yet port t lines first before = record { replies = []; written = nothing_written before; all = in_fronts-nil (replayed port t lines first) }
+pub nothing_yet : {K : Type 0} (port : Port K) (t : Tunables) (first : World K) (before : List ℕ) → SoFar port t [] first first before before
+nothing_yet port t first before = record { replies = []; written = nothing_written before; all = λ rest. in_fronts-nil (run_of port t rest first) }
 
 -- what a line and the rest give
-replayed-cons : {K : Type 0} (port : Port K) (t : Tunables) (line : Line) (rest : List Line) (w : World K) → replayed port t (line ∷ rest) w ≡ answered line (answer_of line (step port t line w)) (replayed port t rest)
-unfolding replayed
-replayed-cons port t line rest w = refl
+run_of-cons : {K : Type 0} (port : Port K) (t : Tunables) (line : Line) (rest : List Line) (w : World K) → run_of port t (line ∷ rest) w ≡ line_and_rest line (answer_of line (step port t line w)) (run_of port t rest)
+unfolding run_of
+run_of-cons port t line rest w = refl
 
 -- a line's text goes into its record
 pub line_recorded : {K : Type 0} (line : Line) (reply : Reply) (w : World K) (answer : Reply × World K) (out after text : List ℕ) → answer ≡ (reply, w) → text ≡ spelling_of line → after ≡ out ++ record_text text (outcome_of reply) false → AppendsRecord out after line w answer
@@ -58,25 +62,27 @@ line_recorded line reply w answer out after text is spelled written = record {
   world = ap (λ (a : Reply × World _). a.1) is;
 }
 
-one_more : {K : Type 0} (port : Port K) (t : Tunables) (lines : List Line) (line : Line) (rest : List Line) (first now next : World K) (before out after : List ℕ) (answer : Reply × World K) → SoFar port t lines (line ∷ rest) first now before out → answer_of line (step port t line now) ≡ Ok answer → AppendsRecord out after line next answer → SoFar port t lines rest first next before after
-one_more port t lines line rest first now next before out after answer so_far is recorded =
+one_more : {K : Type 0} (port : Port K) (t : Tunables) (front : List Line) (line : Line) (first now next : World K) (before out after : List ℕ) (answer : Reply × World K) → SoFar port t front first now before out → answer_of line (step port t line now) ≡ Ok answer → AppendsRecord out after line next answer → SoFar port t (front ++ line ∷ []) first next before after
+one_more port t front line first now next before out after answer so_far is recorded =
     let x : Line × Reply = (line, answer.0) in
     record {
       replies = so_far.replies ++ x ∷ [];
       written = recorded.text ∙ ap (λ (front : List ℕ). front ++ record_of x) so_far.written
           ∙ (append_assoc before (records_of so_far.replies) (record_of x) ∙ ap (λ text. before ++ text) (sym (records_of-push so_far.replies x)));
-      all = in_fronts-push so_far.replies x (replayed port t rest next)
-          ∙ ap (λ (w : World _). in_fronts so_far.replies (in_front x (replayed port t rest w))) (sym recorded.world)
-          ∙ ap (λ (r : Result (Reply × World _) Exit). in_fronts so_far.replies (answered line r (replayed port t rest))) (sym is)
-          ∙ ap (in_fronts so_far.replies) (sym (replayed-cons port t line rest now))
-          ∙ so_far.all;
+      all = λ rest.
+          in_fronts-push so_far.replies x (run_of port t rest next)
+          ∙ ap (λ (w : World _). in_fronts so_far.replies (in_front x (run_of port t rest w))) (sym recorded.world)
+          ∙ ap (λ (r : Result (Reply × World _) Exit). in_fronts so_far.replies (line_and_rest line r (run_of port t rest))) (sym is)
+          ∙ ap (in_fronts so_far.replies) (sym (run_of-cons port t line rest now))
+          ∙ so_far.all (line ∷ rest)
+          ∙ ap (λ (lines : List Line). run_of port t lines first) (sym (append_assoc front (line ∷ []) rest));
     }
 
-refused : {K : Type 0} (port : Port K) (t : Tunables) (lines : List Line) (line : Line) (rest : List Line) (first now : World K) (before out : List ℕ) (exit : Exit) → SoFar port t lines (line ∷ rest) first now before out → answer_of line (step port t line now) ≡ Err exit → replayed port t lines first ≡ Err exit
-refused port t lines line rest first now before out exit so_far is =
-    sym so_far.all
-    ∙ ap (in_fronts so_far.replies) (replayed-cons port t line rest now
-    ∙ ap (λ (r : Result (Reply × World _) Exit). answered line r (replayed port t rest)) is)
+refused : {K : Type 0} (port : Port K) (t : Tunables) (front : List Line) (line : Line) (rest : List Line) (first now : World K) (before out : List ℕ) (exit : Exit) → SoFar port t front first now before out → answer_of line (step port t line now) ≡ Err exit → run_of port t (front ++ line ∷ rest) first ≡ Err exit
+refused port t front line rest first now before out exit so_far is =
+    sym (so_far.all (line ∷ rest))
+    ∙ ap (in_fronts so_far.replies) (run_of-cons port t line rest now
+    ∙ ap (λ (r : Result (Reply × World _) Exit). line_and_rest line r (run_of port t rest)) is)
 
 drop_at : (lines : List Line) (i : ℕ) (d : Line) → i < length lines → drop i lines ≡ get_or lines i d ∷ drop (i + 1) lines
 drop_at lines i d lt = rw add-one (drop-cons lines i d lt)
@@ -86,25 +92,72 @@ pub next_texts : (lines : List Line) (i : ℕ) (old now : List (List ℕ)) (text
 next_texts [] i old now text lt is step = let no : ⊥ = omega arith in absurd no
 next_texts (d ∷ lines) i old now text lt is step = (step (get_or (d ∷ lines) i d) (drop (i + 1) (d ∷ lines)) (is ∙ ap texts_of (drop_at (d ∷ lines) i d lt))).1
 
+-- the lines in front, one line, and those behind it
+parts_at : (lines : List Line) (i : ℕ) (d : Line) → i < length lines → take i lines ++ get_or lines i d ∷ drop (i + 1) lines ≡ lines
+parts_at lines i d lt = ap (λ (rest : List Line). take i lines ++ rest) (sym (drop_at lines i d lt)) ∙ take-append-drop i lines
+
 -- the loop goes on behind a line that was answered, under tunables that stayed
-pub goes_on : {K : Type 0} (port : Port K) (t now_t : Tunables) (lines : List Line) (i : ℕ) (d : Line) (first now next : World K) (before out after : List ℕ) (answer : Reply × World K) → now_t ≡ t → i < length lines → SoFar port t lines (drop i lines) first now before out → answer_of (get_or lines i d) (step port now_t (get_or lines i d) now) ≡ Ok answer → AppendsRecord out after (get_or lines i d) next answer → SoFar port t lines (drop (i + 1) lines) first next before after
+pub goes_on : {K : Type 0} (port : Port K) (t now_t : Tunables) (lines : List Line) (i : ℕ) (d : Line) (first now next : World K) (before out after : List ℕ) (answer : Reply × World K) → now_t ≡ t → i < length lines → SoFar port t (take i lines) first now before out → answer_of (get_or lines i d) (step port now_t (get_or lines i d) now) ≡ Ok answer → AppendsRecord out after (get_or lines i d) next answer → SoFar port t (take (i + 1) lines) first next before after
 goes_on port t now_t lines i d first now next before out after answer same lt so_far is recorded =
-    one_more port t lines (get_or lines i d) (drop (i + 1) lines) first now next before out after answer
-    (subst (λ (rest : List Line). SoFar port t lines rest first now before out) (drop_at lines i d lt) so_far)
-    (subst (λ u. answer_of (get_or lines i d) (step port u (get_or lines i d) now) ≡ Ok answer) same is) recorded
+    subst (λ (front : List Line). SoFar port t front first next before after) (sym (take_more lines i d lt))
+    (one_more port t (take i lines) (get_or lines i d) first now next before out after answer so_far
+    (subst (λ u. answer_of (get_or lines i d) (step port u (get_or lines i d) now) ≡ Ok answer) same is) recorded)
 
 -- where a line is refused, the run is
-pub ends : {K : Type 0} (port : Port K) (t now_t : Tunables) (lines : List Line) (i : ℕ) (d : Line) (first now : World K) (before out : List ℕ) (exit : Exit) → now_t ≡ t → i < length lines → SoFar port t lines (drop i lines) first now before out → RefusesAs exit (answer_of (get_or lines i d) (step port now_t (get_or lines i d) now)) → RefusesAs exit (replayed port t lines first)
+pub ends : {K : Type 0} (port : Port K) (t now_t : Tunables) (lines : List Line) (i : ℕ) (d : Line) (first now : World K) (before out : List ℕ) (exit : Exit) → now_t ≡ t → i < length lines → SoFar port t (take i lines) first now before out → RefusesAs exit (answer_of (get_or lines i d) (step port now_t (get_or lines i d) now)) → RefusesAs exit (run_of port t lines first)
 ends port t now_t lines i d first now before out NoMemory same lt so_far is = tt
 ends port t now_t lines i d first now before out exit same lt so_far is =
-    refused port t lines (get_or lines i d) (drop (i + 1) lines) first now before out exit
-    (subst (λ (rest : List Line). SoFar port t lines rest first now before out) (drop_at lines i d lt) so_far)
+    ap (λ (ls : List Line). run_of port t ls first) (sym (parts_at lines i d lt))
+    ∙ refused port t (take i lines) (get_or lines i d) (drop (i + 1) lines) first now before out exit so_far
     (subst (λ u. answer_of (get_or lines i d) (step port u (get_or lines i d) now) ≡ Err exit) same is)
 
-pub finished : {K : Type 0} (port : Port K) (t : Tunables) (lines : List Line) (first now : World K) (before out : List ℕ) → SoFar port t lines [] first now before out → (run : Run K) × (replayed port t lines first ≡ Ok run) × AppendsRecords before out now run
-unfolding replayed
+pub finished : {K : Type 0} (port : Port K) (t : Tunables) (lines : List Line) (first now : World K) (before out : List ℕ) → SoFar port t lines first now before out → (run : Run K) × (run_of port t lines first ≡ Ok run) × AppendsRecords before out now run
+unfolding run_of
 finished port t lines first now before out so_far = (
   record { replies = so_far.replies ++ []; world = now },
-  sym so_far.all,
+  ap (λ (ls : List Line). run_of port t ls first) (sym (append-nil lines)) ∙ sym (so_far.all []),
   record { text = so_far.written ∙ ap (λ rs. before ++ records_of rs) (sym (append-nil so_far.replies)); world = refl },
 )
+
+-- ---- behind each line
+
+-- behind the first lines, however many of those so far
+pub TilesSoFar : {K : Type 0} → Port K → Tunables → List Line → ℕ → World K → Type 0
+TilesSoFar port t lines i first = (count : ℕ) → count ≤ i → TilesAfter port t (take count lines) first
+
+pub tiles_here : {K : Type 0} (port : Port K) (t : Tunables) (front : List Line) (first now : World K) (before out : List ℕ) → SoFar port t front first now before out → IsTiled now → FitsWithin front now.own.names → TilesAfter port t front first
+tiles_here port t front first now before out so_far tiled fit =
+    let run = finished port t front first now before out so_far in
+    record {
+      run = run.0;
+      gives = run.1;
+      tiled = subst IsTiled (sym run.2.world) tiled;
+      fit = subst (λ (w : World _). FitsWithin front w.own.names) (sym run.2.world) fit;
+    }
+
+pub tiles_first : {K : Type 0} (port : Port K) (t : Tunables) (lines : List Line) (first : World K) → IsTiled first → FitsWithin [] first.own.names → TilesSoFar port t lines 0 first
+unfolding TilesSoFar
+tiles_first port t lines first tiled fit = λ count none.
+    let is : 0 ≡ count = omega arith in
+    subst (λ n. TilesAfter port t (take n lines) first) is
+    (tiles_here port t [] first first [] [] (nothing_yet port t first []) tiled fit)
+
+pub tiles_next : {K : Type 0} (port : Port K) (t : Tunables) (lines : List Line) (i : ℕ) (first now : World K) (before out : List ℕ) → TilesSoFar port t lines i first → SoFar port t (take (i + 1) lines) first now before out → IsTiled now → FitsWithin (take (i + 1) lines) now.own.names → TilesSoFar port t lines (i + 1) first
+unfolding TilesSoFar
+tiles_next port t lines i first now before out so_far here tiled fit = λ count most.
+    elim (cases_lt i count) [
+      | inl last ↦
+          let is : i + 1 ≡ count = omega arith in
+          subst (λ n. TilesAfter port t (take n lines) first) is (tiles_here port t (take (i + 1) lines) first now before out here tiled fit)
+      | inr before_it ↦ so_far count before_it
+    ]
+
+pub tiles_all : {K : Type 0} (port : Port K) (t : Tunables) (lines : List Line) (i : ℕ) (first : World K) → length lines ≤ i → TilesSoFar port t lines i first → (count : ℕ) → TilesAfter port t (take count lines) first
+unfolding TilesSoFar
+tiles_all port t lines i first all so_far count =
+    elim (cases_lt i count) [
+      | inl past ↦
+          let more : length lines ≤ count = omega arith in
+          subst (λ front. TilesAfter port t front first) (take_all i lines all ∙ sym (take_all count lines more)) (so_far i (omega arith))
+      | inr within ↦ so_far count within
+    ]

@@ -18,16 +18,17 @@ use Rattle.mapped_chunks.specs.declared.plain.DialState.{DialState}
 use Rattle.arena_core.specs.declared.journal.Who.{Who}
 use Rattle.malloc_calls.specs.declared.own.Own.{Own}
 use Rattle.malloc_calls.specs.declared.thread.Thread.{Thread}
-use Rattle.malloc_calls.specs.Names.{readied}
+use Rattle.malloc_calls.specs.Names.{with_places_to}
 use Rattle.malloc_calls.specs.declared.reply.Reply.{Reply}
 use Rattle.malloc_calls.specs.Own.{new_own, own_of, names_of, space_of, number_of, who_of, with_names}
 use Rattle.malloc_calls.specs.Calls.{Call}
 use Rattle.malloc_calls.specs.Going.{Does}
-use Rattle.malloc_calls.specs.Places.{KeptArena, kept, Hands, weight_of, in_names, in_own, both_of, as_chunk_of, as_mapped, as_mapped_bytes, Covers, Standing, standing, IsServed, Carries}
+use Rattle.malloc_calls.specs.Places.{KeptArena, with_journal, Hands, weight_of, in_names, in_own, both_of, as_chunk_of, as_mapped, as_mapped_bytes, as_mapped_byte, Covers, Standing, standing, IsServed, Carries}
 use Rattle.malloc_calls.specs.Playing.{PlainPort}
 use Rattle.malloc_calls.specs.SerialWays.{SerialState, SerialWorld, IsFirst, EndsAs, is_there, Serves, serial_ways, serial_setting, world_at, played_call}
 use Rattle.malloc_calls.proofs.Serving.{IsAt, PlaysTo, plays_call}
 use Rattle.trace_replay.specs.Processes.{serial_world}
+use Rattle.trace_replay.specs.Tiling.{IsInWindow}
 use Rattle.trace_replay.specs.World.{with_place}
 
 -- ---- the same blocks
@@ -63,22 +64,22 @@ nothing_weighs zero weigh = refl
 nothing_weighs (suc k) weigh =
     omega (arith, sum_by-cons (λ o. weight_of o weigh) None (replicate k None), nothing_weighs k weigh)
 
-readied_weighs : (name : ℕ) (names : List (Option Block)) (weigh : Block → ℕ) → in_names (readied name names) weigh ≡ in_names names weigh
+readied_weighs : (name : ℕ) (names : List (Option Block)) (weigh : Block → ℕ) → in_names (with_places_to name names) weigh ≡ in_names names weigh
 readied_weighs name names weigh =
     let k : ℕ = name + 1 - length names in
     omega (arith, sum_by-append (λ o. weight_of o weigh) names (replicate k None), nothing_weighs k weigh)
 
-own_weighs : (name : ℕ) (own : Own) (weigh : Block → ℕ) → in_own (record own { names = readied name own.names }) weigh ≡ in_own own weigh
+own_weighs : (name : ℕ) (own : Own) (weigh : Block → ℕ) → in_own (record own { names = with_places_to name own.names }) weigh ≡ in_own own weigh
 own_weighs name own weigh = omega (arith, readied_weighs name own.names weigh)
 
-pub exact_readied : (name : ℕ) (st : SerialState) (own : Own) → Serves true st (in_own own) → Serves true st (in_own (record own { names = readied name own.names }))
-exact_readied name st own s = serves_same true st (in_own own) (in_own (record own { names = readied name own.names })) (own_weighs name own) s
+pub exact_readied : (name : ℕ) (st : SerialState) (own : Own) → Serves true st (in_own own) → Serves true st (in_own (record own { names = with_places_to name own.names }))
+exact_readied name st own s = serves_same true st (in_own own) (in_own (record own { names = with_places_to name own.names })) (own_weighs name own) s
 
 pub served_readied : {K : Type 0} (t : Tunables) (name : ℕ) (st : SerialState) (own : Own) (space : Space K) →
     IsServed (serial_ways (λ (s : SerialState). s)) t (in_own own) (standing st space) →
-    IsServed (serial_ways (λ (s : SerialState). s)) t (in_own (record own { names = readied name own.names })) (standing st space)
+    IsServed (serial_ways (λ (s : SerialState). s)) t (in_own (record own { names = with_places_to name own.names })) (standing st space)
 served_readied t name st own space s = record {
-  served = serves_same false st (in_own own) (in_own (record own { names = readied name own.names })) (own_weighs name own) s.served;
+  served = serves_same false st (in_own own) (in_own (record own { names = with_places_to name own.names })) (own_weighs name own) s.served;
   others = s.others;
   notes = s.notes;
   tunables = s.tunables;
@@ -87,12 +88,19 @@ served_readied t name st own space s = record {
 }
 
 -- the same of a thread in which the place was made
-pub served_there : {K : Type 0} (t : Tunables) (th readied_th : Thread K) (st : SerialState) (name : ℕ) → readied_th ≡ with_names (readied name (names_of th)) th →
+pub served_there : {K : Type 0} (t : Tunables) (th readied_th : Thread K) (st : SerialState) (name : ℕ) → readied_th ≡ with_names (with_places_to name (names_of th)) th →
     IsServed (serial_ways (λ (s : SerialState). s)) t (in_own (own_of th)) (standing st (space_of th)) →
     IsServed (serial_ways (λ (s : SerialState). s)) t (in_own (own_of readied_th)) (standing st (space_of readied_th))
 served_there {K} t th readied_th st name is s =
     let S : Thread K → Type 0 = λ x. IsServed (serial_ways (λ (v : SerialState). v)) t (in_own (own_of x)) (standing st (space_of x)) in
     subst S (sym is) (served_readied t name st (own_of th) (space_of th) s)
+
+-- its mapped chunks lie where they did
+pub window_there : {K : Type 0} (th readied_th : Thread K) (name : ℕ) → readied_th ≡ with_names (with_places_to name (names_of th)) th →
+    IsInWindow (own_of th) (space_of th) → IsInWindow (own_of readied_th) (space_of readied_th)
+window_there {K} th readied_th name is within =
+    let S : Thread K → Type 0 = λ x. IsInWindow (own_of x) (space_of x) in
+    subst S (sym is) (λ n. omega (arith, own_weighs name (own_of th) (as_mapped_byte n), within n))
 
 -- ---- before the first call
 
@@ -102,7 +110,7 @@ no_stock e = refl
 
 pub first_serves : (exact : Bool) (t : Tunables) (st : SerialState) → IsFirst t st → Serves exact st (in_own new_own)
 first_serves exact t st f = record {
-  main = kept empty_main [];
+  main = with_journal empty_main [];
   port = f.port;
   main_at = f.main;
   port_at = f.port_at;
@@ -153,6 +161,11 @@ served_next well t given got old new c s = record {
   home = c.there 0 ∙ s.home;
 }
 
+-- the mapped chunks lie apart still
+pub window_next : {K : Type 0} (well : Bool) (given got : Own) (old new : Standing SerialState K) →
+    Carries (serial_ways (λ (s : SerialState). s)) well (in_own given) old (in_own got) new → IsInWindow given old.space → IsInWindow got new.space
+window_next well given got old new c within = λ n. omega (arith, c.mapped n, within n)
+
 -- ---- at the end
 
 some_same : {A : Type 0} {o : Option A} (x y : A) → o ≡ Some x → o ≡ Some y → x ≡ y
@@ -194,12 +207,12 @@ plays_on {K} {A} port t who call old new x exact hands s tells d =
 -- ---- a call of a thread with a place for a name
 
 pub call_plays : {K : Type 0} (port : Port K) (t : Tunables) (line name : ℕ) (call : Own → Call (Reply × Own)) (th readied_th new : Thread K) (st next : SerialState) (reply : Reply) →
-    readied_th ≡ with_names (readied name (names_of th)) th → number_of th ≡ 0 → Serves true st (in_own (own_of th)) → IsTrue (space_tells port (space_of th)) →
+    readied_th ≡ with_names (with_places_to name (names_of th)) th → number_of th ≡ 0 → Serves true st (in_own (own_of th)) → IsTrue (space_tells port (space_of th)) →
     Does (serial_setting (λ (s : SerialState). s) port) t (who_of line readied_th) (call (own_of readied_th)) (standing st (space_of readied_th)) (reply, own_of new) (standing next (space_of new)) →
     PlaysOn port t (record { thread = 0; line = line }) (call (with_place name (own_of th))) (standing st (space_of th)) (reply, own_of new) (standing next (space_of new))
 call_plays {K} port t line name call th readied_th new st next reply is number exact tells does =
     let D : Who → Thread K → Type 0 = λ who x. Does (serial_setting (λ (s : SerialState). s) port) t who (call (own_of x)) (standing st (space_of x)) (reply, own_of new) (standing next (space_of new)) in
-    let here : Thread K = with_names (readied name (names_of th)) th in
+    let here : Thread K = with_names (with_places_to name (names_of th)) th in
     let at_here : D (who_of line here) here = subst (λ x. D (who_of line x) x) is does in
     let by_zero : D (record { thread = 0; line = line }) here = subst (λ n. D (record { thread = n; line = line }) here) number at_here in
     plays_on port t (record { thread = 0; line = line }) (call (own_of here)) (standing st (space_of here)) (standing next (space_of new)) (reply, own_of new) true (in_own (own_of here))

@@ -43,10 +43,14 @@ IsUnwritten exit = Unit {0}
 
 -- ---- what the rules give
 
+-- each port tells
+abbrev pub AllTell : {K : Type 0} → Port K → List K → Type 0
+AllTell port kernels = All (λ k. IsTrue (port.tells k)) kernels
+
 -- a source tells that these bytes are left, and each port tells
 pub record Told {S K : Type 0} (supply : Supply S) (port : Port K) (source : S) (kernels : List K) (bytes : List ℕ) : Type 0 where
   pub bytes_left : supply.left source ≡ Some bytes
-  pub ports : All (λ k. IsTrue (port.tells k)) kernels
+  pub ports : AllTell port kernels
 
 -- What a run answers, and writes, where these are the rules: their text, all of it or a prefix, or their refusal. A
 -- fault of the source or want of memory may come before.

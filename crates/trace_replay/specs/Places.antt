@@ -152,6 +152,10 @@ main_with a finds fast = record {
 abbrev pub main_of : {K : Type 0} → World K → Arena
 main_of w = main_with w.serial.main.arena (finds_of w.own) (fast_of w.serial.bins)
 
+-- the mapped chunks of the thread
+abbrev pub mapped_of : {K : Type 0} → World K → List TileView
+mapped_of w = by_address (mapped_finds (finds_of w.own))
+
 -- the words beside main
 abbrev pub dials_of : words.DialState → DialState
 dials_of d = record {
@@ -167,7 +171,7 @@ dials_of d = record {
 unfoldable pub shown_of : {K : Type 0} → Bool → World K → Shown
 shown_of has_lines w = record {
   arenas = main_of w ∷ [];
-  mapped = by_address (mapped_finds (finds_of w.own));
+  mapped = mapped_of w;
   caches = cache_lists 0 (addresses_of w.own.cache);
   threads = if has_lines then (0, Some 0) ∷ [] else [];
   free = [];

@@ -14,9 +14,9 @@ RefusesAs NoMemory rules = Unit {0}
 RefusesAs exit rules = rules ≡ Err exit
 
 -- a part of a run does what the rules give: its value shows theirs, and it is refused as they are
-abbrev pub Serves : {A B : Type 0} → (A → B → Type 0) → Result A Exit → Result B Exit → Type 0
-Serves {A} {B} Shows (Ok a) rules = (b : B) × (rules ≡ Ok b) × Shows a b
-Serves Shows (Err exit) rules = RefusesAs exit rules
+abbrev pub AnswersAs : {A B : Type 0} → (A → B → Type 0) → Result A Exit → Result B Exit → Type 0
+AnswersAs {A} {B} Shows (Ok a) rules = (b : B) × (rules ≡ Ok b) × Shows a b
+AnswersAs Shows (Err exit) rules = RefusesAs exit rules
 
 -- one line: its record stands behind what was written
 pub record AppendsRecord {K : Type 0} (before now : List ℕ) (line : Line) (w : World K) (answer : Reply × World K) : Type 0 where

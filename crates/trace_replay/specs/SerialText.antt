@@ -1,7 +1,6 @@
 -- The text that a serial run writes for the words, the bytes read and the ports; or how it refuses them
 -- (this project's own).
-use Rattle.std.specs.Prelude.{ℕ, ◌==◌, Bool, not, nat_lt, List, [], ◌∷◌, ◌++◌, length, codes, slice_get, Option, Some, None, Result, Ok, Err, if◌then◌else◌}
-use Rattle.std.specs.Option.{ok_or}
+use Rattle.std.specs.Prelude.{ℕ, ◌==◌, Bool, not, nat_lt, List, [], ◌∷◌, ◌++◌, length, codes, slice_get, Option, Some, None, Result, Ok, Err, String, if◌then◌else◌}
 use Rattle.chunk_tags.specs.declared.tunables.Tunables.{Tunables}
 use Rattle.address_space.specs.Ports.{Port}
 use Rattle.address_space.specs.Spaces.{new_space}
@@ -13,12 +12,13 @@ use Rattle.stats_text.specs.Totals.{statistics_of}
 use Rattle.trace_text.specs.declared.trace.Line.{Line}
 use Rattle.trace_text.specs.Grammar.{Reading, reading_of}
 use Rattle.trace_replay.specs.declared.asked.Asked.{Asked}
+use Rattle.trace_replay.specs.Asked.{asked_of}
 use Rattle.trace_replay.specs.declared.exit.Exit.{Exit}
-use Rattle.trace_replay.specs.declared.exit.Exit.TheVariants.{BadTrace, TooLong, NotBuilt}
+use Rattle.trace_replay.specs.declared.exit.Exit.TheVariants.{Done, BadTrace, TooLong, NotBuilt}
 use Rattle.trace_replay.specs.Places.{shown_of}
 use Rattle.trace_replay.specs.Records.{records_of}
 use Rattle.byte_edge.specs.Input.{max_input}
-use Rattle.trace_replay.specs.World.{World, opening_world, step}
+use Rattle.trace_replay.specs.World.{World, Lack, Unbuilt, Unplayed, opening_world, step}
 
 -- ---- the run over the lines
 
@@ -32,25 +32,32 @@ abbrev pub in_front : {K : Type 0} → Line × Reply → Result (Run K) Exit →
 in_front first (Ok rest) = Ok (record rest { replies = first ∷ rest.replies })
 in_front first (Err exit) = Err exit
 
+-- The exit of a line without a reply. Where its call has no world to go to that is Done, as a refusal, which no run
+-- answers: so a run that refuses the line has found what isn't built.
+abbrev pub exit_of_lack : ℕ → Lack → Exit
+exit_of_lack line Unbuilt = NotBuilt line
+exit_of_lack line Unplayed = Done
+
 -- the reply to a line; a call that isn't built refuses the run
-abbrev pub answer_of : {K : Type 0} → Line → Option (Reply × World K) → Result (Reply × World K) Exit
-answer_of line answer = ok_or answer (NotBuilt line.number)
+abbrev pub answer_of : {K : Type 0} → Line → Result (Reply × World K) Lack → Result (Reply × World K) Exit
+answer_of line (Ok answer) = Ok answer
+answer_of line (Err lack) = Err (exit_of_lack line.number lack)
 
 -- a line, and the rest from the world that it leaves
-abbrev pub answered : {K : Type 0} → Line → Result (Reply × World K) Exit → (World K → Result (Run K) Exit) → Result (Run K) Exit
-answered line (Ok (reply, w)) rest = in_front (line, reply) (rest w)
-answered line (Err exit) rest = Err exit
+abbrev pub line_and_rest : {K : Type 0} → Line → Result (Reply × World K) Exit → (World K → Result (Run K) Exit) → Result (Run K) Exit
+line_and_rest line (Ok (reply, w)) rest = in_front (line, reply) (rest w)
+line_and_rest line (Err exit) rest = Err exit
 
 -- a run from a world on
-unfoldable pub replayed : {K : Type 0} → Port K → Tunables → List Line → World K → Result (Run K) Exit
-replayed port t [] w = Ok (record { replies = []; world = w })
-replayed port t (line ∷ lines) w = answered line (answer_of line (step port t line w)) (replayed port t lines)
+unfoldable pub run_of : {K : Type 0} → Port K → Tunables → List Line → World K → Result (Run K) Exit
+run_of port t [] w = Ok (record { replies = []; world = w })
+run_of port t (line ∷ lines) w = line_and_rest line (answer_of line (step port t line w)) (run_of port t lines)
 
 -- ---- the whole text
 
 -- the world that a run begins with, over the port of thread 0
-abbrev pub started : {K : Type 0} → Tunables → K → World K
-started t kernel = opening_world t (new_space kernel 0 (windows_of t))
+abbrev pub first_world : {K : Type 0} → Tunables → K → World K
+first_world t kernel = opening_world t (new_space kernel 0 (windows_of t))
 
 -- whether a trace has a line behind its header
 abbrev pub has_lines : List Line → Bool
@@ -69,13 +76,13 @@ abbrev pub run_text : {K : Type 0} → Bool → Run K → List ℕ
 run_text lines run = whole_report (records_of run.replies) (shown_of lines run.world)
 
 -- the report on a run that ended so
-abbrev pub reported : {K : Type 0} → Bool → Result (Run K) Exit → Result (List ℕ) Exit
-reported lines (Ok run) = Ok (run_text lines run)
-reported lines (Err exit) = Err exit
+abbrev pub report_on : {K : Type 0} → Bool → Result (Run K) Exit → Result (List ℕ) Exit
+report_on lines (Ok run) = Ok (run_text lines run)
+report_on lines (Err exit) = Err exit
 
 -- the report on a run of lines, over the port of thread 0
 abbrev pub report_of : {K : Type 0} → Port K → Tunables → List Line → K → Result (List ℕ) Exit
-report_of port t lines kernel = reported (has_lines lines) (replayed port t lines (started t kernel))
+report_of port t lines kernel = report_on (has_lines lines) (run_of port t lines (first_world t kernel))
 
 -- ---- a run's job
 
@@ -94,6 +101,10 @@ abbrev pub job_with : Result Asked Exit → Result (List Line) Exit → Result J
 job_with asked (Err exit) = Err exit
 job_with (Err exit) (Ok lines) = Err exit
 job_with (Ok asked) (Ok lines) = Ok (record { asked = asked; lines = lines })
+
+-- the job that the words and these bytes give, which aren't too many
+abbrev pub job_by : {A : Type 0} → List (String A) → List ℕ → Result Job Exit
+job_by words bytes = job_with (asked_of words) (lines_of (reading_of bytes))
 
 -- the job that the words and the bytes give, or how these refuse it: the first that applies
 abbrev pub job_of : Result Asked Exit → List ℕ → Result Job Exit

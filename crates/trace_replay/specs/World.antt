@@ -1,7 +1,7 @@
 -- Thread 0 and what its calls go over: its cache, its blocks by name and its address space, and the main arena with its
 -- fast bins and the words beside it (this project's own). The rules of a call are those of malloc_calls.
-use Rattle.std.specs.Prelude.{ℕ, ◌==◌, Bool, true, false, [], Option, Some, None, if◌then◌else◌}
-use Rattle.std.specs.Option.{option_and_then}
+use Rattle.std.specs.Prelude.{ℕ, ◌==◌, Bool, true, false, [], Option, Some, None, Result, Ok, Err, if◌then◌else◌}
+use Rattle.std.specs.Option.{ok_or}
 use Rattle.chunk_tags.specs.declared.tunables.Tunables.{Tunables}
 use Rattle.address_space.specs.declared.space.Space.{Space}
 use Rattle.address_space.specs.Ports.{Port}
@@ -13,9 +13,9 @@ use Rattle.malloc_calls.specs.declared.own.Own.{Own}
 use Rattle.malloc_calls.specs.declared.reply.Reply.{Reply}
 use Rattle.malloc_calls.specs.declared.reply.Reply.TheVariants.{Got, Null, Freed, NotYours}
 use Rattle.malloc_calls.specs.declared.reply.Why.TheVariants.{Big, Refused}
-use Rattle.malloc_calls.specs.Names.{readied}
+use Rattle.malloc_calls.specs.Names.{with_places_to}
 use Rattle.malloc_calls.specs.Own.{new_own}
-use Rattle.malloc_calls.specs.Places.{kept}
+use Rattle.malloc_calls.specs.Places.{with_journal}
 use Rattle.malloc_calls.specs.Calls.{Call, malloc_call, free_call}
 use Rattle.malloc_calls.specs.SerialWays.{SerialWorld, first_words, played_call}
 use Rattle.trace_text.specs.declared.trace.Call.TheVariants as calls
@@ -31,7 +31,7 @@ pub record World (K : Type 0) : Type 0 where
 abbrev pub opening_world : {K : Type 0} → Tunables → Space K → World K
 opening_world t space = record {
   own = new_own;
-  serial = record { main = kept empty_main []; bins = empty_state; dials = first_words t; space = space };
+  serial = record { main = with_journal empty_main []; bins = empty_state; dials = first_words t; space = space };
 }
 
 -- who thread 0 is in a line
@@ -40,13 +40,22 @@ who_in line = record { thread = 0; line = line.number }
 
 -- the thread with a place for a name
 abbrev pub with_place : ℕ → Own → Own
-with_place name own = record own { names = readied name own.names }
+with_place name own = record own { names = with_places_to name own.names }
 
 -- the call of a line, where it is built
 abbrev pub call_of : Tunables → traced.Call → Own → Option (Call (Reply × Own))
 call_of t (calls.Malloc name size) own = Some (malloc_call t 0 name size (with_place name own))
 call_of t (calls.Free name) own = Some (free_call t 0 name (with_place name own))
 call_of t _ own = None
+
+-- whether a line needs only what is built: malloc and free of thread 0
+abbrev pub is_built_call : traced.Call → Bool
+is_built_call (calls.Malloc name size) = true
+is_built_call (calls.Free name) = true
+is_built_call _ = false
+
+abbrev pub is_built : Line → Bool
+is_built line = if line.thread == 0 then is_built_call line.call else false
 
 -- Whether a call was answered by what is built: no search of main was refused, for a block or for the structure of the
 -- cache.
@@ -57,19 +66,34 @@ is_answered (Null Refused) own = false
 is_answered (Freed to) own = true
 is_answered NotYours own = true
 
-abbrev pub world_after : {K : Type 0} → (Reply × Own) × SerialWorld K → Option (Reply × World K)
+-- Why a line has no reply: it needs what isn't built, the call itself or what is done where a search was refused; or its
+-- call has no world to go to, which is kept apart, so that it is never taken for the first.
+pub data Lack : Type 0 where
+  Unbuilt : Lack
+  Unplayed : Lack
+
+abbrev pub world_after : {K : Type 0} → (Reply × Own) × SerialWorld K → Result (Reply × World K) Lack
 world_after played =
     if is_answered played.0.0 played.0.1
-    then Some (played.0.0, record { own = played.0.1; serial = played.1 })
-    else None
+    then Ok (played.0.0, record { own = played.0.1; serial = played.1 })
+    else Err Unbuilt
 
--- the call of a line of thread 0, over what it goes over
-abbrev pub called : {K : Type 0} → Port K → Tunables → Line → World K → Option ((Reply × Own) × SerialWorld K)
-called port t line w =
-    if line.thread == 0
-    then option_and_then (λ c. played_call port t (who_in line) c w.serial) (call_of t line.call w.own)
-    else None
+-- a call, where it is built, over what it goes over
+abbrev pub play_of : {K : Type 0} → Port K → Tunables → Who → Option (Call (Reply × Own)) → SerialWorld K →
+    Result ((Reply × Own) × SerialWorld K) Lack
+play_of port t who None w = Err Unbuilt
+play_of port t who (Some c) w = ok_or (played_call port t who c w) Unplayed
 
--- one line of the trace; a call that isn't built has no answer
-unfoldable pub step : {K : Type 0} → Port K → Tunables → Line → World K → Option (Reply × World K)
-step port t line w = option_and_then world_after (called port t line w)
+-- the call of a line of thread 0
+abbrev pub played_line : {K : Type 0} → Port K → Tunables → Line → World K → Result ((Reply × Own) × SerialWorld K) Lack
+played_line port t line w =
+    if line.thread == 0 then play_of port t (who_in line) (call_of t line.call w.own) w.serial else Err Unbuilt
+
+-- what a line leaves, behind its call
+abbrev pub reply_after : {K : Type 0} → Result ((Reply × Own) × SerialWorld K) Lack → Result (Reply × World K) Lack
+reply_after (Ok played) = world_after played
+reply_after (Err lack) = Err lack
+
+-- one line of the trace
+unfoldable pub step : {K : Type 0} → Port K → Tunables → Line → World K → Result (Reply × World K) Lack
+step port t line w = reply_after (played_line port t line w)

@@ -43,7 +43,7 @@ fn block_at_place(block: &Block, place: Place) -> Find
 }
 
 /// The blocks by name.
-fn named<K: Kernel>(alloc: Global, thread: &Thread<K>) -> Result<Vec<Find>, NoMemory>
+fn named_finds<K: Kernel>(alloc: Global, thread: &Thread<K>) -> Result<Vec<Find>, NoMemory>
     ensures { IfOk result (λ v. v.items ≡ named_from 0 (names_of thread.now)) }
 {
     let mut finds = Vec::new(alloc);
@@ -84,7 +84,7 @@ fn append_structure(finds: &mut Vec<Find>, cache: &Cache) -> Result<(), NoMemory
 pub fn finds<K: Kernel>(alloc: Global, thread: &Thread<K>) -> Result<Vec<Find>, NoMemory>
     ensures { IfOk result (λ v. v.items ≡ finds_of (own_of thread.now)) }
 {
-    let mut finds = named(alloc, thread)?;
+    let mut finds = named_finds(alloc, thread)?;
     append_cached(alloc, &mut finds, thread.cache())?;
     append_structure(&mut finds, thread.cache())?;
     Ok(finds)

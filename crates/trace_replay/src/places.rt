@@ -88,7 +88,7 @@ fn put_bins(found: &mut BTreeMap<u64, Place>, bins: &[(u8, Vec<Addr>)]) -> Resul
 
 /// All that is found, by address.
 #[tactic(auto, unfolding(crate::specs::Places::found_by_address, crate::specs::Places::found_with))]
-pub fn found(
+pub fn finds_by_address(
     alloc: Global,
     finds: &[Find],
     fast: &[(u8, Vec<Addr>)],
@@ -115,7 +115,7 @@ fn place(found: &BTreeMap<u64, Place>, t: &Tile) -> Option<Place>
 }
 
 /// The tiles of main, as they are shown.
-pub fn shown(
+pub fn tile_views(
     alloc: Global,
     found: &BTreeMap<u64, Place>,
     tiles: &[Tile],

@@ -1,8 +1,9 @@
 //! Thread 0 over the places of one order of calls: a line of a trace is a call.
 
-ghost use Rattle.std.specs.Prelude.{◌≡◌, ◌≤◌, ◌<◌, ◌+◌, ◌^◌, length, map, None, IsTrue, IfOk, OnOk};
+ghost use Rattle.std.specs.Prelude.{◌≡◌, ◌≤◌, ◌<◌, ◌+◌, ◌^◌, length, map, false, None, Err, IfOk, OnOk};
 ghost use Rattle.chunk_tags.specs.Tunables.{IsTuned};
 ghost use Rattle.malloc_calls.specs.Own.{number_of};
+ghost use Rattle.trace_replay.specs.Halts.{built_reply};
 
 use crate::halt::Halt;
 use address_space::{Kernel, Space};
@@ -22,15 +23,15 @@ pub struct Process<K: Kernel> {
 }
 
 impl<K: Kernel> Process<K> {
-    ghost use Rattle.malloc_calls.specs.Calls.{malloc_call, free_call};
-    ghost use Rattle.malloc_calls.specs.Names.{block_at, readied};
-    ghost use Rattle.malloc_calls.specs.Own.{own_of, names_of};
+    ghost use Rattle.malloc_calls.specs.Names.{block_at, with_places_to};
+    ghost use Rattle.malloc_calls.specs.Own.{own_of};
     ghost use Rattle.malloc_calls.specs.SerialWays.{EndsAs};
     ghost use Rattle.arena_rules.specs.Rules.{windows_of};
     ghost use Rattle.trace_replay.specs.Halts.{Yields};
     ghost use Rattle.trace_replay.specs.Naming.{MayRun, LeavesNames, MakesName, EmptiesName};
-    ghost use Rattle.trace_replay.specs.Processes.{world_of, tells, IsSettled, Calls, Plays};
-    ghost use Rattle.trace_replay.specs.World.{opening_world, with_place, is_answered, called, step};
+    ghost use Rattle.trace_replay.specs.Processes.{world_of, Tells, names_in, malloc_in, free_in, call_in, step_in, IsSettled, Calls, Plays};
+    ghost use Rattle.trace_replay.specs.Tiling.{IsTiled};
+    ghost use Rattle.trace_replay.specs.World.{opening_world, is_answered, is_built};
 
     /// A process that has called nothing yet.
     pub fn new(alloc: Global, space: Space<K>, t: &Tunables) -> Result<Process<K>, NoMemory>
@@ -58,11 +59,12 @@ impl<K: Kernel> Process<K> {
         size: u64,
     ) -> Result<Reply, NoMemory>
         requires name { name ≤ 65535 }
-        requires free { block_at (names_of self.old.thread) name ≡ None }
+        requires free { block_at (names_in self.old) name ≡ None }
         requires settled { IsSettled self.old }
-        ensures told { IsTrue (tells K.port self.old) → IfOk result (λ reply.
-            Plays K.port line.now (malloc_call self.old.t 0 name size (with_place name (own_of self.old.thread))) self.old reply self.new) }
-        ensures names { IfOk result (λ reply. MakesName name size (readied name (names_of self.old.thread)) (reply, own_of self.new.thread)) }
+        ensures told { Tells K.port self.old → IfOk result (λ reply.
+            Plays K.port line.now (malloc_in name size self.old) self.old reply self.new) }
+        ensures names { IfOk result (λ reply. MakesName name size
+            (with_places_to name (names_in self.old)) (reply, own_of self.new.thread)) }
         ensures settled { OnOk result (IsSettled self.new) }
         ensures tunables { self.new.t ≡ self.old.t }
     {
@@ -75,9 +77,10 @@ impl<K: Kernel> Process<K> {
     fn free(&mut self, alloc: Global, line: &Line, name: u32) -> Result<Reply, NoMemory>
         requires name { name ≤ 65535 }
         requires settled { IsSettled self.old }
-        ensures told { IsTrue (tells K.port self.old) → IfOk result (λ reply.
-            Plays K.port line.now (free_call self.old.t 0 name (with_place name (own_of self.old.thread))) self.old reply self.new) }
-        ensures names { IfOk result (λ reply. EmptiesName name (readied name (names_of self.old.thread)) (reply, own_of self.new.thread)) }
+        ensures told { Tells K.port self.old → IfOk result (λ reply.
+            Plays K.port line.now (free_in name self.old) self.old reply self.new) }
+        ensures names { IfOk result (λ reply. EmptiesName name
+            (with_places_to name (names_in self.old)) (reply, own_of self.new.thread)) }
         ensures settled { OnOk result (IsSettled self.new) }
         ensures tunables { self.new.t ≡ self.old.t }
     {
@@ -99,10 +102,20 @@ impl<K: Kernel> Process<K> {
         }
     }
 
+    /// A law; the call does nothing. Between two calls the world is tiled.
+    pub fn laws(&self)
+        requires { IsSettled self.now }
+        ensures { IsTiled (world_of self.now) }
+    {
+        self.thread.laws();
+        self.serial.laws();
+    }
+
     /// What stands in the places at the end.
     pub fn end(self, alloc: Global) -> Result<SerialEnd, NoMemory>
         requires { IsSettled self }
-        ensures ends { IfOk result (λ e. EndsAs self.serial e.arenas.items (map (λ l. l.items) e.fast.items) e.dials) }
+        ensures ends { IfOk result (λ e.
+            EndsAs self.serial e.arenas.items (map (λ l. l.items) e.fast.items) e.dials) }
         ensures ten { IfOk result (λ e. length e.fast.items ≡ 10) }
         ensures bytes { IfOk result (λ e. e.dials.bytes + 2 ^ 32 < 2 ^ 64) }
     {
@@ -110,13 +123,15 @@ impl<K: Kernel> Process<K> {
         self.serial.end(alloc)
     }
 
-    /// The call of a line.
+    /// The call of a line. For one that isn't built the answer is that, and never want of memory.
     fn call(&mut self, alloc: Global, line: &Line) -> Result<Reply, Halt>
-        requires may { MayRun line.now (names_of self.old.thread) }
+        requires may { MayRun line.now (names_in self.old) }
         requires settled { IsSettled self.old }
-        ensures told { IsTrue (tells K.port self.old) → Calls result (world_of self.new) (called K.port self.old.t line.now (world_of self.old)) }
-        ensures telling { IsTrue (tells K.port self.old) → OnOk result (IsTrue (tells K.port self.new)) }
-        ensures names { OnOk result (LeavesNames line.now (names_of self.old.thread) (names_of self.new.thread)) }
+        ensures unbuilt { is_built line.now ≡ false → result ≡ Err Halt.NotBuilt }
+        ensures told { Tells K.port self.old →
+            Calls result (world_of self.new) (call_in K.port line.now self.old) }
+        ensures telling { Tells K.port self.old → OnOk result (Tells K.port self.new) }
+        ensures names { OnOk result (LeavesNames line.now (names_in self.old) (names_in self.new)) }
         ensures settled { OnOk result (IsSettled self.new) }
         ensures tunables { self.new.t ≡ self.old.t }
     {
@@ -130,22 +145,31 @@ impl<K: Kernel> Process<K> {
         }
     }
 
-    /// One line of a trace.
+    /// One line of a trace. For one that isn't built the answer is that, and never want of memory.
     #[tactic(auto, unfolding(crate::specs::World::step))]
     pub fn step(&mut self, alloc: Global, line: &Line) -> Result<Reply, Halt>
-        requires may { MayRun line.now (names_of self.old.thread) }
+        requires may { MayRun line.now (names_in self.old) }
         requires settled { IsSettled self.old }
-        ensures told { IsTrue (tells K.port self.old) → Yields result (world_of self.new) (step K.port self.old.t line.now (world_of self.old)) }
-        ensures telling { IsTrue (tells K.port self.old) → OnOk result (IsTrue (tells K.port self.new)) }
-        ensures names { OnOk result (LeavesNames line.now (names_of self.old.thread) (names_of self.new.thread)) }
+        ensures unbuilt { is_built line.now ≡ false → result ≡ Err Halt.NotBuilt }
+        ensures told { Tells K.port self.old →
+            Yields result (world_of self.new) (step_in K.port line.now self.old) }
+        ensures telling { Tells K.port self.old → OnOk result (Tells K.port self.new) }
+        ensures names { OnOk result (LeavesNames line.now (names_in self.old) (names_in self.new)) }
         ensures settled { OnOk result (IsSettled self.new) }
         ensures tunables { self.new.t ≡ self.old.t }
     {
         let reply = self.call(alloc, line)?;
-        if self.is_answered(&reply) {
-            Ok(reply)
-        } else {
-            Err(Halt::NotBuilt)
-        }
+        built_reply(self.is_answered(&reply), reply)
+    }
+}
+
+/// The reply to a line's call, where what answered it is built.
+fn built_reply(answered: bool, reply: Reply) -> Result<Reply, Halt>
+    ensures { result ≡ built_reply answered reply }
+{
+    if answered {
+        Ok(reply)
+    } else {
+        Err(Halt::NotBuilt)
     }
 }

@@ -1,18 +1,16 @@
 //! A serial run: the record of each line, in file order.
 
-ghost use Rattle.std.specs.Prelude.{◌≡◌, [], IsTrue, IfErr, OnOk};
+ghost use Rattle.std.specs.Prelude.{◌≡◌, ℕ, false, Err, [], take, IfErr, OnOk};
 ghost use Rattle.std.specs.List.{All};
-ghost use Rattle.malloc_calls.specs.Own.{names_of};
 ghost use Rattle.trace_replay.specs.Headline.{IsHalt, IsNumbered};
 ghost use Rattle.trace_replay.specs.Naming.{MayRun, LeavesNames, HoldsWithin};
-ghost use Rattle.trace_replay.specs.Tiling.{FitsWithin};
-ghost use Rattle.trace_replay.specs.Replays.{Serves, AppendsRecord, AppendsRecords};
-ghost use Rattle.trace_replay.specs.SerialText.{answer_of, replayed};
+ghost use Rattle.trace_replay.specs.Tiling.{TilesAfter};
+ghost use Rattle.trace_replay.specs.Replays.{AnswersAs, AppendsRecord, AppendsRecords};
 ghost use Rattle.trace_text.specs.Spelling.{Allows, spelling_of, texts_of};
-ghost use Rattle.trace_replay.specs.World.{step};
-ghost use Rattle.trace_replay.specs.Processes.{world_of, tells, IsSettled};
+ghost use Rattle.trace_replay.specs.World.{is_built};
+ghost use Rattle.trace_replay.specs.Processes.{world_of, Tells, names_in, answer_in, run_in, IsSettled};
 
-use crate::exit::{Exit, halt_exit};
+use crate::exit::{Exit, reply_or_exit};
 use crate::process::Process;
 use crate::record::outcome;
 use address_space::Kernel;
@@ -21,22 +19,22 @@ use stats_text::append_record;
 use std::alloc::Global;
 use trace_text::{Line, Texts};
 
-/// The reply to a line.
+/// The reply to a line. For one that isn't built the run ends with that, and never for want of memory.
 fn answer<K: Kernel>(alloc: Global, process: &mut Process<K>, line: &Line) -> Result<Reply, Exit>
-    requires may { MayRun line.now (names_of process.old.thread) }
+    requires may { MayRun line.now (names_in process.old) }
     requires settled { IsSettled process.old }
     requires numbered { IsNumbered line.now }
-    ensures told { IsTrue (tells K.port process.old) → Serves (λ reply a. a ≡ (reply, world_of process.new)) result (answer_of line.now (step K.port process.old.t line.now (world_of process.old))) }
-    ensures telling { IsTrue (tells K.port process.old) → OnOk result (IsTrue (tells K.port process.new)) }
-    ensures names { OnOk result (LeavesNames line.now (names_of process.old.thread) (names_of process.new.thread)) }
+    ensures unbuilt { is_built line.now ≡ false → result ≡ Err (Exit.NotBuilt line.now.number) }
+    ensures told { Tells K.port process.old → AnswersAs (λ reply a. a ≡ (reply, world_of process.new))
+        result (answer_in K.port line.now process.old) }
+    ensures telling { Tells K.port process.old → OnOk result (Tells K.port process.new) }
+    ensures names { OnOk result
+        (LeavesNames line.now (names_in process.old) (names_in process.new)) }
     ensures settled { OnOk result (IsSettled process.new) }
     ensures tunables { process.new.t ≡ process.old.t }
     ensures kind { IfErr result IsHalt }
 {
-    match process.step(alloc, line) {
-        Ok(reply) => Ok(reply),
-        Err(halt) => Err(halt_exit(line.number, halt)),
-    }
+    reply_or_exit(line.number, process.step(alloc, line))
 }
 
 /// Runs a line and appends its record, which begins with the line's own text.
@@ -48,12 +46,15 @@ fn replay_line<K: Kernel>(
     out: &mut Vec<u8>,
 ) -> Result<(), Exit>
     requires text { text.now ≡ spelling_of line.now }
-    requires may { MayRun line.now (names_of process.old.thread) }
+    requires may { MayRun line.now (names_in process.old) }
     requires settled { IsSettled process.old }
     requires numbered { IsNumbered line.now }
-    ensures told { IsTrue (tells K.port process.old) → Serves (λ _ a. AppendsRecord out.old.items out.new.items line.now (world_of process.new) a) result (answer_of line.now (step K.port process.old.t line.now (world_of process.old))) }
-    ensures telling { IsTrue (tells K.port process.old) → OnOk result (IsTrue (tells K.port process.new)) }
-    ensures names { OnOk result (LeavesNames line.now (names_of process.old.thread) (names_of process.new.thread)) }
+    ensures told { Tells K.port process.old → AnswersAs (λ _ a.
+        AppendsRecord out.old.items out.new.items line.now (world_of process.new) a)
+        result (answer_in K.port line.now process.old) }
+    ensures telling { Tells K.port process.old → OnOk result (Tells K.port process.new) }
+    ensures names { OnOk result
+        (LeavesNames line.now (names_in process.old) (names_in process.new)) }
     ensures settled { OnOk result (IsSettled process.new) }
     ensures tunables { process.new.t ≡ process.old.t }
     ensures kind { IfErr result IsHalt }
@@ -71,18 +72,23 @@ pub fn replay<K: Kernel>(
     mut texts: Texts<'_>,
     out: &mut Vec<u8>,
 ) -> Result<(), Exit>
-    requires unnamed { names_of process.old.thread ≡ [] }
+    requires unnamed { names_in process.old ≡ [] }
     requires settled { IsSettled process.old }
     requires allowed { Allows lines.now }
     requires numbered { All IsNumbered lines.now }
     requires texts { texts ≡ texts_of lines.now }
-    ensures told { IsTrue (tells K.port process.old) → Serves (λ _ run. AppendsRecords out.old.items out.new.items (world_of process.new) run) result (replayed K.port process.old.t lines.now (world_of process.old)) }
+    ensures told { Tells K.port process.old → AnswersAs (λ _ run.
+        AppendsRecords out.old.items out.new.items (world_of process.new) run)
+        result (run_in K.port lines.now process.old) }
     ensures settled { OnOk result (IsSettled process.new) }
-    ensures fit { OnOk result (FitsWithin lines.now (names_of process.new.thread)) }
+    ensures tiled { Tells K.port process.old → OnOk result ((count : ℕ) →
+        TilesAfter K.port process.old.t (take count lines.now) (world_of process.old)) }
     ensures kind { IfErr result IsHalt }
 {
+    process.laws();
     for line in lines {
         replay_line(alloc, process, line, texts.take(), out)?;
+        process.laws();
     }
     Ok(())
 }

@@ -6,10 +6,9 @@ ghost use Rattle.stats_text.specs.Views.{lists_of};
 ghost use Rattle.thread_cache.specs.Caches.{addresses_of};
 ghost use Rattle.trace_replay.specs.Places.{put_tile, by_address, mapped_finds, cache_lists, main_with, dials_of, shown_of};
 ghost use Rattle.trace_replay.specs.Processes.{world_of, IsSettled};
-ghost use Rattle.trace_replay.specs.Tiling.{IsTiled};
 
 use crate::finds::{Find, finds};
-use crate::places::{bins, fast_bins, found, shown};
+use crate::places::{bins, fast_bins, finds_by_address, tile_views};
 use crate::process::Process;
 use address_space::Kernel;
 use arena_ground::Ground;
@@ -33,7 +32,7 @@ fn place_mapped(finds: &[Find], placed: &mut BTreeMap<u64, TileView>) -> Result<
 
 /// The mapped chunks by address.
 #[tactic(auto, unfolding(crate::specs::Places::by_address))]
-fn mapped(alloc: Global, finds: &[Find]) -> Result<Vec<TileView>, NoMemory>
+fn mapped_views(alloc: Global, finds: &[Find]) -> Result<Vec<TileView>, NoMemory>
     ensures { IfOk result (λ v. v.items ≡ by_address (mapped_finds finds.now)) }
 {
     let mut placed = BTreeMap::new(alloc);
@@ -73,7 +72,7 @@ fn main_view(
 {
     ground.laws();
     let bins = bins(alloc, ground)?;
-    let found = found(alloc, finds, fast.as_slice(), bins.as_slice())?;
+    let found = finds_by_address(alloc, finds, fast.as_slice(), bins.as_slice())?;
     let tiles = ground.tiles(alloc)?;
     Ok(ArenaView {
         number: 0,
@@ -81,7 +80,7 @@ fn main_view(
         max: ground.most(),
         list: 0,
         last: ground.last_remainder(),
-        tiles: shown(alloc, &found, tiles.as_slice())?,
+        tiles: tile_views(alloc, &found, tiles.as_slice())?,
         fast,
         bins,
     })
@@ -111,14 +110,12 @@ pub fn snapshot<K: Kernel>(
     requires { IsSettled process }
     ensures shown { IfOk result (λ s. s ≡ shown_of has_lines (world_of process)) }
     ensures totals { IfOk result HasTotals }
-    ensures tiled { OnOk result (IsTiled (world_of process)) }
 {
     let finds = finds(alloc, &process.thread)?;
     let lists = process.thread.cache().lists(alloc)?;
     let caches = cache_views(alloc, lists.as_slice())?;
     let end = process.end(alloc)?;
     let ground = &end.arenas[0].ground;
-    ground.laws();
     let fast = fast_bins(alloc, end.fast.as_slice())?;
     let mut arenas = Vec::new(alloc);
     arenas.push(main_view(alloc, ground, finds.as_slice(), fast)?)?;
@@ -128,7 +125,7 @@ pub fn snapshot<K: Kernel>(
     }
     Ok(Snapshot {
         arenas,
-        mapped: mapped(alloc, finds.as_slice())?,
+        mapped: mapped_views(alloc, finds.as_slice())?,
         caches,
         threads,
         free: Vec::new(alloc),

@@ -7,10 +7,10 @@ ghost use Rattle.stats_text.specs.Totals.{HasTotals};
 ghost use Rattle.trace_text.specs.Grammar.{reading_of, threads};
 ghost use Rattle.trace_text.specs.Spelling.{spelling, Allows};
 ghost use Rattle.trace_replay.specs.Asked.{asked_of};
-ghost use Rattle.trace_replay.specs.Headline.{Told, Answers, Refuses, AnswersJob, LeavesSource, LeavesSink, IsReadWhole, IsUnwritten, IsTextRefusal, IsHalt, IsNumbered};
-ghost use Rattle.trace_replay.specs.Replays.{Serves, RefusesAs};
+ghost use Rattle.trace_replay.specs.Headline.{Told, AllTell, Answers, Refuses, AnswersJob, LeavesSource, LeavesSink, IsReadWhole, IsUnwritten, IsTextRefusal, IsHalt, IsNumbered};
+ghost use Rattle.trace_replay.specs.Replays.{AnswersAs, RefusesAs};
 ghost use Rattle.trace_replay.specs.Tiling.{GivesTiles, ShowsTiles};
-ghost use Rattle.trace_replay.specs.SerialText.{sections, lines_of, report_of, text_of, job_with, job_of, verdict};
+ghost use Rattle.trace_replay.specs.SerialText.{sections, lines_of, report_of, text_of, job_by, job_of, verdict};
 
 use crate::asked::{Asked, read_words};
 use crate::exit::Exit;
@@ -35,7 +35,7 @@ struct Job {
 /// The lines of the input, or its first fault.
 #[tactic(auto, using(crate::proofs::Numbered::numbered))]
 fn lines(alloc: Global, bytes: &[u8]) -> Result<Vec<Line>, Exit>
-    ensures exact { Serves (λ read rules. read.items ≡ rules) result (lines_of (reading_of bytes.now)) }
+    ensures exact { AnswersAs (λ read rules. read.items ≡ rules) result (lines_of (reading_of bytes.now)) }
     ensures numbered { IfOk result (λ read. All IsNumbered read.items) }
     ensures spelled { IfOk result (λ read. Allows read.items × (bytes.now ≡ spelling read.items)) }
     ensures kind { IfErr result IsTextRefusal }
@@ -46,9 +46,12 @@ fn lines(alloc: Global, bytes: &[u8]) -> Result<Vec<Line>, Exit>
 
 /// The job that words and bytes give, which aren't too many.
 fn read_job(alloc: Global, words: &[String], bytes: &[u8]) -> Result<Job, Exit>
-    ensures exact { Serves (λ job rules. record { asked = job.asked; lines = job.lines.items } ≡ rules) result (job_with (asked_of words.now) (lines_of (reading_of bytes.now))) }
+    ensures exact { AnswersAs
+        (λ job rules. record { asked = job.asked; lines = job.lines.items } ≡ rules)
+        result (job_by words.now bytes.now) }
     ensures numbered { IfOk result (λ job. All IsNumbered job.lines.items) }
-    ensures spelled { IfOk result (λ job. Allows job.lines.items × (bytes.now ≡ spelling job.lines.items)) }
+    ensures spelled { IfOk result
+        (λ job. Allows job.lines.items × (bytes.now ≡ spelling job.lines.items)) }
     ensures tuned { IfOk result (λ job. IsTuned job.asked.tunables) }
     ensures word { IsErr (asked_of words.now) → IsErr result }
     ensures kind { IfErr result IsTextRefusal }
@@ -93,8 +96,10 @@ fn report<K: Kernel>(
     requires tuned { IsTuned t.now }
     requires numbered { All IsNumbered lines.now }
     requires spelled { Allows lines.now × (bytes.now ≡ spelling lines.now) }
-    ensures told { IsTrue (K.port.tells kernel) → Serves (λ text rules. text.items ≡ rules) result (report_of K.port t.now lines.now kernel) }
-    ensures tiled { IsTrue (K.port.tells kernel) → OnOk result (GivesTiles K.port t.now lines.now kernel) }
+    ensures told { IsTrue (K.port.tells kernel) → AnswersAs (λ text rules. text.items ≡ rules)
+        result (report_of K.port t.now lines.now kernel) }
+    ensures tiled { IsTrue (K.port.tells kernel) →
+        OnOk result (GivesTiles K.port t.now lines.now kernel) }
     ensures kind { IfErr result IsHalt }
 {
     let windows = Windows {
@@ -118,10 +123,13 @@ fn text_of_bytes<K: Kernel>(
     kernels: Vec<K>,
 ) -> Result<Vec<u8>, Exit>
     requires { vec_len kernels ≡ threads }
-    ensures told { All (λ k. IsTrue (K.port.tells k)) kernels.items → Serves (λ text rules. text.items ≡ rules) result (text_of K.port kernels.items (job_with (asked_of words.now) (lines_of (reading_of bytes.now)))) }
-    ensures tiled { All (λ k. IsTrue (K.port.tells k)) kernels.items → OnOk result (ShowsTiles K.port kernels.items (job_with (asked_of words.now) (lines_of (reading_of bytes.now)))) }
+    ensures told { AllTell K.port kernels.items → AnswersAs (λ text rules. text.items ≡ rules)
+        result (text_of K.port kernels.items (job_by words.now bytes.now)) }
+    ensures tiled { AllTell K.port kernels.items →
+        OnOk result (ShowsTiles K.port kernels.items (job_by words.now bytes.now)) }
     ensures word { IsErr (asked_of words.now) → IsErr result }
-    ensures job { MatchResult result (λ _. IsOk (job_with (asked_of words.now) (lines_of (reading_of bytes.now)))) (AnswersJob (job_with (asked_of words.now) (lines_of (reading_of bytes.now)))) }
+    ensures job { MatchResult result (λ _. IsOk (job_by words.now bytes.now))
+        (AnswersJob (job_by words.now bytes.now)) }
     ensures kind { IfErr result IsTextRefusal }
 {
     let job = read_job(alloc, words, bytes)?;
@@ -143,12 +151,19 @@ fn text<S: Source, K: Kernel>(
     kernels: Vec<K>,
 ) -> Result<Vec<u8>, Exit>
     requires { vec_len kernels ≡ threads }
-    ensures told { (bytes : List ℕ) → Told S.supply K.port source.old kernels.items bytes
-        → MatchResult result (λ text. verdict K.port kernels.items (asked_of words.now) bytes ≡ Ok text.items) (Refuses (verdict K.port kernels.items (asked_of words.now) bytes)) }
-    ensures tiled { (bytes : List ℕ) → Told S.supply K.port source.old kernels.items bytes → OnOk result (ShowsTiles K.port kernels.items (job_of (asked_of words.now) bytes)) }
-    ensures job { (bytes : List ℕ) → S.supply.left source.old ≡ Some bytes → MatchResult result (λ _. IsOk (job_of (asked_of words.now) bytes)) (AnswersJob (job_of (asked_of words.now) bytes)) }
+    ensures told { (bytes : List ℕ) → Told S.supply K.port source.old kernels.items bytes →
+        MatchResult result
+        (λ text. verdict K.port kernels.items (asked_of words.now) bytes ≡ Ok text.items)
+        (Refuses (verdict K.port kernels.items (asked_of words.now) bytes)) }
+    ensures tiled { (bytes : List ℕ) → Told S.supply K.port source.old kernels.items bytes →
+        OnOk result (ShowsTiles K.port kernels.items (job_of (asked_of words.now) bytes)) }
+    ensures job { (bytes : List ℕ) → S.supply.left source.old ≡ Some bytes →
+        MatchResult result (λ _. IsOk (job_of (asked_of words.now) bytes))
+        (AnswersJob (job_of (asked_of words.now) bytes)) }
     ensures word { IsErr (asked_of words.now) → IsErr result }
-    ensures source { MatchResult result (λ _. IsReadWhole S.supply source.old source.new) (λ exit. LeavesSource S.supply source.old exit source.new) }
+    ensures source { MatchResult result
+        (λ _. IsReadWhole S.supply source.old source.new)
+        (λ exit. LeavesSource S.supply source.old exit source.new) }
     ensures kind { IfErr result IsUnwritten }
 {
     let bytes = read_input(alloc, source)?;
@@ -173,19 +188,22 @@ pub fn run<S: Source, W: Sink, K: Kernel, G: Gate>(
     ensures source { LeavesSource S.supply source.old result source.new }
     ensures sink { LeavesSink W.store sink.old result sink.new }
 
-    // Over a source and ports that tell: the answer is that of the rules, and what is written is their text.
+    // Over a source and ports that tell: the answer is that of the rules, and what is written is
+    // their text.
     ensures told { (bytes : List ℕ) → Told S.supply K.port source.old kernels.items bytes →
-        Answers (verdict K.port kernels.items (asked_of words.now) bytes) W.store sink.old result sink.new }
+        Answers (verdict K.port kernels.items (asked_of words.now) bytes)
+        W.store sink.old result sink.new }
 
-    // What the words and the bytes alone refuse is refused exactly where they do, whatever the ports are.
+    // What the words and the bytes alone refuse is refused exactly where they do, whatever the
+    // ports are.
     ensures job { (bytes : List ℕ) → S.supply.left source.old ≡ Some bytes →
         AnswersJob (job_of (asked_of words.now) bytes) result }
 
     // Nothing is written where the words are refused, whatever the source tells.
     ensures word { IsErr (asked_of words.now) → IsUnwritten result }
 
-    // A text that was written shows a world in which main is sound and fills its ranges, and each used
-    // chunk stands in one place.
+    // Behind each line of a run whose text was written main is sound and fills its ranges, and
+    // each used chunk stands in one place.
     ensures tiled { (bytes : List ℕ) → Told S.supply K.port source.old kernels.items bytes →
         result ≡ Exit.Done → ShowsTiles K.port kernels.items (job_of (asked_of words.now) bytes) }
 {

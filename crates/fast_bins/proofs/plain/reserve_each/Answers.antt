@@ -1,5 +1,5 @@
 use Rattle.std.proofs.Common.{arith}
-use Rattle.fast_bins.proofs.Reserving.{roomier_more, room_more, gains}
+use Rattle.fast_bins.proofs.Reserving.{roomier_more, room_more, gains, full_at, on_err}
 use Rattle.fast_bins.proofs.plain.reserve_each.Goals as goal
 
 pub returns-in_err-make_room-clause-roomier : goal.returns-in_err-make_room-clause-roomier
@@ -15,3 +15,7 @@ loop-b-preserved c =
           (gains c.loop-b.bins c.loop-b.b-index c.b-item.result b (omega arith) c.make_room.ensures.bin c.make_room.ensures.more),
       room_more c.loop-b.bins c.loop-b.b-index b c.loop-b.invariant.1 (omega arith) c.in_ok-make_room.ensures.room,
     )
+
+pub returns-in_err-make_room-clause-full : goal.returns-in_err-make_room-clause-full
+returns-in_err-make_room-clause-full c =
+    on_err _ c.from_residual.result c.from_residual.ensures.0 (full_at c.args.bins.now c.loop-b.bins c.loop-b.b-index c.b-item.result c.loop-b.invariant.0 (omega arith) (omega arith) c.in_err-make_room.ensures.full)

@@ -11,7 +11,7 @@ take_break-requires-clause-main g c = bare_scene c.args.main.now c.args.tiles.no
 
 pub take_break-requires-clause-range : goal.take_break-requires-clause-range
 take_break-requires-clause-range g c =
-    let placed = c.requires.filled.placed in
+    let placed = c.requires.placed in
     record {
       words = break_part c.args.tiles.now c.args.main.now.break_at c.args.growth c.requires.words placed.start placed.break_page (omega arith);
       some = omega arith;
@@ -22,5 +22,5 @@ take_break-requires-clause-range g c =
 pub returns : goal.returns
 returns g c =
     let a = arena_of c.args.main.now c.args.tiles.now.tiles empty_bins None in
-    let kept = break_kept a c.args.growth c.requires.sound c.requires.filled (omega arith) (omega arith) (omega arith) in
+    let kept = break_kept a c.args.growth c.requires.sound c.requires.placed (omega arith) (omega arith) (omega arith) in
     scene_next c.args.main.now c.take_break.new.self c.args.tiles.now c.take_break.new.tiles (break_taken a c.args.growth) c.requires kept (c.take_break.ensures.arena empty_bins None) c.take_break.ensures.top c.take_break.ensures.extent

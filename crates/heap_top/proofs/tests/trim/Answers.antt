@@ -21,5 +21,5 @@ returns g c =
       left = omega (arith, ap (λ (t : Tile). t.size) c.top-2.view_is, top_size_is a c.expect-top.result top);
       whole = omega arith;
     } in
-    let kept = trim_kept a c.args.bytes c.requires.sound c.requires.filled can in
+    let kept = trim_kept a c.args.bytes c.requires.sound c.requires.placed can in
     scene_next c.args.main.now c.cut_main.new.self c.args.tiles.now c.cut_main.new.tiles (main_cut a c.args.bytes) c.requires kept (c.cut_main.ensures.arena empty_bins None) c.cut_main.ensures.top c.cut_main.ensures.extent

@@ -34,11 +34,11 @@ returns-in-Ok-clause-does g c =
 
 pub returns-in-Ok-clause-carries : goal.returns-in-Ok-clause-carries
 returns-in-Ok-clause-carries g c =
-    carries_given g.met.P.Places.laws.same c.args.block c.args.own.now (carries_unseen _ refl c.in-Ok.ensures.gone)
+    carries_given g.met.P.Places.laws.same c.args.block c.args.own.now (carries_unseen _ refl (λ w. omega arith) c.in-Ok.ensures.gone)
 
 pub returns-in-Err-clause-carries : goal.returns-in-Err-clause-carries
 returns-in-Err-clause-carries g c =
     rw (c.put.ensures, c.in-Err.ensures.back)
     (carries_as g.met.P.Places.laws.same (both_of (λ weigh. weigh c.args.block) (in_own c.args.own.now)) _ (λ w. omega arith)
     (λ w. omega (arith, in_names-with c.args.name c.args.block c.args.own.now.names w c.requires.room c.requires.empty))
-    (carries_beside g.met.P.Places.laws.same (both_of (λ weigh. weigh c.args.block) (in_own c.args.own.now)) (carries_unseen _ refl c.in-Err.ensures.kept)))
+    (carries_beside g.met.P.Places.laws.same (both_of (λ weigh. weigh c.args.block) (in_own c.args.own.now)) (carries_unseen _ refl (λ w. omega arith) c.in-Err.ensures.kept)))

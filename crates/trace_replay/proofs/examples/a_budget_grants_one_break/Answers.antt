@@ -7,7 +7,7 @@ use Rattle.std.specs.Fmt.{digits}
 use Rattle.thread_cache.specs.Caches.{empty_lists}
 use Rattle.trace_replay.specs.Places.{finds_of, fast_of, found_with, found_by_address, by_address, main_with, shown_of}
 use Rattle.trace_replay.specs.Records.{records_of}
-use Rattle.trace_replay.specs.SerialText.{replayed, verdict}
+use Rattle.trace_replay.specs.SerialText.{run_of, verdict}
 use Rattle.arena_rules.specs.PlainArena.{empty_bins}
 use Rattle.arena_rules.specs.Search.{most_stashed}
 use Rattle.arena_rules.specs.Release.{consolidated}
@@ -19,7 +19,7 @@ use Rattle.trace_text.specs.Numbers.{number_of}
 use Rattle.trace_replay.proofs.examples.a_budget_grants_one_break.Goals as goal
 
 pub returns : goal.returns
-unfolding verdict replayed step empty_lists empty_bins most_stashed consolidated empty_state reading_of lines_after line_of filled_line thread_of command_of call_of one_number two_numbers three_numbers number_at name_at number_of fitting is_held has_ended shown_of main_with finds_of fast_of found_with found_by_address by_address records_of record_text answer_text source_text sink_text freed_text hold_text null_word_of places_of arena_sections arena_section arena_line address_or_dash tile_lines tile_line place_text bin_line bin_lines mapped_lines cache_lines cache_line numbered_list addresses thread_lines thread_line number_or_dash numbers_or_dash book_line dials_line statistics_of all_arena_totals arena_totals in_list_order insert_by_place bytes_lines total_line in_use_of idle_bytes_of tile_bytes_of totals_of totals_lines system_bytes_of used_bytes_of mapped_maxima block_text address hex_digits in_ten_places digits
+unfolding verdict run_of step empty_lists empty_bins most_stashed consolidated empty_state reading_of lines_after line_of filled_line thread_of command_of call_of one_number two_numbers three_numbers number_at name_at number_of fitting is_held has_ended shown_of main_with finds_of fast_of found_with found_by_address by_address records_of record_text answer_text source_text sink_text freed_text hold_text null_word_of places_of arena_sections arena_section arena_line address_or_dash tile_lines tile_line place_text bin_line bin_lines mapped_lines cache_lines cache_line numbered_list addresses thread_lines thread_line number_or_dash numbers_or_dash book_line dials_line statistics_of all_arena_totals arena_totals in_list_order insert_by_place bytes_lines total_line in_use_of idle_bytes_of tile_bytes_of totals_of totals_lines system_bytes_of used_bytes_of mapped_maxima block_text address hex_digits in_ten_places digits
 returns c = record {
   enough = refl;
   short = refl;

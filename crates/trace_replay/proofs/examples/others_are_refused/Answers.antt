@@ -1,6 +1,6 @@
 use Rattle.std.proofs.Common.{refl}
 use Rattle.thread_cache.specs.Caches.{empty_lists}
-use Rattle.trace_replay.specs.SerialText.{replayed, verdict}
+use Rattle.trace_replay.specs.SerialText.{run_of, verdict}
 use Rattle.arena_rules.specs.PlainArena.{empty_bins}
 use Rattle.arena_rules.specs.Search.{most_stashed}
 use Rattle.arena_rules.specs.Release.{consolidated}
@@ -12,7 +12,7 @@ use Rattle.trace_text.specs.Numbers.{number_of}
 use Rattle.trace_replay.proofs.examples.others_are_refused.Goals as goal
 
 pub returns : goal.returns
-unfolding verdict replayed step empty_lists empty_bins most_stashed consolidated empty_state reading_of lines_after line_of filled_line thread_of command_of call_of one_number two_numbers three_numbers number_at name_at number_of fitting is_held has_ended
+unfolding verdict run_of step empty_lists empty_bins most_stashed consolidated empty_state reading_of lines_after line_of filled_line thread_of command_of call_of one_number two_numbers three_numbers number_at name_at number_of fitting is_held has_ended
 returns c = record {
   empty = refl;
   cut = refl;

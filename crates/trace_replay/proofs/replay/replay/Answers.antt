@@ -1,12 +1,9 @@
-use Rattle.std.proofs.Common.{List, refl, subst, ◌∙◌}
-use Rattle.std.proofs.lemmas.List.{drop_all, take_all}
+use Rattle.std.proofs.Common.{refl, subst, ◌∙◌}
+use Rattle.std.proofs.lemmas.List.{take_all}
 use Rattle.std.proofs.lemmas.Result.{err_from_is_err_and}
-use Rattle.malloc_calls.specs.Own.{names_of}
-use Rattle.trace_text.specs.declared.trace.Line.{Line}
-use Rattle.trace_replay.specs.Tiling.{FitsWithin}
 use Rattle.trace_replay.specs.Processes.{world_of}
 use Rattle.trace_replay.proofs.HeldNames.{nothing_named, nothing_fits, names_next, fits_next, may_run, fits_at}
-use Rattle.trace_replay.proofs.ReplayLoop.{SoFar, nothing_yet, goes_on, next_texts, ends, finished}
+use Rattle.trace_replay.proofs.ReplayLoop.{SoFar, nothing_yet, goes_on, next_texts, ends, finished, tiles_first, tiles_next, tiles_all}
 use Rattle.trace_replay.proofs.replay.replay.Goals as goal
 
 pub loop-line-init : goal.loop-line-init
@@ -16,7 +13,7 @@ loop-line-init g c = record {
   fit = nothing_fits _ c.requires.unnamed;
   settled = c.requires.settled;
   tunables = refl;
-  told = λ h. (h, nothing_yet _ _ _ _ _);
+  told = λ h. (h, nothing_yet _ _ _ _, tiles_first _ _ c.args.lines.now _ c.laws.ensures (nothing_fits _ c.requires.unnamed));
 }
 
 pub replay_line-requires-clause-may : goal.replay_line-requires-clause-may
@@ -32,17 +29,20 @@ loop-line-preserved g c = record {
   tunables = c.replay_line.ensures.tunables ∙ c.loop-line.invariant.tunables;
   told = λ h.
       let so_far = c.loop-line.invariant.told h in
-      let answered = c.in_ok-replay_line.ensures.told so_far.0 in (
+      let answered = c.in_ok-replay_line.ensures.told so_far.0 in
+      let here = goes_on _ _ _ _ c.loop-line.line-index _ _ _ _ _ _ _ answered.0 c.loop-line.invariant.tunables c.loop-line-test.true so_far.1 answered.1 answered.2 in (
         c.in_ok-replay_line.ensures.telling so_far.0,
-        goes_on _ _ _ _ c.loop-line.line-index _ _ _ _ _ _ _ answered.0 c.loop-line.invariant.tunables c.loop-line-test.true so_far.1 answered.1 answered.2,
+        here,
+        tiles_next _ _ _ c.loop-line.line-index _ _ _ _ so_far.2 here c.laws-in-loop-line.ensures
+            (fits_next _ c.loop-line.line-index _ _ _ c.loop-line-test.true c.loop-line.invariant.fit c.in_ok-replay_line.ensures.names),
       );
 }
 
 pub returns-clause-told : goal.returns-clause-told
 returns-clause-told g c h =
     finished _ _ _ _ _ _ _
-    (subst (λ rest. SoFar g.K.Kernel.port c.args.process.now.t c.args.lines.now rest (world_of c.args.process.now) (world_of c.loop-line.process) c.args.out.now.items c.loop-line.out.items)
-    (drop_all c.loop-line.line-index c.args.lines.now c.loop-line-test.false) (c.loop-line.invariant.told h).1)
+    (subst (λ front. SoFar g.K.Kernel.port c.args.process.now.t front (world_of c.args.process.now) (world_of c.loop-line.process) c.args.out.now.items c.loop-line.out.items)
+    (take_all c.loop-line.line-index c.args.lines.now c.loop-line-test.false) (c.loop-line.invariant.told h).1)
 
 pub returns-in_err-replay_line-clause-told : goal.returns-in_err-replay_line-clause-told
 returns-in_err-replay_line-clause-told g c h =
@@ -50,6 +50,5 @@ returns-in_err-replay_line-clause-told g c h =
     let so_far = c.loop-line.invariant.told h in
     rw (p.1, p.2) (ends _ _ _ _ c.loop-line.line-index _ _ _ _ _ _ c.loop-line.invariant.tunables c.loop-line-test.true so_far.1 (c.in_err-replay_line.ensures.told so_far.0))
 
-pub returns-clause-fit : goal.returns-clause-fit
-returns-clause-fit g c =
-    subst (λ (lines : List Line). FitsWithin lines (names_of c.loop-line.process.thread)) (take_all c.loop-line.line-index c.args.lines.now c.loop-line-test.false) c.loop-line.invariant.fit
+pub returns-clause-tiled : goal.returns-clause-tiled
+returns-clause-tiled g c h = tiles_all _ _ c.args.lines.now c.loop-line.line-index _ c.loop-line-test.false (c.loop-line.invariant.told h).2

@@ -4,7 +4,7 @@ use Rattle.trace_text.specs.Spelling.{texts_of}
 use Rattle.trace_replay.specs.Naming.{HoldsWithin}
 use Rattle.trace_replay.specs.Tiling.{FitsWithin}
 use Rattle.trace_replay.specs.Processes.{world_of, tells, IsSettled}
-use Rattle.trace_replay.proofs.ReplayLoop.{SoFar}
+use Rattle.trace_replay.proofs.ReplayLoop.{SoFar, TilesSoFar}
 use Rattle.trace_replay.proofs.replay.replay.Given as goal
 
 abbrev pub invariant-loop-line : goal.invariant-loop-line
@@ -16,5 +16,6 @@ invariant-loop-line g l = record {
   tunables : l.process.t ≡ l.initial.process.t;
   told : IsTrue (tells g.K.Kernel.port l.initial.process)
       → IsTrue (tells g.K.Kernel.port l.process)
-      × SoFar g.K.Kernel.port l.initial.process.t l.lines (drop l.line-index l.lines) (world_of l.initial.process) (world_of l.process) l.initial.out.items l.out.items;
+      × SoFar g.K.Kernel.port l.initial.process.t (take l.line-index l.lines) (world_of l.initial.process) (world_of l.process) l.initial.out.items l.out.items
+      × TilesSoFar g.K.Kernel.port l.initial.process.t l.lines l.line-index (world_of l.initial.process);
 }

@@ -3,5 +3,5 @@ use Rattle.trace_replay.proofs.snapshot.main_view.Goals as goal
 
 pub returns-clause-idle : goal.returns-clause-idle
 returns-clause-idle c =
-    rw (c.in_ok-shown.ensures, c.as_slice-3.ensures.value, c.in_ok-tiles.ensures, c.system.ensures)
-    (idle_in_main c.args.ground.now.arena c.in_ok-found.found.entries c.laws.ensures.filled)
+    rw (c.in_ok-tile_views.ensures, c.as_slice-3.ensures.value, c.in_ok-tiles.ensures, c.system.ensures)
+    (idle_in_main c.args.ground.now.arena c.in_ok-found.found.entries c.laws.ensures.placed)

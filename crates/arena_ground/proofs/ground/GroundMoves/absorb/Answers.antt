@@ -3,7 +3,7 @@ use Rattle.arena_rules.specs.Moves.{absorbed}
 use Rattle.arena_ground.specs.Grounds.{GroundView, bins_at}
 use Rattle.arena_ground.proofs.Keeping.{held}
 use Rattle.arena_ground.proofs.Moving.{own_tile}
-use Rattle.arena_ground.proofs.Topping.{behind_top, absorb_done}
+use Rattle.arena_ground.proofs.Topping.{behind_top, absorb_done, bare_placed}
 use Rattle.arena_ground.proofs.ground.GroundMoves.absorb.Goals as goal
 
 pub absorb-requires-clause-chunk : goal.absorb-requires-clause-chunk
@@ -28,3 +28,6 @@ returns-clause-arena c =
     (absorb_done _ _ _ _ _ _ c.args.c g (rw (← c.self.view_is) at c.requires.own) (rw (← c.self.view_is) at c.requires.before) (rw (← c.self.view_is) at c.requires.top)
     (record { arena = c.absorb.ensures.arena (bins_at c.self.inside.tiles.tiles c.self.inside.links.lists) c.self.inside.last; top = c.absorb.ensures.top; extent = c.absorb.ensures.extent })).is
     ∙ ap (λ (v : GroundView). absorbed v.arena c.args.c) c.self.view_is
+
+pub absorb-requires-clause-main : goal.absorb-requires-clause-main
+absorb-requires-clause-main c = bare_placed _ _ _ _ c.self.invariant

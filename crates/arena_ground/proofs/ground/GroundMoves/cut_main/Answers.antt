@@ -2,11 +2,11 @@ use Rattle.std.proofs.Common.{ap, ◌∙◌}
 use Rattle.arena_rules.specs.Trim.{main_cut}
 use Rattle.arena_ground.specs.Grounds.{GroundView, bins_at}
 use Rattle.arena_ground.proofs.Keeping.{held}
-use Rattle.arena_ground.proofs.Topping.{trim_done, bare_filled}
+use Rattle.arena_ground.proofs.Topping.{trim_done, bare_placed}
 use Rattle.arena_ground.proofs.ground.GroundMoves.cut_main.Goals as goal
 
 pub cut_main-requires-clause-main : goal.cut_main-requires-clause-main
-cut_main-requires-clause-main c = bare_filled _ _ _ _ c.self.invariant
+cut_main-requires-clause-main c = bare_placed _ _ _ _ c.self.invariant
 
 pub invariant_of-self : goal.invariant_of-self
 invariant_of-self c =

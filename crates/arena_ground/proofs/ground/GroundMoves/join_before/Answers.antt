@@ -2,6 +2,7 @@ use Rattle.std.proofs.Common.{refl, sym, ap, ◌∙◌, subst}
 use Rattle.std.specs.Option.{IsSome}
 use Rattle.arena_rules.specs.Moves.{hand, joined_before}
 use Rattle.arena_ground.specs.Grounds.{GroundView}
+use Rattle.heap_top.proofs.TopLaws.{pair_below}
 use Rattle.arena_ground.proofs.Keeping.{held}
 use Rattle.arena_ground.proofs.Moving.{own_tile}
 use Rattle.arena_ground.proofs.Joining.{pair_before, join_before_done}
@@ -37,3 +38,9 @@ returns-in-Some c =
     let g = held _ _ _ _ _ c.self.invariant c.self.view_is c.requires.sound in
     rw (c.join.ensures.tiles, c.join.ensures.chunk) (join_before_done _ _ _ _ _ c.args.c _ g (rw (← c.self.view_is) at c.requires.own) (sym c.in-Some.ensures) c.join.ensures.lists c.join.ensures.extent).is
     ∙ ap (λ (v : GroundView). joined_before (hand c.args.c v.arena)) c.self.view_is
+
+pub join-requires-clause-below : goal.join-requires-clause-below
+join-requires-clause-below c =
+    let g = held _ _ _ _ _ c.self.invariant c.self.view_is c.requires.sound in
+    let pair = pair_before _ _ _ _ c.args.c _ g (rw (← c.self.view_is) at c.requires.own) (sym c.in-Some.ensures) in
+    pair_below _ _ _ _ c.self.invariant.placed pair.found pair.behind

@@ -1,6 +1,7 @@
 use Rattle.std.proofs.Common.{◌≡◌, sym, ap, ◌∙◌, subst}
 use Rattle.arena_rules.specs.Moves.{hand, joined_behind, is_free_tile}
 use Rattle.arena_ground.specs.Grounds.{GroundView, arena_with}
+use Rattle.heap_top.proofs.TopLaws.{pair_below}
 use Rattle.arena_ground.proofs.Keeping.{held}
 use Rattle.arena_ground.proofs.Moving.{own_tile}
 use Rattle.arena_ground.proofs.Joining.{pair_behind, join_behind_done, behind_not}
@@ -37,3 +38,8 @@ returns-else-is_free c =
     let h = hand c.args.c (arena_with c.self.inside.regions c.self.inside.tiles c.self.inside.links c.self.inside.last) in
     subst (λ (v : GroundView). hand c.args.c v.arena ≡ joined_behind (hand c.args.c v.arena)) c.self.view_is
     (sym (behind_not h (ap is_free_tile c.behind-u.ensures ∙ (sym c.is_free.ensures ∙ c.if-is_free.false))))
+
+pub join-requires-clause-below : goal.join-requires-clause-below
+join-requires-clause-below c =
+    let g = held _ _ _ _ _ c.self.invariant c.self.view_is c.requires.sound in
+    pair_below _ _ _ _ c.self.invariant.placed (own_tile _ _ _ _ c.args.c g (rw (← c.self.view_is) at c.requires.own)) c.behind-u.ensures

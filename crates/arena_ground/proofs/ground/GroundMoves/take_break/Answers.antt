@@ -2,11 +2,11 @@ use Rattle.std.proofs.Common.{ap, ◌∙◌}
 use Rattle.arena_rules.specs.Growth.{break_taken}
 use Rattle.arena_ground.specs.Grounds.{GroundView, bins_at}
 use Rattle.arena_ground.proofs.Keeping.{held}
-use Rattle.arena_ground.proofs.Topping.{break_done, bare_filled}
+use Rattle.arena_ground.proofs.Topping.{break_done, bare_placed}
 use Rattle.arena_ground.proofs.ground.GroundMoves.take_break.Goals as goal
 
 pub take_break-requires-clause-main : goal.take_break-requires-clause-main
-take_break-requires-clause-main c = bare_filled _ _ _ _ c.self.invariant
+take_break-requires-clause-main c = bare_placed _ _ _ _ c.self.invariant
 
 pub invariant_of-self : goal.invariant_of-self
 invariant_of-self c =

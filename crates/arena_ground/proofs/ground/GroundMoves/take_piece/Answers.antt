@@ -2,11 +2,11 @@ use Rattle.std.proofs.Common.{ap, ◌∙◌}
 use Rattle.arena_rules.specs.Growth.{piece_taken}
 use Rattle.arena_ground.specs.Grounds.{GroundView, bins_at}
 use Rattle.arena_ground.proofs.Keeping.{held}
-use Rattle.arena_ground.proofs.Topping.{piece_done, bare_filled}
+use Rattle.arena_ground.proofs.Topping.{piece_done, bare_placed}
 use Rattle.arena_ground.proofs.ground.GroundMoves.take_piece.Goals as goal
 
 pub take_piece-requires-clause-main : goal.take_piece-requires-clause-main
-take_piece-requires-clause-main c = bare_filled _ _ _ _ c.self.invariant
+take_piece-requires-clause-main c = bare_placed _ _ _ _ c.self.invariant
 
 pub invariant_of-self : goal.invariant_of-self
 invariant_of-self c =

@@ -4,7 +4,7 @@ use Rattle.chunk_image.proofs.tile_words.TileWords.enter.Goals as goal
 
 pub put-requires-clause-stands : goal.put-requires-clause-stands
 put-requires-clause-stands c =
-    can_enter _ _ (rw (← c.t.view_is) at c.requires.kind) (rw (← c.t.view_is) at c.requires.some) (rw (← c.self.view_is, ← c.t.view_is) at c.requires.room)
+    can_enter _ _ (rw (← c.t.view_is) at c.requires.kind) (rw (← c.t.view_is) at c.requires.some) (rw (← c.t.view_is) at c.requires.fits) (rw (← c.self.view_is, ← c.t.view_is) at c.requires.room)
 
 pub returns : goal.returns
 returns c =

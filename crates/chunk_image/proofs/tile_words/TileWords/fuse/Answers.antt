@@ -13,7 +13,7 @@ overflow_add-size c =
 
 pub put-requires-2-clause-stands : goal.put-requires-2-clause-stands
 put-requires-2-clause-stands c =
-    can_fuse _ _ _ _ c.args.kind _ (record { kept = c.self.invariant; row = rw (← c.self.view_is) at c.requires.row; found = rw (← c.self.view_is, ← c.t.view_is) at c.requires.tile; chunk = rw (← c.t.view_is) at c.requires.chunk; behind = rw (← c.self.view_is, ← c.t.view_is, ← c.u.view_is) at c.requires.behind }) (rw (← c.u.view_is) at c.requires.free) c.put.ensures.heads c.put.ensures.extent
+    can_fuse _ _ _ _ c.args.kind _ (record { kept = c.self.invariant; row = rw (← c.self.view_is) at c.requires.row; found = rw (← c.self.view_is, ← c.t.view_is) at c.requires.tile; chunk = rw (← c.t.view_is) at c.requires.chunk; behind = rw (← c.self.view_is, ← c.t.view_is, ← c.u.view_is) at c.requires.behind }) (rw (← c.u.view_is) at c.requires.free) (rw (← c.t.view_is, ← c.u.view_is) at c.requires.below) c.put.ensures.heads c.put.ensures.extent
 
 pub returns : goal.returns
 returns c =

@@ -4,7 +4,7 @@ use Rattle.chunk_image.proofs.ScanLaws.{tiles_of-no_words}
 use Rattle.chunk_image.proofs.tile_words.TileWords.new.Goals as goal
 
 pub invariant_of-result : goal.invariant_of-result
-invariant_of-result c = rw (c.new.ensures, c.new-2.ensures) (IsKept-no_words _ _)
+invariant_of-result c = rw c.new.ensures (IsKept-no_words _ _)
 
 pub returns : goal.returns
 returns c =

@@ -5,7 +5,7 @@ use Rattle.chunk_tags.specs.Tiles.{top_of}
 use Rattle.chunk_tags.specs.declared.tiles.TileKind.TheVariants.{Top}
 use Rattle.arena_rules.specs.Moves.{tile_of}
 use Rattle.heap_top.specs.Regions.{bare_arena, arena_of}
-use Rattle.heap_top.proofs.TopLaws.{fused_here, top_size_is, absorbed_is, same_found}
+use Rattle.heap_top.proofs.TopLaws.{fused_here, top_size_is, absorbed_is, same_found, pair_below}
 use Rattle.heap_top.proofs.regions.Regions.absorb.Goals as goal
 
 pub tile-requires : goal.tile-requires
@@ -32,3 +32,7 @@ pub returns-clause-arena : goal.returns-clause-arena
 returns-clause-arena c =
     let top : top_of c.args.tiles.now.tiles ≡ Some c.behind-top.result = sym c.requires.top ∙ c.behind-top.ensures in
     rw c.fuse.ensures (λ bins last. absorbed_is (arena_of c.args.self.now c.args.tiles.now.tiles bins last) c.args.c _ top)
+
+pub fuse-requires-clause-below : goal.fuse-requires-clause-below
+fuse-requires-clause-below c =
+    pair_below (bare_arena c.args.self.now c.args.tiles.now.tiles) _ _ _ c.requires.main c.requires.chunk c.behind-top.ensures

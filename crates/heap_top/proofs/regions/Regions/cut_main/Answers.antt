@@ -34,7 +34,7 @@ overflow_sub-self-in-Some c =
       c.requires.spare.left,
       top_size_is a _ top,
       tile_weighs (λ (t : Tile). t.size) c.in-Some.top.addr c.in-Some.top c.args.tiles.now.tiles (top_found _ _ c.requires.known.row top).found,
-      c.requires.main.placed.system,
+      c.requires.main.tiled,
     )
 
 pub returns-in-None-clause-top : goal.returns-in-None-clause-top
@@ -51,3 +51,14 @@ returns-in-Some-clause-arena c = λ bins last.
     let size = ap (λ (t : Tile). t.size) c.top-in-Some.view_is in
     let at : with_top_size a (c.top-in-Some.inside.0.1.0.0 - c.args.bytes) ≡ with_top_size a (top_size a - c.args.bytes) = ap (λ n. with_top_size a (n - c.args.bytes)) (size ∙ sym (top_size_is a _ top)) in
     rw c.set_size.ensures (ap (λ (b : Plain). record b { break_at = a.break_at - c.args.bytes; system = a.system - c.args.bytes }) (sized_is a _ _ _ refl c.requires.known.row top ∙ at))
+
+pub set_size-requires-clause-fits : goal.set_size-requires-clause-fits
+set_size-requires-clause-fits c =
+    let a = bare_arena c.args.self.now c.args.tiles.now.tiles in
+    let size = ap (λ (t : Tile). t.size) c.top-in-Some.view_is in
+    let is = top_size_is a _ (sym c.in-Some.ensures.top) in
+    let fits = c.in-Some.ensures.fits in
+    record {
+      whole = omega (arith, size, is, fits.whole, c.requires.spare.whole, c.requires.spare.left);
+      below = omega (arith, size, fits.below);
+    }

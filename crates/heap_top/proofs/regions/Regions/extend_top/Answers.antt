@@ -1,6 +1,7 @@
-use Rattle.std.proofs.Common.{◌+◌, sym, ap, ◌∙◌, arith}
+use Rattle.std.proofs.Common.{◌+◌, sym, ap, ◌∙◌, subst, arith}
 use Rattle.chunk_tags.specs.declared.tiles.Tile.{Tile}
 use Rattle.chunk_tags.specs.Tiles.{is_free, top_of}
+use Rattle.chunk_image.specs.Rows.{IsWordSize}
 use Rattle.arena_rules.specs.Moves.{with_top_size}
 use Rattle.arena_rules.proofs.Changes.{tile_is}
 use Rattle.arena_rules.proofs.Tops.{top_found}
@@ -22,8 +23,8 @@ set_size-requires-clause-tile c = (top_found _ _ c.requires.known.row (sym c.in-
 pub set_size-requires-clause-kind : goal.set_size-requires-clause-kind
 set_size-requires-clause-kind c = ap is_free (top_found _ _ c.requires.known.row (sym c.in-Some.ensures.top)).is
 
-pub set_size-requires-clause-size : goal.set_size-requires-clause-size
-set_size-requires-clause-size c =
+pub set_size-requires-clause-some : goal.set_size-requires-clause-some
+set_size-requires-clause-some c =
     omega (arith, ap (λ (t : Tile). t.size) c.top-in-Some.view_is, (tile_is _ _ c.requires.known.row (top_found _ _ c.requires.known.row (sym c.in-Some.ensures.top)).found).size.0)
 
 pub set_size-requires-clause-room : goal.set_size-requires-clause-room
@@ -42,3 +43,7 @@ returns-in-Some-clause-arena c = λ a same.
     let top = sym c.in-Some.ensures.top in
     let size = ap (λ (t : Tile). t.size) c.top-in-Some.view_is in
     rw c.set_size.ensures (sized_is a _ _ _ same c.requires.known.row top) ∙ ap (λ n. with_top_size a (n + c.args.growth)) (size ∙ sym (top_size_is a _ (ap top_of same ∙ top)))
+
+pub set_size-requires-clause-fits : goal.set_size-requires-clause-fits
+set_size-requires-clause-fits c =
+    subst (λ n. IsWordSize (n + c.args.growth)) (top_size_is (bare_arena c.args.self.now c.args.tiles.now.tiles) _ (sym c.in-Some.ensures.top) ∙ sym (ap (λ (t : Tile). t.size) c.top-in-Some.view_is)) c.requires.fits

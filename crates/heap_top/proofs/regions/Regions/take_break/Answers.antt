@@ -3,6 +3,7 @@ use Rattle.std.proofs.lemmas.Bool.{cond-true, cond-false}
 use Rattle.arena_rules.specs.Moves.{top_size, with_top_size, with_moved_top, left_of_top}
 use Rattle.arena_rules.specs.Growth.{is_top_at_break, with_break}
 use Rattle.heap_top.specs.Regions.{bare_arena, arena_of}
+use Rattle.heap_top.proofs.TopLaws.{grown_top_fits}
 use Rattle.heap_top.proofs.regions.Regions.take_break.Goals as goal
 
 pub returns-then-extends-clause-rest : goal.returns-then-extends-clause-rest
@@ -28,3 +29,7 @@ returns-else-extends-clause-arena c = λ bins last.
     let b = with_break a c.args.growth in
     c.move_top.ensures.arena bins last
     ∙ sym (cond-false (is_top_at_break a) (with_top_size b (top_size a + c.args.growth)) (with_moved_top b a.break_at c.args.growth) (sym c.is_top_at_break-extends.ensures ∙ c.if-extends.false))
+
+pub extend_top-requires-clause-fits : goal.extend_top-requires-clause-fits
+extend_top-requires-clause-fits c =
+    grown_top_fits (bare_arena c.args.self.now c.args.tiles.now.tiles) c.args.growth c.requires.main c.requires.known.row c.requires.range.pages c.requires.range.window

@@ -16,3 +16,6 @@ returns-in-Some-clause-top c =
 pub returns-in-Some-clause-room : goal.returns-in-Some-clause-room
 returns-in-Some-clause-room c =
     subst (λ at. IsRoom c.args.tiles.now.extent at c.tile.result.size) (sym (addr_at _ _ _ c.tile.ensures.tile)) c.tile.ensures.room
+
+pub returns-in-Some-clause-fits : goal.returns-in-Some-clause-fits
+returns-in-Some-clause-fits c = c.tile.ensures.fits

@@ -6,7 +6,7 @@ use Rattle.malloc_calls.specs.Places.{Hands, in_own, Standing, standing}
 use Rattle.malloc_calls.specs.SerialWays.{SerialState, Serves}
 use Rattle.trace_replay.specs.Naming.{EmptiesName}
 use Rattle.trace_replay.proofs.CallResults.{free_empties, does_result}
-use Rattle.trace_replay.proofs.Serving.{served_there, exact_readied, serves_after, served_next, call_plays, if_ok, on_ok}
+use Rattle.trace_replay.proofs.Serving.{served_there, exact_readied, serves_after, served_next, window_there, window_next, call_plays, if_ok, on_ok}
 use Rattle.trace_replay.proofs.process.Process.free.Goals as goal
 
 pub free-requires-clause-served : goal.free-requires-clause-served
@@ -45,4 +45,6 @@ returns-clause-settled g c = on_ok _ c.free.result (λ ok.
       served = served_next _ p.t given got old new c.free.ensures.carries (served_there p.t p.thread c.ready.new.self p.serial c.args.name c.in_ok-ready.ensures.ok c.requires.settled.served);
       exact = serves_after _ true given got old new (λ e. ok) c.free.ensures.carries
           (subst Exact (sym c.in_ok-ready.ensures.ok) (exact_readied c.args.name p.serial (own_of p.thread) c.requires.settled.exact));
+      window = window_next _ (own_of c.ready.new.self) (own_of c.free.new.self) old new c.free.ensures.carries
+          (window_there p.thread c.ready.new.self c.args.name c.in_ok-ready.ensures.ok c.requires.settled.window);
     })
