@@ -184,7 +184,7 @@ pub record RemapsWithin {K : Type 0} (port : Port K) (before : Space K) (change 
   pub cause : place ≡ None → Rose (space_refusals port before) (space_refusals port now)
   -- a mapping that grows gets a place that is given once
   pub fresh : IsTrue change.grows → IfSome place (IsNextPlace before change.new_len now)
-  -- one that shrinks stays
+  -- one that doesn't grow stays
   pub kept : change.grows ≡ false → IfSome place (IsKeptPlace before change now)
   -- one that would pass the window is refused, and isn't put to the kernel
   pub passed : IsTrue (remap_passes before change) → (place ≡ None) × (now ≡ record before { passed = counted before.passed })

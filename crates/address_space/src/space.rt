@@ -1,6 +1,6 @@
 //! The address space of one thread: its kernel, behind the windows.
 
-ghost use Rattle.std.specs.Prelude.{◌≡◌, ◌≢◌, ◌+◌, ◌%◌, ◌^◌, ◌<◌, nat_lt};
+ghost use Rattle.std.specs.Prelude.{◌≡◌, ◌≢◌, ◌+◌, ◌%◌, ◌<◌, nat_lt};
 ghost use Rattle.address_space.specs.declared.asks.Ask.{Ask};
 ghost use Rattle.address_space.specs.declared.asks.Ask.TheVariants.{Break, Piece};
 
@@ -17,6 +17,9 @@ pub const PIECE_START: u64 = 0x5a00_0000_0000;
 /// The first address of the mappings of thread 0. Those of each thread have a window of their own, of
 /// `MAP_LENGTH` bytes, behind that of the thread before.
 pub const MAP_START: u64 = 0x6000_0000_0000;
+
+/// An address behind the windows of all threads for mappings.
+pub const MAP_LIMIT: u64 = 0x7000_0000_0000;
 
 /// The lengths of the windows, in bytes, and how many heaps an arena has.
 #[derive(Clone, Copy, Debug, PartialEq, Eq)]
@@ -112,7 +115,6 @@ impl<K: Kernel> Space<K> {
     /// would end behind the window or the kernel refused; then the count of refusals rose and the place stays the next
     /// one. A place is a multiple of a page, and one that was given is never given again.
     pub fn map(&mut self, len: u64) -> Option<u64>
-        requires some { 0 < len }
         requires pages { len % 4096 ≡ 0 }
         ensures { MapsWithin K.port self.old len result self.new }
     {
@@ -127,12 +129,11 @@ impl<K: Kernel> Space<K> {
         }
     }
 
-    /// Asks for another length of a mapping, `old_len` bytes at `addr`. One that shrinks keeps its address, one that grows
-    /// gets the next place of the thread's window. `None` exactly where that would end behind the window or the kernel
-    /// refused; then the count of refusals rose and the place stays the next one.
+    /// Asks for another length of a mapping, `old_len` bytes at `addr`; `new_len` is whole pages and another length.
+    /// One that grows gets the next place of the thread's window, and is refused where it would end behind that. One
+    /// that shrinks keeps its address, and no window refuses it. `None` exactly where the window or the kernel refused;
+    /// then the count of refusals rose. The next place changes only where one that grows is granted.
     pub fn remap(&mut self, addr: u64, old_len: u64, new_len: u64) -> Option<u64>
-        requires fits { addr + old_len < 2 ^ 64 }
-        requires some { (0 < old_len) × (0 < new_len) }
         requires pages { new_len % 4096 ≡ 0 }
         requires differ { old_len ≢ new_len }
         ensures { RemapsWithin K.port self.old (length_change addr old_len new_len) result self.new }

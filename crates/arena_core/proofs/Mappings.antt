@@ -105,9 +105,6 @@ whether_large fast dials t nb threshold count p q z old b apart step le step' is
 
 -- ---- the mapping
 
-abbrev chunk_of_length : ℕ → ℕ → Chunk
-chunk_of_length at len = record { at = at; size = len }
-
 pub mapping_short : {P K : Type 0} (m : Means P K) (nb : ℕ) (p : P) (space : Space K) (old : List Said) (r : Result (Option Chunk) NoMemory) → IsErr r → AsksMapping m nb p space old r p space old
 mapping_short m nb p space old r is = record { works = λ t a cache s. works_short r is short_here (loses_from (balances_here (full m) (stage a (beside_arena p cache space) old) old s)) }
 

@@ -26,10 +26,11 @@ pub record Passes {O A : Type 0} (l : Ledger O) (t : Tunables) (r : Rules A) (x 
 pub passes_here : {O A : Type 0} {l : Ledger O} {t : Tunables} {r : Rules A} {x : Stage O} → IsSound x.arena → Passes l t r x no_chunk r x
 passes_here {l = l} {x = x} s = record { reaches = reaches_here; balances = balances_here l x x.said s }
 
-renumbered : {O A : Type 0} (l : Ledger O) (t : Tunables) (r q : Rules A) (o z : O) (old new : List Said) (n k : ℕ) → n ≡ k → Reaches t (l.ways n) r o old q new z → Reaches t (l.ways k) r o old q new z
+-- a walk in an arena whose number is known by another name
+pub renumbered : {O A : Type 0} (l : Ledger O) (t : Tunables) (r q : Rules A) (o z : O) (old new : List Said) (n k : ℕ) → n ≡ k → Reaches t (l.ways n) r o old q new z → Reaches t (l.ways k) r o old q new z
 renumbered l t r q o z old new n k same = subst (λ k. Reaches t (l.ways k) r o old q new z) same
 
-renumbered_short : {O A : Type 0} (l : Ledger O) (t : Tunables) (r : Rules A) (left : Plain) (o z : O) (old new : List Said) (n k : ℕ) → n ≡ k → StopsShort t (l.ways n) r o old left new z → StopsShort t (l.ways k) r o old left new z
+pub renumbered_short : {O A : Type 0} (l : Ledger O) (t : Tunables) (r : Rules A) (left : Plain) (o z : O) (old new : List Said) (n k : ℕ) → n ≡ k → StopsShort t (l.ways n) r o old left new z → StopsShort t (l.ways k) r o old left new z
 renumbered_short l t r left o z old new n k same = subst (λ k. StopsShort t (l.ways k) r o old left new z) same
 
 pub passes_then : {O A : Type 0} {l : Ledger O} {t : Tunables} {r q u : Rules A} {x y z : Stage O} {got got' : Chunks} → Passes l t r x got q y → Passes l t q y got' u z → Passes l t r x (λ e. got e + got' e) u z

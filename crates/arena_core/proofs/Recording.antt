@@ -1,5 +1,5 @@
 -- Laws of recorded holds, for this crate and those above it: the arena is still what its journal gives.
-use Rattle.std.proofs.Common.{◌≡◌, ℕ, true, ◌&&◌, List, [], ◌∷◌, ◌++◌, Result, Ok, Err, sym, subst, inl, inr, arith}
+use Rattle.std.proofs.Common.{◌≡◌, ℕ, ◌-◌, ◌≤◌, ◌^◌, true, ◌&&◌, nat_le, List, [], ◌∷◌, ◌++◌, Result, Ok, Err, sym, subst, inl, inr, arith}
 use Rattle.std.proofs.lemmas.Bool.{and_from}
 use Rattle.std.proofs.lemmas.Bool.Decides.{nat_tests}
 use Rattle.std.proofs.lemmas.List.Sums.{sum_by-cons}
@@ -10,10 +10,12 @@ use Rattle.chunk_tags.specs.declared.refusals.NoMemory.{NoMemory}
 use Rattle.chunk_tags.specs.declared.tunables.Tunables.{Tunables}
 use Rattle.address_space.specs.declared.space.Space.{Space}
 use Rattle.thread_cache.specs.Caches.{CacheValue}
+use Rattle.fast_bins.specs.FastPorts.{Fast}
 use Rattle.arena_rules.specs.declared.said.Said.{Said}
 use Rattle.arena_rules.specs.PlainArena.{Plain}
 use Rattle.arena_rules.specs.Rules.{Rules, Stop}
 use Rattle.arena_rules.specs.Growth.{Took}
+use Rattle.arena_rules.specs.Align.{IsAlignment, request_with_lead}
 use Rattle.arena_rules.specs.Release.{given}
 use Rattle.arena_rules.specs.Search.{searched}
 use Rattle.arena_rules.specs.Walks.{Ways, Walks, Reaches}
@@ -32,7 +34,7 @@ use Rattle.arena_core.specs.Arenas.{Held, Records, RecordsShort, Takes, FailsSho
 use Rattle.arena_core.specs.Asking.{Finds, found_of, beside_arena}
 use Rattle.arena_core.specs.Journal.{Recorded}
 use Rattle.arena_core.specs.Ledgers.{stage}
-use Rattle.arena_core.specs.Replay.{IsReplay, rules_of, may_act, hand_of, ended_of, is_request_size, chunk_at, found_nothing}
+use Rattle.arena_core.specs.Replay.{IsReplay, rules_of, may_act, hand_of, ended_of, is_request_size, is_alignment, chunk_at, found_nothing}
 use Rattle.arena_core.proofs.Lifting.{works_carries}
 use Rattle.arena_core.specs.Tellings.{tells_others}
 use Rattle.arena_core.proofs.Tellings.{IsApart, tells_walked, apart_backed}
@@ -69,13 +71,29 @@ short_replay {t = t} {who = who} {act = act} {x = x} {y = y} start can (inr r) o
 request_size : (nb : ℕ) → IsRequestSize nb → is_request_size nb ≡ true
 request_size nb size = grind (arith, nat_tests, size.chunk.0, size.chunk.1, size.largest)
 
+-- one chunk in hand
+apart_hand : {P : Type 0} {fast : Fast P} {a : Plain} {port : P} (c : Chunk) → IsBacked fast a port (one_chunk c) → IsApart (fast.stock port) (c ∷ [])
+apart_hand c backed = apart_backed (c ∷ []) backed (λ e. omega (arith, sum_by-cons (once e) c []))
+
 pub can_take : {P K : Type 0} (m : Means P K) (nb : ℕ) (x : Held P K) → IsRequestSize nb → Apart m.fast m.dials → IsBacked m.fast x.arena x.outside.port no_chunk → CanAct m (acts.Take nb) x
 can_take m nb x size words backed = record { may = request_size nb size; words = words; apart = apart_backed [] backed (λ e. omega arith) }
+
+pub can_resize : {P K : Type 0} (m : Means P K) (at size nb : ℕ) (x : Held P K) → IsRequestSize nb → Apart m.fast m.dials → IsBacked m.fast x.arena x.outside.port (one_chunk (chunk_at at size)) → CanAct m (acts.Resize at size nb) x
+can_resize m at size nb x request words backed =
+    let c : Chunk = chunk_at at size in
+    record { may = and_from (is_request_size nb) _ (request_size nb request) (hand_own c backed); words = words; apart = apart_hand c backed }
+
+pub can_align : {P K : Type 0} (m : Means P K) (align nb : ℕ) (x : Held P K) → IsRequestSize nb → IsAlignment align → request_with_lead align nb ≤ 2 ^ 63 - 1 → Apart m.fast m.dials → IsBacked m.fast x.arena x.outside.port no_chunk → CanAct m (acts.Align align nb) x
+can_align m align nb x request alignment range words backed = record {
+  may = and_from (is_request_size nb) _ (request_size nb request) (and_from (is_alignment align) _ (and_from (nat_le 32 align) _ (grind (arith, nat_tests, alignment.least)) alignment.power) (grind (arith, nat_tests, range)));
+  words = words;
+  apart = apart_backed [] backed (λ e. omega arith);
+}
 
 pub can_give : {P K : Type 0} (m : Means P K) (at size : ℕ) (x : Held P K) → Apart m.fast m.dials → IsBacked m.fast x.arena x.outside.port (one_chunk (chunk_at at size)) → CanAct m (acts.Give at size) x
 can_give m at size x words backed =
     let c : Chunk = chunk_at at size in
-    record { may = hand_own c backed; words = words; apart = apart_backed (c ∷ []) backed (λ e. omega (arith, sum_by-cons (once e) c [])) }
+    record { may = hand_own c backed; words = words; apart = apart_hand c backed }
 
 -- ---- what a search gives, recorded
 

@@ -14,7 +14,7 @@ use Rattle.consolidate_trim.specs.Outside.{Means, Outside, ways}
 use Rattle.arena_core.specs.declared.found.Found.{Found}
 use Rattle.arena_core.specs.declared.found.Found.TheVariants as finds
 use Rattle.arena_core.specs.declared.journal.Act.{Act}
-use Rattle.arena_core.specs.declared.journal.Act.TheVariants.{Give}
+use Rattle.arena_core.specs.declared.journal.Act.TheVariants.{Give, Resize}
 use Rattle.arena_core.specs.declared.journal.Ended.{Ended}
 use Rattle.arena_core.specs.declared.journal.Ended.TheVariants.{Short}
 use Rattle.arena_core.specs.declared.journal.Who.{Who}
@@ -58,13 +58,19 @@ pub record Held (P K : Type 0) : Type 0 where
 abbrev pub held : {P K : Type 0} → Plain → P → CacheValue → Space K → List Recorded → Held P K
 held arena port cache space journal = record { arena = arena; outside = beside_arena port cache space; journal = journal }
 
+-- the chunks of the arena in the caller's hand where an act found this: what was found, and of a resize that was refused the
+-- chunk that it was to change
+abbrev pub chunks_got : Act → Found → Chunks
+chunks_got (Resize at size nb) finds.Nowhere = one_chunk (chunk_at at size)
+chunks_got act found = chunks_found found
+
 -- The journal has one entry more, of this hold: its answers are those that the outside gave, one by one, while the act went
 -- through its rules to their end; and the chunks are accounted for.
 pub record Records {P K : Type 0} (m : Means P K) (t : Tunables) (who : Who) (act : Act) (before : Held P K) (given : Chunks) (found : Found) (after : Held P K) : Type 0 where
   pub said : List Said
   pub added : after.journal ≡ before.journal ++ recorded who act said (ended_of act (found_of found)) ∷ []
   pub walks : Reaches t (ways m before.arena.number) (rules_of t act before.arena) before.outside [] (Stop (record { found = found_of found; arena = after.arena })) said after.outside
-  pub balances : Balances (full m) (stage before.arena before.outside []) given (chunks_found found) (stage after.arena after.outside said)
+  pub balances : Balances (full m) (stage before.arena before.outside []) given (chunks_got act found) (stage after.arena after.outside said)
 
 -- The same where memory was short: the entry says so, and the arena is what the rules have before the next answer.
 pub record RecordsShort {P K : Type 0} (m : Means P K) (t : Tunables) (who : Who) (act : Act) (before : Held P K) (given : Chunks) (after : Held P K) : Type 0 where

@@ -1,5 +1,5 @@
 -- What a search meets that asks the system, and what its parts promise (this project's own).
-use Rattle.std.specs.Prelude.{◌≡◌, ℕ, ◌+◌, ◌^◌, ◌<◌, ◌≤◌, Bool, true, false, IsTrue, Option, List, Result, IfOk, OnErr, [], ◌∷◌, ◌++◌}
+use Rattle.std.specs.Prelude.{◌≡◌, ℕ, ◌+◌, ◌%◌, ◌^◌, ◌<◌, ◌≤◌, Bool, true, false, IsTrue, Option, List, Result, IfOk, OnErr, [], ◌∷◌, ◌++◌}
 use Rattle.chunk_tags.specs.BinOrder.{once}
 use Rattle.chunk_tags.specs.declared.refusals.NoMemory.{NoMemory}
 use Rattle.chunk_tags.specs.declared.tiles.Chunk.{Chunk}
@@ -100,10 +100,16 @@ chunks_found (InArena c) e = once e c
 chunks_found (InMapping c) e = 0
 chunks_found Nowhere e = 0
 
--- the chunk that was found is enough; one that is a mapping has 8 bytes more
+-- a mapping that is enough has 8 bytes more, begins with a page, and lies in 64 bits
+pub record IsEnoughMapped (nb : ℕ) (c : Chunk) : Type 0 where
+  pub enough : IsEnough (nb + 8) c.size
+  pub page : c.at % 4096 ≡ 0
+  pub end : c.at + c.size < 2 ^ 64
+
+-- the chunk that was found is enough
 abbrev pub FitsFound : ℕ → Found → Type 0
 FitsFound nb (InArena c) = IsEnough nb c.size
-FitsFound nb (InMapping c) = IsEnough (nb + 8) c.size
+FitsFound nb (InMapping c) = IsEnoughMapped nb c
 FitsFound nb Nowhere = Unit {0}
 
 -- A chunk is found by these rules, or nothing.

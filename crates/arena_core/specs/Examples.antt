@@ -1,21 +1,39 @@
 -- Words for worked examples (this project's own).
-use Rattle.std.specs.Prelude.{ℕ, false, List, Option, Some, None}
+use Rattle.std.specs.Prelude.{ℕ, true, false, List, Option, Some, None}
 use Rattle.chunk_tags.specs.Tunables.{serial_values}
 use Rattle.arena_rules.specs.PlainArena.{Plain, empty_main}
 use Rattle.arena_rules.specs.Moves.{top_size}
 use Rattle.arena_rules.specs.declared.said.Said.{Said}
-use Rattle.arena_core.specs.declared.journal.Act.TheVariants.{Take, Give}
+use Rattle.arena_core.specs.declared.journal.Act.{Act}
+use Rattle.arena_core.specs.declared.journal.Act.TheVariants.{Take, Give, Resize, Align}
+use Rattle.arena_core.specs.declared.journal.Ended.{Ended}
 use Rattle.arena_core.specs.declared.journal.Ended.TheVariants.{Got, Done}
 use Rattle.arena_core.specs.Journal.{Recorded}
 use Rattle.arena_core.specs.Replay.{replayed}
 
--- a hold of thread 0, in any line, that took a chunk of the very size, at an address
-abbrev pub takes_at : ℕ → List Said → ℕ → Recorded
-takes_at nb said at = record { who = record { thread = 0; line = 0 }; act = Take nb; said = said; ended = Got at nb false }
+-- a hold of thread 0, in any line
+abbrev pub holds : Act → List Said → Ended → Recorded
+holds act said ended = record { who = record { thread = 0; line = 0 }; act = act; said = said; ended = ended }
 
--- a hold that gave a chunk back
+-- one that took a chunk of the very size, at an address
+abbrev pub takes_at : ℕ → List Said → ℕ → Recorded
+takes_at nb said at = holds (Take nb) said (Got at nb false)
+
+-- one that gave a chunk back
 abbrev pub gives_at : ℕ → ℕ → List Said → Recorded
-gives_at at size said = record { who = record { thread = 0; line = 0 }; act = Give at size; said = said; ended = Done }
+gives_at at size said = holds (Give at size) said Done
+
+-- one that resized a chunk to the very size, where it stood
+abbrev pub resizes_at : ℕ → ℕ → ℕ → List Said → Recorded
+resizes_at at size nb said = holds (Resize at size nb) said (Got at nb false)
+
+-- one that took an aligned chunk of the very size, at an address
+abbrev pub aligns_at : ℕ → ℕ → List Said → ℕ → Recorded
+aligns_at align nb said at = holds (Align align nb) said (Got at nb false)
+
+-- one that found a mapping for an aligned chunk, and has this block in it
+abbrev pub aligns_mapped : ℕ → ℕ → List Said → ℕ → ℕ → Recorded
+aligns_mapped align nb said at size = holds (Align align nb) said (Got at size true)
 
 -- main behind these holds
 abbrev pub main_after : List Recorded → Option Plain

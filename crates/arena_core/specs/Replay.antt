@@ -1,5 +1,6 @@
 -- A journal is replayed: each entry's act goes through its rules with the answers that the entry has (this project's own).
-use Rattle.std.specs.Prelude.{◌≡◌, ℕ, ◌+◌, ◌^◌, ◌%◌, Bool, true, false, ◌&&◌, nat_eq, nat_le, List, [], ◌∷◌, Option, Some, None, if◌then◌else◌}
+use Rattle.std.specs.Prelude.{◌≡◌, ℕ, ◌+◌, ◌-◌, ◌^◌, ◌%◌, Bool, true, false, ◌&&◌, nat_eq, nat_le, List, [], ◌∷◌, Option, Some, None, if◌then◌else◌}
+use Rattle.std.specs.Int.{is_power_of_two}
 use Rattle.chunk_tags.specs.declared.tiles.Chunk.{Chunk}
 use Rattle.chunk_tags.specs.declared.tunables.Tunables.{Tunables}
 use Rattle.arena_rules.specs.PlainArena.{Plain, is_own}
@@ -7,8 +8,10 @@ use Rattle.arena_rules.specs.Rules.{Rules, Stop, behind, end_of_rules, left_by_r
 use Rattle.arena_rules.specs.Release.{given}
 use Rattle.arena_rules.specs.Growth.{Found, InArena, InMapping, Nowhere, Took}
 use Rattle.arena_rules.specs.Search.{searched}
+use Rattle.arena_rules.specs.Resize.{resize_of}
+use Rattle.arena_rules.specs.Align.{align_of, aligned_block, request_with_lead}
 use Rattle.arena_core.specs.declared.journal.Act.{Act}
-use Rattle.arena_core.specs.declared.journal.Act.TheVariants.{Take, Give}
+use Rattle.arena_core.specs.declared.journal.Act.TheVariants.{Take, Give, Resize, Align}
 use Rattle.arena_core.specs.declared.journal.Ended.{Ended}
 use Rattle.arena_core.specs.declared.journal.Ended.TheVariants.{Got, Done, Refused, Short}
 use Rattle.arena_rules.specs.declared.said.Said.{Said}
@@ -26,27 +29,54 @@ found_nothing a = record { found = Nowhere; arena = a }
 abbrev pub rules_of : Tunables → Act → Plain → Rules Took
 rules_of t (Take nb) a = searched t nb a
 rules_of t (Give at size) a = behind (given t a (chunk_at at size)) (λ b. Stop (found_nothing b))
+rules_of t (Resize at size nb) a = resize_of t a (chunk_at at size) nb
+rules_of t (Align align nb) a = align_of t align nb a
 
 -- a size that a request may become
 abbrev pub is_request_size : ℕ → Bool
 is_request_size nb = nat_le 32 nb && nat_eq (nb % 16) 0 && nat_le nb (2 ^ 63 + 16)
 
--- whether an act meets the conditions of its call: its size is in range, or its chunk is a used one
+-- an alignment that isn't every chunk's, a power of two from 32 on (`IsAlignment`)
+abbrev pub is_alignment : ℕ → Bool
+is_alignment align = nat_le 32 align && is_power_of_two align
+
+-- whether the request with room for a lead isn't too big
+abbrev pub has_lead_in_range : ℕ → ℕ → Bool
+has_lead_in_range align nb = nat_le (request_with_lead align nb) (2 ^ 63 - 1)
+
+-- Whether an act meets the conditions of its call: its sizes are in range, its alignment is one of posix_memalign's, and its
+-- chunk is a used one.
 abbrev pub may_act : Act → Plain → Bool
 may_act (Take nb) a = is_request_size nb
 may_act (Give at size) a = is_own a (chunk_at at size)
+may_act (Resize at size nb) a = is_request_size nb && is_own a (chunk_at at size)
+may_act (Align align nb) a = is_request_size nb && (is_alignment align && has_lead_in_range align nb)
 
 -- the chunks in hand when an act begins
 abbrev pub hand_of : Act → List Chunk
 hand_of (Take nb) = []
 hand_of (Give at size) = chunk_at at size ∷ []
+hand_of (Resize at size nb) = chunk_at at size ∷ []
+hand_of (Align align nb) = []
+
+-- the end of what found this
+abbrev pub ended_found : Found → Ended
+ended_found (InArena c) = Got c.at c.size false
+ended_found (InMapping c) = Got c.at c.size true
+ended_found Nowhere = Refused
+
+-- the end of what found this for an aligned block: of a mapping it is the block behind the lead
+abbrev pub ended_aligned : ℕ → Found → Ended
+ended_aligned align (InArena c) = Got c.at c.size false
+ended_aligned align (InMapping c) = let b = aligned_block align c in Got b.addr b.size true
+ended_aligned align Nowhere = Refused
 
 -- how an act ends that found this
 abbrev pub ended_of : Act → Found → Ended
-ended_of (Take nb) (InArena c) = Got c.at c.size false
-ended_of (Take nb) (InMapping c) = Got c.at c.size true
-ended_of (Take nb) Nowhere = Refused
+ended_of (Take nb) found = ended_found found
 ended_of (Give at size) found = Done
+ended_of (Resize at size nb) found = ended_found found
+ended_of (Align align nb) found = ended_aligned align found
 
 abbrev same_bool : Bool → Bool → Bool
 same_bool true b = b

@@ -1,5 +1,5 @@
 -- What a hold does to the mapped chunks that its port shows (this project's own).
-use Rattle.std.specs.Prelude.{◌≡◌, ℕ, ◌+◌, ◌%◌, ◌≤◌}
+use Rattle.std.specs.Prelude.{◌≡◌, ℕ, ◌+◌, ◌%◌, ◌≤◌, ◌⊎◌}
 use Rattle.chunk_tags.specs.Dials.{Dial}
 use Rattle.chunk_tags.specs.Pages.{mapping_length}
 use Rattle.chunk_tags.specs.declared.tiles.Chunk.{Chunk}
@@ -42,7 +42,8 @@ pub record EndsCounted {P K : Type 0} (shown : P → MappedShown) (nb : ℕ) (o 
   pub one : (c : Chunk) → x.found ≡ InMapping c → IsCounted shown nb o z c
   pub bytes : (shown z.port).bytes + o.space.mapped ≤ (shown o.port).bytes + z.space.mapped
 
--- Where it was left for want of memory: nothing was counted.
-pub record StopsCounted {P K : Type 0} (shown : P → MappedShown) (o z : Outside P K) : Type 0 where
-  pub same : shown z.port ≡ shown o.port
+-- Where it was left for want of memory: nothing was counted, or one mapping that is as long as the request needs, behind
+-- which a resize goes on; and no more bytes were counted than the thread's window for mappings gave.
+pub record StopsCounted {P K : Type 0} (shown : P → MappedShown) (nb : ℕ) (o z : Outside P K) : Type 0 where
+  pub counts : (shown z.port ≡ shown o.port) ⊎ (shown z.port ≡ counted_in (mapping_length nb) (shown o.port))
   pub bytes : (shown z.port).bytes + o.space.mapped ≤ (shown o.port).bytes + z.space.mapped

@@ -10,15 +10,15 @@ ghost use Rattle.consolidate_trim.specs.Holds.{IsBacked, no_chunk, one_chunk};
 ghost use Rattle.consolidate_trim.specs.Outside.{Apart, means};
 ghost use Rattle.arena_core.specs.Ledgers.{stage};
 ghost use Rattle.arena_core.specs.Asking.{IsSearchable, IsReady, AllowsMaps, beside_arena, found_of};
-ghost use Rattle.arena_core.specs.Replay.{IsReplay, chunk_at, ended_of};
+ghost use Rattle.arena_core.specs.Replay.{IsReplay, chunk_at, ended_found};
 ghost use Rattle.arena_core.specs.Arenas.{Takes, FitsRequest, FailsShort, GivesShort, Records, held, take_of, recorded};
 ghost use Rattle.arena_core.specs.declared.journal.Act.TheVariants as acts;
 ghost use Rattle.arena_core.specs.declared.found.Found.TheVariants as finds;
 
-use crate::entry::Entry;
+use crate::entry::{Entry, append};
 use crate::found::Found;
 use crate::journal::{Act, Ended, Who};
-use crate::search::search;
+use crate::searching::search;
 use crate::take::{GiveShort, Take};
 use address_space::{Kernel, Space};
 use arena_rules::{Moves, Said};
@@ -36,9 +36,9 @@ pub struct Arena<M: Moves> {
     pub journal: Vec<Entry>,
 }
 
-/// How a search ends that found this.
-fn ended_by(found: &Found) -> Ended
-    ensures { (nb : ℕ) → result ≡ ended_of (acts.Take nb) (found_of found.now) }
+/// How a hold ends that found this.
+pub fn ended_by(found: &Found) -> Ended
+    ensures { result ≡ ended_found (found_of found.now) }
 {
     match found {
         Found::InArena(c) => Ended::Got {
@@ -74,21 +74,6 @@ fn take_found(number: u8, found: &Found) -> Take
         }),
         Found::Nowhere => Take::Refused,
     }
-}
-
-/// Puts an entry behind the others, where room was made for it. No memory is asked for.
-fn append(journal: &mut Vec<Entry>, who: Who, act: Act, said: Vec<Said>, ended: Ended)
-    requires { vec_len journal.old < vec_capacity journal.old }
-    ensures { journal.new.items ≡ journal.old.items ++ recorded who act said.items ended ∷ [] }
-{
-    journal
-        .push(Entry {
-            who,
-            act,
-            said,
-            ended,
-        })
-        .unwrap();
 }
 
 impl<M: Moves> Arena<M> {

@@ -1,10 +1,10 @@
 //! Worked examples on the definitions alone. Nothing runs; the check computes them.
 
 ghost use Rattle.std.specs.Prelude.{◌≡◌, ℕ, [], ◌∷◌, Some, None, true, false};
-ghost use Rattle.address_space.specs.declared.asks.Ask.TheVariants.{Break};
+ghost use Rattle.address_space.specs.declared.asks.Ask.TheVariants.{Break, Map};
 ghost use Rattle.address_space.specs.declared.asks.Answer.TheVariants.{Granted};
 ghost use Rattle.arena_rules.specs.declared.said.Said.TheVariants.{Flag, Popped, Own, Room, Asked, Dial};
-ghost use Rattle.arena_core.specs.Examples.{takes_at, gives_at, main_after, last_after, bytes_after};
+ghost use Rattle.arena_core.specs.Examples.{takes_at, gives_at, resizes_at, aligns_at, aligns_mapped, main_after, last_after, bytes_after};
 
 /// A small request is cut from a larger free chunk, and the next one from what is left of it, the last remainder.
 #[tactic(auto, unfolding(arena_rules::specs::PlainArena::empty_bins, arena_rules::specs::Search::most_stashed))]
@@ -87,4 +87,45 @@ fn a_large_chunk_before_top_brings_trimming()
         ∷ takes_at 100016 (Flag false ∷ Flag false ∷ Dial 131072 ∷ Asked (Break 0x55555557a000 0x5555555af000) Granted ∷ []) 0x555555576760
         ∷ gives_at 0x555555576760 100016 (Flag false ∷ Dial 131072 ∷ [])
         ∷ []) ≡ Some (253952, 352256, 133280) }
+{}
+
+/// A resize cuts its chunk, and the rest becomes part of top. Its entry has the old size: with another one it is none of this
+/// arena.
+#[tactic(auto, unfolding(arena_rules::specs::PlainArena::empty_bins, arena_rules::specs::Search::most_stashed))]
+fn a_resize_cuts_its_chunk()
+    ensures cut { bytes_after (takes_at 656 (Flag false ∷ Dial 131072 ∷ Asked (Break 0x555555559000 0x55555557a000) Granted ∷ []) 0x555555559000
+        ∷ takes_at 2016 (Flag false ∷ []) 0x555555559290
+        ∷ resizes_at 0x555555559290 2016 1008 (Room false ∷ Flag false ∷ Dial 131072 ∷ [])
+        ∷ []) ≡ Some (135168, 135168, 133504) }
+    ensures old_size { main_after (takes_at 656 (Flag false ∷ Dial 131072 ∷ Asked (Break 0x555555559000 0x55555557a000) Granted ∷ []) 0x555555559000
+        ∷ takes_at 2016 (Flag false ∷ []) 0x555555559290
+        ∷ resizes_at 0x555555559290 2000 1008 (Room false ∷ Flag false ∷ Dial 131072 ∷ [])
+        ∷ []) ≡ None }
+{}
+
+/// Of a chunk from top the aligned part is kept; what is before and behind it goes to fast bins.
+#[tactic(auto, unfolding(arena_rules::specs::PlainArena::empty_bins, arena_rules::specs::Search::most_stashed, std::specs::Prelude::count_ones))]
+fn an_aligned_chunk_is_cut_on_both_sides()
+    ensures { bytes_after (takes_at 656 (Flag false ∷ Dial 131072 ∷ Asked (Break 0x555555559000 0x55555557a000) Granted ∷ []) 0x555555559000
+        ∷ aligns_at 64 112 (Room false ∷ Room false ∷ []) 0x5555555592b0
+        ∷ []) ≡ Some (135168, 135168, 134288) }
+{}
+
+/// 48 is a multiple of 16, and no alignment: no hold has searched for it.
+#[tactic(auto, unfolding(arena_rules::specs::PlainArena::empty_bins, arena_rules::specs::Search::most_stashed, std::specs::Prelude::count_ones))]
+fn an_alignment_is_a_power_of_two()
+    ensures { main_after (takes_at 656 (Flag false ∷ Dial 131072 ∷ Asked (Break 0x555555559000 0x55555557a000) Granted ∷ []) 0x555555559000
+        ∷ aligns_at 48 112 (Room false ∷ Room false ∷ []) 0x5555555592b0
+        ∷ []) ≡ None }
+{}
+
+/// An aligned block in a mapping is recorded behind its lead, and not at the mapping's start.
+#[tactic(auto, unfolding(arena_rules::specs::PlainArena::empty_bins, arena_rules::specs::Search::most_stashed, std::specs::Prelude::count_ones))]
+fn an_aligned_mapping_is_recorded_behind_its_lead()
+    ensures behind { last_after (takes_at 656 (Flag false ∷ Dial 131072 ∷ Asked (Break 0x555555559000 0x55555557a000) Granted ∷ []) 0x555555559000
+        ∷ aligns_mapped 4096 200000 (Flag false ∷ Flag false ∷ Dial 131072 ∷ Dial 0 ∷ Asked (Map 0x7f8000000000 204800) Granted ∷ []) 0x7f8000000ff0 200720
+        ∷ []) ≡ Some None }
+    ensures start { main_after (takes_at 656 (Flag false ∷ Dial 131072 ∷ Asked (Break 0x555555559000 0x55555557a000) Granted ∷ []) 0x555555559000
+        ∷ aligns_mapped 4096 200000 (Flag false ∷ Flag false ∷ Dial 131072 ∷ Dial 0 ∷ Asked (Map 0x7f8000000000 204800) Granted ∷ []) 0x7f8000000000 204800
+        ∷ []) ≡ None }
 {}

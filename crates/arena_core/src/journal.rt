@@ -16,6 +16,10 @@ pub enum Act {
     Take { nb: Size },
     /// A used chunk is given back to its arena.
     Give { addr: Addr, size: Size },
+    /// A used chunk gets another size, its block staying or moving.
+    Resize { addr: Addr, size: Size, nb: Size },
+    /// A chunk of this size is searched for whose user address is a multiple of `align`.
+    Align { align: u64, nb: Size },
 }
 
 /// How a hold ended (this project's own).

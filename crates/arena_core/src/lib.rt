@@ -1,4 +1,7 @@
-//! The search for a chunk in an arena, what is given back to it, and the journal of both.
+//! The search for a chunk in an arena, what is given back to it, and the journal of its holds: `Arena::take` and
+//! `give`. A search goes through `searched` of arena_rules: `begin` (`fast`, `small`), then in rounds `look` (`scan`,
+//! `binned`), and where these find nothing `system` (`mapping`, `grow`); a chunk that is too large is cut in `carve`.
+//! All of it stands on any `Moves`; the program's is `Ground` of arena_ground.
 #![tactic(auto)]
 
 mod arena;
@@ -17,14 +20,15 @@ mod look;
 mod mapping;
 mod room;
 mod scan;
-mod search;
+mod searching;
 mod small;
 mod step;
 mod system;
 mod take;
 
-pub use arena::Arena;
-pub use entry::Entry;
+pub use arena::{Arena, ended_by};
+pub use entry::{Entry, append};
 pub use found::Found;
 pub use journal::{Act, Ended, Who};
+pub use searching::search;
 pub use take::{GiveShort, Take};

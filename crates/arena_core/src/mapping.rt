@@ -5,8 +5,7 @@ ghost use Rattle.chunk_tags.specs.Dials as words;
 ghost use Rattle.chunk_tags.specs.Sizes.{IsRequestSize};
 ghost use Rattle.mapped_chunks.specs.DialPorts as steps;
 ghost use Rattle.consolidate_trim.specs.Outside.{Apart, means};
-ghost use Rattle.arena_core.specs.Asking.{AllowsMaps, AsksMapping, AsksWhether};
-ghost use Rattle.arena_core.specs.Steps.{IsEnough};
+ghost use Rattle.arena_core.specs.Asking.{AllowsMaps, AsksMapping, AsksWhether, IsEnoughMapped};
 
 use address_space::{Answer, Ask, Kernel, Space};
 use arena_rules::Said;
@@ -27,7 +26,7 @@ pub fn ask_mapping<K: Kernel, P: FastPort + Dials>(
     requires allows { AllowsMaps P.dials port.old space.old }
     ensures asks { AsksMapping (means P.fast P.dials K.port) nb port.old space.old said.old.items
         result port.new space.new said.new.items }
-    ensures fits { IfOk result (λ mapped. IfSome mapped (λ c. IsEnough (nb + 8) c.size)) }
+    ensures fits { IfOk result (λ mapped. IfSome mapped (IsEnoughMapped nb)) }
 {
     make_room(said)?;
     let len = page_up(nb.0 + 8);

@@ -1,5 +1,6 @@
--- A ground after a chunk is joined with a free neighbour.
+-- A ground after a chunk is joined with a free neighbour, or with the used chunk behind it.
 use Rattle.std.proofs.Common.{◌≡◌, ℕ, ◌+◌, ◌<◌, ◌≤◌, ◌≢◌, Bool, true, false, cond, List, map, Option, Some, None, IsTrue, refl, sym, ap, ◌∙◌, subst, arith}
+use Rattle.std.proofs.lemmas.Bool.{eqb-true}
 use Rattle.chunk_tags.specs.BinOrder.{once}
 use Rattle.chunk_tags.specs.declared.tiles.Chunk.{Chunk}
 use Rattle.chunk_tags.specs.Tiles.{is_free, is_top, is_edge, fused, tile_at, tile_before, tile_behind}
@@ -11,10 +12,12 @@ use Rattle.chunk_image.specs.Rows.{TileRow, where_free, free_before_of}
 use Rattle.large_bins.specs.SeenChunks.{size_in}
 use Rattle.arena_rules.specs.PlainArena.{Plain, times_listed, is_own, unlinked}
 use Rattle.arena_rules.specs.Moves.{tile_of, chunk_of, Hand, hand, joined, joined_before, joined_behind, is_free_tile}
+use Rattle.arena_rules.specs.Resize.{is_next_to, joined_with}
 use Rattle.arena_rules.proofs.Changes.{AreNeighbours, neighbours_before, neighbours_behind}
 use Rattle.arena_rules.proofs.ChunkMoves.{tile_listed, free_is, own_count, joined_before_moved, joined_behind_moved}
 use Rattle.arena_rules.proofs.Lookups.{fused_other}
 use Rattle.arena_rules.proofs.Moved.{Moved, nothing}
+use Rattle.arena_rules.proofs.Resizes.{next_tile, joined_with_moved}
 use Rattle.heap_top.specs.declared.regions.Regions.{Regions}
 use Rattle.arena_ground.specs.Grounds.{arena_with, bins_at}
 use Rattle.arena_ground.proofs.Bridges.{agree, listed_times, bins_without}
@@ -179,3 +182,25 @@ join_behind_done r w l m last c u g own behind free lists links =
       is = ap (λ b. hand (record { at = c.at; size = c.size + u.size }) b) d.is ∙ sym is;
       done = record { is = d.is ∙ ap (λ (x : Hand). x.arena) (sym is); kept = d.kept };
     }
+
+-- ---- two used chunks
+
+pub used_behind : (r : Regions) (w : TileRow) (l : Linked) (last : Option ℕ) (c d : Chunk) → IsSoundGround r w l last → IsTrue (is_own (arena_with r w l last) c) → IsTrue (is_own (arena_with r w l last) d) → IsTrue (is_next_to c d) → tile_behind c.at w.tiles ≡ Some (tile_of Used d.at d.size)
+used_behind r w l last c d g own own_d next =
+    next_tile (tile_of Used c.at c.size) (tile_of Used d.at d.size) w.tiles g.sound.row (own_tile r w l last c g own) refl (own_tile r w l last d g own_d) (eqb-true d.at (c.at + c.size) next)
+
+pub join_used_done : (r : Regions) (w : TileRow) (l : Linked) (last : Option ℕ) (c d : Chunk) → IsSoundGround r w l last → IsTrue (is_own (arena_with r w l last) c) → IsTrue (is_own (arena_with r w l last) d) → IsTrue (is_next_to c d) → IsDone r (record w { tiles = fused c.at (tile_of Used c.at (c.size + d.size)) w.tiles }) l last (joined_with (hand c (arena_with r w l last)) d).arena
+join_used_done r w l last c d g own own_d next =
+    let a : Plain = arena_with r w l last in
+    let x : Tile = tile_of Used c.at (c.size + d.size) in
+    let u : Tile = tile_of Used d.at d.size in
+    let now : List Tile = fused c.at x w.tiles in
+    let new : Plain = (joined_with (hand c a) d).arena in
+    let found : tile_at c.at w.tiles ≡ Some (tile_of Used c.at c.size) = own_tile r w l last c g own in
+    let behind : tile_behind c.at w.tiles ≡ Some u = used_behind r w l last c d g own own_d next in
+    let moved = joined_with_moved (hand c a) d g.sound (own_count a c own) (own_count a d own_d) next in
+    let bins : bins_at now l.lists ≡ a.bins = agree w.tiles now l.lists (λ n listed.
+    ap size_in (fused_other c.at n u x w.tiles (λ e. omega (arith, listed, used_unlinked r w l last c g found, ap (λ m. times_linked m l.lists) e))
+    (λ e. omega (arith, listed, used_unlinked r w l last d g (own_tile r w l last d g own_d), ap (λ m. times_linked m l.lists) e)) refl behind)) in
+    done r r w (record w { tiles = now }) l l last last new _ _ g.ground moved refl (record { tiles = refl; links = refl }) (λ i. record new { bins = bins i })
+    (same_top r w l last now g.ground moved.sound.row (top_fused c.at x (tile_of Used c.at c.size) u w.tiles found behind refl refl refl))

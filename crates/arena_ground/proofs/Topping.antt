@@ -1,25 +1,27 @@
 -- A ground after a move of top, or of main's ranges.
-use Rattle.std.proofs.Common.{◌≡◌, ℕ, ◌+◌, false, List, [], Option, None, IsTrue, refl, sym, ap, ◌∙◌, subst, arith}
+use Rattle.std.proofs.Common.{◌≡◌, ℕ, ◌+◌, ◌-◌, false, List, [], ◌∷◌, Option, Some, None, IsTrue, refl, sym, ap, ◌∙◌, subst, arith}
 use Rattle.std.specs.Prelude.{sum_by}
 use Rattle.chunk_tags.specs.declared.tiles.Chunk.{Chunk}
 use Rattle.chunk_tags.specs.BinOrder.{times_in}
 use Rattle.chunk_tags.specs.Sizes.{IsChunkSize}
 use Rattle.chunk_tags.specs.Tiles.{tile_before, tile_behind, top_of}
 use Rattle.chunk_tags.specs.declared.tiles.Tile.{Tile}
-use Rattle.chunk_tags.specs.declared.tiles.TileKind.TheVariants.{Used}
+use Rattle.chunk_tags.specs.declared.tiles.TileKind.TheVariants.{Used, Top}
 use Rattle.chunk_tags.specs.Tunables.{main_limit}
 use Rattle.bin_links.specs.Lists.{Linked}
 use Rattle.part_words.specs.Extents.{Covers}
 use Rattle.chunk_image.specs.Rows.{TileRow}
 use Rattle.address_space.specs.Spaces.{main_start, piece_start}
 use Rattle.large_bins.specs.SeenChunks.{size_in}
-use Rattle.arena_rules.specs.PlainArena.{Plain, IsSound, is_own}
-use Rattle.arena_rules.specs.Moves.{tile_of, absorbed, cut_from_top, is_before_top, is_free_tile}
+use Rattle.arena_rules.specs.PlainArena.{Plain, IsSound, is_own, beside}
+use Rattle.arena_rules.specs.Moves.{tile_of, with_tiles, absorbed, cut_from_top, is_before_top, is_free_tile}
 use Rattle.arena_rules.specs.Growth.{break_taken, has_top_for, noted, piece_taken}
 use Rattle.arena_rules.specs.Trim.{main_cut, CanCutMain}
+use Rattle.arena_rules.specs.Resize.{fits_with_top, grown_into_top}
 use Rattle.arena_rules.proofs.Changes.{AreNeighbours, neighbours_behind}
 use Rattle.arena_rules.proofs.ChunkMoves.{listed_tile, free_not_found}
 use Rattle.arena_rules.proofs.Merging.{HasTopBehind, has_top_behind, absorbed_moved}
+use Rattle.arena_rules.proofs.Resizes.{grown_into_top_moved, beside_grown_into_top}
 use Rattle.arena_rules.proofs.Tops.{top_at}
 use Rattle.heap_top.specs.declared.regions.Regions.{Regions}
 use Rattle.heap_top.specs.Regions.{arena_of, bare_arena, HasTop, KnowsTop}
@@ -80,6 +82,23 @@ absorb_done r s w v l last c g own before top m =
     let a : Plain = arena_with r w l last in
     let moved = absorbed_moved a c g.sound own top (free_not_found (tile_before c.at w.tiles) before) in
     top_done r s w v l last (absorbed a c) g.ground m moved.sound (placed_along a (absorbed a c) _ _ moved refl g.ground.placed) refl refl
+
+-- ---- a chunk grows into it
+
+grown_bins : (a : Plain) (c : Chunk) (nb : ℕ) → (grown_into_top a c nb).bins ≡ a.bins
+grown_bins a c nb =
+    let b : Plain = absorbed a c in
+    let cut : Option Tile → Plain = λ o. elim o [ None ↦ b | Some t ↦ with_tiles b t.addr (tile_of Used t.addr nb ∷ tile_of Top (t.addr + nb) (t.size - nb) ∷ []) ] in
+    let cases : (o : Option Tile) → (cut o).bins ≡ a.bins = elim [ None ↦ refl | Some t ↦ refl ] in
+    cases (top_of b.tiles)
+
+pub grow_done : (r s : Regions) (w v : TileRow) (l : Linked) (last : Option ℕ) (c : Chunk) (nb : ℕ) → IsSoundGround r w l last → IsTrue (is_own (arena_with r w l last) c) → IsChunkSize nb → IsTrue (fits_with_top (arena_with r w l last) c nb) → IsTopMoved r s w v l last (grown_into_top (arena_with r w l last) c nb) → IsDone s v l last (grown_into_top (arena_with r w l last) c nb)
+grow_done r s w v l last c nb g own chunk room m =
+    let a : Plain = arena_with r w l last in
+    let new : Plain = grown_into_top a c nb in
+    let same : beside new ≡ beside a = beside_grown_into_top a c nb in
+    let moved = grown_into_top_moved a c nb g.sound own room chunk in
+    top_done r s w v l last new g.ground m moved.sound (placed_along a new _ _ moved same g.ground.placed) (grown_bins a c nb) (ap (λ (x : Plain). x.number) same)
 
 -- ---- main grows
 

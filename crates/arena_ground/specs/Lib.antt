@@ -2,3 +2,4 @@ pub use Rattle.arena_rules.specs.PlainArena
 pub use Rattle.arena_rules.specs.MainPlaces
 pub use Rattle.heap_top.specs.MainRanges
 pub mod Grounds
+pub mod Scenes

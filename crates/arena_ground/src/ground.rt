@@ -153,13 +153,7 @@ impl Moves for Ground {
     }
 
     fn is_before_top(&self, c: Chunk) -> bool {
-        let Chunk { at, size } = c;
-        let chunk = Tile {
-            addr: at,
-            size,
-            kind: TileKind::Used,
-        };
-        is_top(&self.tiles.behind(&chunk))
+        is_top(&self.behind(c))
     }
 
     fn absorb(&mut self, c: Chunk) -> Size {
@@ -176,6 +170,37 @@ impl Moves for Ground {
 
     fn part(&mut self, c: Chunk, nb: Size) -> Chunk {
         part(&mut self.tiles, c, nb)
+    }
+
+    fn behind(&self, c: Chunk) -> Tile {
+        let Chunk { at, size } = c;
+        self.tiles.behind(&Tile {
+            addr: at,
+            size,
+            kind: TileKind::Used,
+        })
+    }
+
+    fn join_used(&mut self, c: Chunk, d: Chunk) -> Chunk {
+        let Chunk { at, size } = c;
+        let first = Tile {
+            addr: at,
+            size,
+            kind: TileKind::Used,
+        };
+        let more = d.size;
+        let second = Tile {
+            addr: d.at,
+            size: more,
+            kind: TileKind::Used,
+        };
+        self.tiles.fuse(&first, &second, TileKind::Used);
+        let size = Size(size.0 + more.0);
+        Chunk { at, size }
+    }
+
+    fn grow_into_top(&mut self, c: Chunk, nb: Size) {
+        self.regions.grow_into_top(&mut self.tiles, c, nb);
     }
 
     fn sort_in(&mut self, c: Chunk) {

@@ -8,10 +8,10 @@ pub mod Counts
 pub mod Covered
 pub mod Entries
 pub mod Heaps
+pub mod KeptMappings
 pub mod Lookups
 pub mod MainPlaces
 pub mod Mapped
-pub mod MapsWithin
 pub mod Merging
 pub mod Moved
 pub mod Own

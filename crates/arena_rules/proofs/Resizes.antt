@@ -16,7 +16,7 @@ use Rattle.arena_rules.specs.MainPlaces.{IsPlaced}
 use Rattle.arena_rules.specs.Moves.{tile_of, with_tiles, parted, Hand, hand, joined, joined_behind, is_before_top, absorbed, top_size}
 use Rattle.arena_rules.specs.Release.{released}
 use Rattle.arena_rules.specs.Growth.{Took}
-use Rattle.arena_rules.specs.MapsWithin.{EndsAs}
+use Rattle.arena_rules.specs.KeptMappings.{StopsAs}
 use Rattle.arena_rules.specs.Resize.{cut_to, moved_from_old, is_kept, front_of, back_of, fits_with_free, fits_with_top, grown_into_top, is_next_to, joined_with}
 use Rattle.arena_rules.proofs.Rows.{onto, at_place, first_is, front_ends, swapped_here, read, row_behind, Led, led, led_as, leads_as, sum_by_onto, may_lead, may_follow}
 use Rattle.arena_rules.proofs.Bins.{once_self}
@@ -29,7 +29,7 @@ use Rattle.arena_rules.proofs.Moved.{Moved, parts_of, nothing, listed_still, wei
 use Rattle.arena_rules.proofs.Tops.{top_at, top_tile_is}
 use Rattle.arena_rules.proofs.ChunkMoves.{own_count, own_from, parted_moved, joined_behind_moved}
 use Rattle.arena_rules.proofs.Own.{own_tile}
-use Rattle.arena_rules.proofs.MapsWithin.{ends_behind, ends_if}
+use Rattle.arena_rules.proofs.KeptMappings.{stops_behind, stops_if}
 
 -- ---- a used chunk grows into top
 
@@ -269,12 +269,12 @@ cut_at a c nb s own chunk le =
 -- ---- what a resize ends with
 
 -- a cut keeps the block at its address
-pub cut_to_keeps : (t : Tunables) (nb : ℕ) (h : Hand) → EndsAs (λ x. is_kept h.chunk x.found ≡ true) (cut_to t nb h)
+pub cut_to_keeps : (t : Tunables) (nb : ℕ) (h : Hand) → StopsAs (λ x. is_kept h.chunk x.found ≡ true) (cut_to t nb h)
 cut_to_keeps t nb h =
     let same : nat_eq h.chunk.at h.chunk.at ≡ true = eq-eqb h.chunk.at h.chunk.at refl in
-    ends_if (λ x. is_kept h.chunk x.found ≡ true) (nat_lt (h.chunk.size - nb) 32) _ _ same
-    (ends_behind (λ x. is_kept h.chunk x.found ≡ true) (released t (parted h.arena h.chunk nb) (back_of h.chunk nb)) _ (λ b. same))
+    stops_if (λ x. is_kept h.chunk x.found ≡ true) (nat_lt (h.chunk.size - nb) 32) _ _ same
+    (stops_behind (λ x. is_kept h.chunk x.found ≡ true) (released t (parted h.arena h.chunk nb) (back_of h.chunk nb)) _ (λ b. same))
 
 -- a move ends with what was found
-pub moved_ends_with : (t : Tunables) (c : Chunk) (took : Took) → EndsAs (λ x. x.found ≡ took.found) (moved_from_old t c took)
-moved_ends_with t c took = ends_behind (λ x. x.found ≡ took.found) (released t took.arena c) _ (λ b. refl)
+pub moved_ends_with : (t : Tunables) (c : Chunk) (took : Took) → StopsAs (λ x. x.found ≡ took.found) (moved_from_old t c took)
+moved_ends_with t c took = stops_behind (λ x. x.found ≡ took.found) (released t took.arena c) _ (λ b. refl)

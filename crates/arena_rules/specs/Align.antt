@@ -1,5 +1,6 @@
 -- The search for a chunk at an aligned user address, under an arena's lock: glibc 2.31 malloc/malloc.c, _int_memalign.
-use Rattle.std.specs.Prelude.{◌≡◌, ℕ, ◌+◌, ◌-◌, ◌%◌, ◌≤◌, nat_eq, nat_lt, None, if◌then◌else◌}
+use Rattle.std.specs.Prelude.{◌≡◌, ℕ, ◌+◌, ◌-◌, ◌%◌, ◌≤◌, true, nat_eq, nat_lt, None, if◌then◌else◌}
+use Rattle.std.specs.Int.{is_power_of_two}
 use Rattle.chunk_tags.specs.Sizes.{chunk_size_of}
 use Rattle.chunk_tags.specs.declared.block.Block.{Block}
 use Rattle.chunk_tags.specs.declared.tiles.Chunk.{Chunk}
@@ -12,10 +13,10 @@ use Rattle.arena_rules.specs.Growth.{InArena, InMapping, Nowhere, Took}
 use Rattle.arena_rules.specs.Search.{searched}
 use Rattle.arena_rules.specs.Resize.{front_of, back_of, took_in, cut_behind}
 
--- what an alignment is that isn't every chunk's: a power of two from 32 on is such a number
+-- an alignment that isn't every chunk's: a power of two from 32 on
 pub record IsAlignment (align : ℕ) : Type 0 where
   pub least : 32 ≤ align
-  pub whole : align % 16 ≡ 0
+  pub power : is_power_of_two align ≡ true
 
 -- the request whose chunk has an aligned part of nb bytes wherever it lies, and the size of that chunk
 abbrev pub request_with_lead : ℕ → ℕ → ℕ
@@ -42,8 +43,8 @@ abbrev pub aligned_part : ℕ → Chunk → Chunk
 aligned_part align c = back_of c (lead_of align c.at)
 
 -- In a mapping the lead is kept as such: the caller's block is behind it, and has it.
-abbrev pub mapped_block : ℕ → Chunk → Block
-mapped_block align c = record {
+abbrev pub aligned_block : ℕ → Chunk → Block
+aligned_block align c = record {
   addr = (aligned_part align c).at;
   size = (aligned_part align c).size;
   lead = lead_of align c.at;
@@ -66,7 +67,7 @@ aligned_in t align nb h =
     if nat_eq lead 0 then tail_cut t nb h else lead_cut t lead nb h
 
 -- What was found with room for a lead: of a chunk of the arena the aligned part is kept; a mapping stays whole, with its
--- block behind its lead (`mapped_block`).
+-- block behind its lead (`aligned_block`).
 abbrev pub align_with : Tunables → ℕ → ℕ → Took → Rules Took
 align_with t align nb took = elim took.found [
   | InArena c ↦ aligned_in t align nb (hand c took.arena)
@@ -74,6 +75,7 @@ align_with t align nb took = elim took.found [
   | Nowhere ↦ Stop took
 ]
 
--- The search for an aligned chunk of nb bytes.
+-- The search for an aligned chunk of nb bytes. Where its end is a mapping, that is the whole one; the hold's entry has
+-- the block behind the lead.
 abbrev pub align_of : Tunables → ℕ → ℕ → Plain → Rules Took
 align_of t align nb a = behind (searched t (size_with_lead align nb) a) (align_with t align nb)

@@ -15,4 +15,4 @@ pub mod Search
 pub mod Resize
 pub mod Align
 pub mod Mapped
-pub mod MapsWithin
+pub mod KeptMappings

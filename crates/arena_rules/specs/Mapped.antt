@@ -22,7 +22,8 @@ pub record EndsMapped (len : ℕ) (s : Said) (r : Rules Took) : Type 0 where
   pub arena : Plain
   pub is : r ≡ Does (Counts len) (Stop (record { found = InMapping (record { at = place_told s; size = len }); arena = arena }))
 
--- Mappings are asked for that hold nb bytes; a granted one ends the hold so, and there is no other end with a mapping.
+-- Mappings are asked for that hold nb bytes, again only where one was refused; a granted one ends the hold so, and
+-- there is no other end with a mapping.
 abbrev pub MapsOnce : ℕ → Rules Took → Type 0
 MapsOnce nb (Stop x) = (c : Chunk) → x.found ≡ InMapping c → ⊥
 MapsOnce nb Misfit = Unit {0}

@@ -8,7 +8,7 @@ ghost use Rattle.arena_rules.specs.declared.said.Said.TheVariants.{Flag, Asked, 
 ghost use Rattle.arena_rules.specs.PlainArena.{empty_main, unsorted_of, bin_at};
 ghost use Rattle.arena_rules.specs.Rules.{end_of_rules, deeds_of, Stashes};
 ghost use Rattle.arena_rules.specs.Resize.{resize_of};
-ghost use Rattle.arena_rules.specs.Align.{align_of, mapped_block};
+ghost use Rattle.arena_rules.specs.Align.{align_of, aligned_block};
 ghost use Rattle.arena_rules.specs.Search.{searched, carved, sorted_in};
 ghost use Rattle.arena_rules.specs.Examples.{found_by, two_pages, three_cut, second_free, chunk_ended, mapping_ended, tiles_ended, unsorted_ended, small_cut, grown_cut, free_between, two_large, tail_stashed};
 ghost use Rattle.chunk_tags.specs.declared.tiles.TileKind.TheVariants.{Used, Free, Top, Fence};
@@ -121,6 +121,6 @@ fn aligned_behind_a_lead()
 #[tactic(auto, unfolding(crate::specs::PlainArena::empty_bins))]
 fn aligned_in_a_mapping()
     ensures found { mapping_ended (end_of_rules serial_values (align_of serial_values 4096 200016 small_cut) (Flag false ∷ Flag false ∷ Dial 131072 ∷ Dial 0 ∷ Asked (Map 0x600000000000 204800) Granted ∷ [])) ≡ Some (chunk_of (tile_of Used 0x600000000000 204800)) }
-    ensures block { mapped_block 4096 (chunk_of (tile_of Used 0x600000000000 204800)) ≡ record { addr = 0x600000000ff0; size = 200720; lead = 4080; arena = None } }
-    ensures longer_lead { mapped_block 32 (chunk_of (tile_of Used 0x600000032000 200704)) ≡ record { addr = 0x600000032030; size = 200656; lead = 48; arena = None } }
+    ensures block { aligned_block 4096 (chunk_of (tile_of Used 0x600000000000 204800)) ≡ record { addr = 0x600000000ff0; size = 200720; lead = 4080; arena = None } }
+    ensures longer_lead { aligned_block 32 (chunk_of (tile_of Used 0x600000032000 200704)) ≡ record { addr = 0x600000032030; size = 200656; lead = 48; arena = None } }
 {}

@@ -1,6 +1,7 @@
-//! The rules of one arena, as definitions and laws: what an arena consists of (`PlainArena`), the moves of which every
-//! rule is made (`Moves`), and the rules of a hold as a tree over the answers that it is told (`Rules`, `Release`,
-//! `Growth`, `Search`). The crates above keep their contracts by them.
+//! The rules of one arena, as definitions and laws: what an arena consists of (`PlainArena`), where main lies
+//! (`MainPlaces`), the moves of which every rule is made (`Moves`), and the rules of a hold as a tree over the answers
+//! that it is told (`Rules`, `Release`, `Trim`, `Growth`, `Search`; `Resize` and `Align` for another size and for
+//! alignment). The crates above keep their contracts by them.
 #![tactic(auto)]
 
 #[cfg(test)]

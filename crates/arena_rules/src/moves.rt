@@ -5,17 +5,20 @@ ghost use Rattle.address_space.specs.Spaces.{main_start, piece_start};
 ghost use Rattle.chunk_tags.specs.Tunables.{main_limit};
 ghost use Rattle.chunk_tags.specs.Sizes.{IsChunkSize, is_small_size, small_index_of, large_index_of, bin_of};
 ghost use Rattle.chunk_tags.specs.BinOrder.{times_in, oldest_of, best_of};
-ghost use Rattle.chunk_tags.specs.Tiles.{tile_before, top_of};
+ghost use Rattle.chunk_tags.specs.Tiles.{tile_before, tile_behind, top_of};
 ghost use Rattle.arena_rules.specs.PlainArena.{Plain, IsSound, is_main, is_own, bin_at, unsorted_of, times_listed};
 ghost use Rattle.arena_rules.specs.Moves.{hand, joined_before, joined_behind, is_before_top, is_free_tile, absorbed, shelved, claimed, parted, cut_from_top, left_of_top, top_size, top_start, StandsAlone};
 ghost use Rattle.arena_rules.specs.Trim.{main_cut, CanCutMain};
 ghost use Rattle.arena_rules.specs.Growth.{has_top_for, break_taken, break_rest, piece_taken, noted};
 ghost use Rattle.arena_rules.specs.Search.{sorted_in, first_oldest};
+ghost use Rattle.arena_rules.specs.Resize.{fits_with_top, grown_into_top, is_next_to, joined_with};
 
 use chunk_tags::{Addr, Chunk, NoMemory, Size, Tile};
 
-/// An arena that can be moved through its rules, however it is kept. Contracts see the plain arena that it is; each call is
-/// one look or one move of the definitions (`Moves`, and for sorting, growing and trimming `Search`, `Growth`, `Trim`). None but those that make room takes memory.
+/// An arena that can be moved through its rules, however it is kept (the program's is `Ground` of arena_ground).
+/// Contracts see the plain arena that it is; each call is one look or one move of the definitions (`Moves`, and for
+/// resizing, sorting, growing and trimming `Resize`, `Search`, `Growth`, `Trim`). None but those that make room takes
+/// memory.
 pub trait Moves {
     ghost plain: { Self → Plain };
 
@@ -65,7 +68,7 @@ pub trait Moves {
         requires alone { StandsAlone (plain self.old) c }
         ensures { plain self.new ≡ shelved (plain self.old) c };
 
-    // Searching.
+    // Taking, resizing.
 
     /// Takes a free chunk out of its bin, so that it is used (glibc's `unlink_chunk`).
     fn claim(&mut self, c: Chunk)
@@ -81,6 +84,33 @@ pub trait Moves {
         requires rest { IsChunkSize (c.size - nb) }
         ensures rest { result ≡ record { at = c.at + nb; size = c.size - nb } }
         ensures arena { plain self.new ≡ parted (plain self.old) c nb };
+
+    /// The tile directly behind a used chunk.
+    fn behind(&self, c: Chunk) -> Tile
+        requires sound { IsSound (plain self.now) }
+        requires own { IsTrue (is_own (plain self.now) c) }
+        ensures { tile_behind c.at (plain self.now).tiles ≡ Some result };
+
+    /// Joins a used chunk with the used chunk directly behind it, and gives what it then is (a step of glibc's
+    /// `_int_realloc`).
+    fn join_used(&mut self, c: Chunk, d: Chunk) -> Chunk
+        requires sound { IsSound (plain self.old) }
+        requires own { IsTrue (is_own (plain self.old) c) }
+        requires next { IsTrue (is_own (plain self.old) d) }
+        requires behind { IsTrue (is_next_to c d) }
+        ensures { hand result (plain self.new) ≡ joined_with (hand c (plain self.old)) d };
+
+    /// Grows a used chunk into the top directly behind it, to exactly `nb` bytes; top keeps at least 32 (a step of glibc's
+    /// `_int_realloc`). A free chunk may be before it.
+    fn grow_into_top(&mut self, c: Chunk, nb: Size)
+        requires sound { IsSound (plain self.old) }
+        requires own { IsTrue (is_own (plain self.old) c) }
+        requires chunk { IsChunkSize nb }
+        requires larger { c.size < nb }
+        requires room { IsTrue (fits_with_top (plain self.old) c nb) }
+        ensures { plain self.new ≡ grown_into_top (plain self.old) c nb };
+
+    // Searching.
 
     /// Moves a chunk from unsorted to the bin of its size.
     fn sort_in(&mut self, c: Chunk)

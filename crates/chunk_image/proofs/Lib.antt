@@ -1,5 +1,5 @@
+mod BorderLaws
 mod CellLaws
-pub mod Changes
 mod FootLaws
 mod HeadLaws
 mod ReadLaws

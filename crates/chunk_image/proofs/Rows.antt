@@ -251,3 +251,15 @@ swapped-fused from at (z ∷ w ∷ ws) u x s b =
     rw (ne_eqb z.addr u.addr (λ e. omega (arith, e, same, s.1, s.2.0)), eq-eqb w.addr u.addr same, eq-eqb z.addr at ez) refl)
     (λ other rest. rw (ne_eqb z.addr u.addr (λ e. omega (arith, e, s.1, spread_behind (end_of z) at (w ∷ ws) u s.2 rest)), ne_eqb z.addr at other)
     (ap (λ us. z ∷ us) (swapped-fused (end_of z) at (w ∷ ws) u x s.2 rest))) b
+
+-- two tiles become a shorter one, and another enters behind it
+pub fused-entered : (from at : ℕ) (ts : List Tile) (t u x y m : Tile) → IsSpread from ts → tile_at at ts ≡ Some t → tile_behind at ts ≡ Some u → x.addr ≡ at → m.addr ≡ at → at < y.addr → y.addr < end_of u → entered y (fused at x ts) ≡ swapped at (x ∷ y ∷ []) (fused at m ts)
+fused-entered from at [] t u x y m s found b ex em lo hi = cc
+fused-entered from at (z ∷ []) t u x y m s found b ex em lo hi = cc
+fused-entered from at (z ∷ w ∷ ws) t u x y m s found b ex em lo hi =
+    behind_cases (λ o. o ≡ Some u → entered y (fused at x (z ∷ w ∷ ws)) ≡ swapped at (x ∷ y ∷ []) (fused at m (z ∷ w ∷ ws))) at z w ws
+    (λ ez here. let same : w ≡ u = cc in
+    rw (eq-eqb z.addr at ez, le-ltb y.addr x.addr (omega (arith, ex, lo)), eq-eqb m.addr at em) (ap (λ us. x ∷ us) (entered_next (end_of w) y ws s.2.2 (omega (arith, hi, ap (λ (v : Tile). end_of v) same)))))
+    (λ other rest. let later : tile_at at (w ∷ ws) ≡ Some t = rw (ne_eqb z.addr at other) at found in
+    rw (ne_eqb z.addr at other, le-ltb y.addr z.addr (omega (arith, lo, s.1, spread_below (end_of z) at (w ∷ ws) t s.2 later)))
+    (rw (ne_eqb z.addr at other) (ap (λ us. z ∷ us) (fused-entered (end_of z) at (w ∷ ws) t u x y m s.2 later rest ex em lo hi)))) b

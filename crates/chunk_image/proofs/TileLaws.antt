@@ -86,10 +86,10 @@ IsOpen-end heads feet t kept row b no_edge =
     let next = row_behind t.addr (tiles_of heads) t row b.found no_edge in
     subst (IsOpen (extent_of heads)) next.1.joins (IsOpen-begin heads next.0 (begins_behind heads feet t next.0 kept b next.1))
 
-no_free : (t : Tile) → t.kind ≡ Free → is_free t ≡ false → ⊥
+pub no_free : (t : Tile) → t.kind ≡ Free → is_free t ≡ false → ⊥
 no_free t e used = let clash : true ≡ false = rw e at used in cc
 
-row_is : (heads : Parts Head) (ts : List Tile) (e : Extent) → tiles_of heads ≡ ts → extent_of heads ≡ e → row_of heads ≡ record { tiles = ts; extent = e }
+pub row_is : (heads : Parts Head) (ts : List Tile) (e : Extent) → tiles_of heads ≡ ts → extent_of heads ≡ e → row_of heads ≡ record { tiles = ts; extent = e }
 row_is heads ts e tiles extent = rw (tiles, extent) refl
 
 one_with : (at : ℕ) (h : Head) → 0 < h.size → tiles_with at h ≡ record { addr = at; size = h.size; kind = h.kind } ∷ []
@@ -213,19 +213,21 @@ can_fuse heads feet t u kind heads' j last below written same =
           (λ other free e. absurd (other (ends_alone heads feet u j.kept j.row s.second a free (e ∙ sym end)))));
     }
 
-pub row_fused : (heads : Parts Head) (feet : Parts ℕ) (t u : Tile) (kind : TileKind) (heads' heads'' : Parts Head) → Joins heads feet t u → head_at heads' ≡ update (head_at heads) u.addr no_head → extent_of heads' ≡ extent_of heads → head_at heads'' ≡ update (head_at heads') t.addr (record { size = t.size + u.size; kind = kind }) → extent_of heads'' ≡ extent_of heads' → row_of heads'' ≡ record { tiles = fused t.addr (record { addr = t.addr; size = t.size + u.size; kind = kind }) (tiles_of heads); extent = extent_of heads }
-row_fused heads feet t u kind heads' heads'' j written same written' same' =
+-- the second gone, and another head for the first
+pub tiles_fused : (heads : Parts Head) (feet : Parts ℕ) (t u : Tile) (h : Head) (heads' heads'' : Parts Head) → Joins heads feet t u → 0 < h.size → head_at heads' ≡ update (head_at heads) u.addr no_head → head_at heads'' ≡ update (head_at heads') t.addr h → tiles_of heads'' ≡ fused t.addr (record { addr = t.addr; size = h.size; kind = h.kind }) (tiles_of heads)
+tiles_fused heads feet t u h heads' heads'' j some written written' =
     let s = side heads feet t u j in
-    let x : Tile = record { addr = t.addr; size = t.size + u.size; kind = kind } in
-    let h : Head = record { size = t.size + u.size; kind = kind } in
-    let some : 0 < t.size + u.size = omega (arith, s.first.some) in
+    let x : Tile = record { addr = t.addr; size = h.size; kind = h.kind } in
     let one : tiles_with t.addr h ≡ x ∷ [] = one_with t.addr h some in
     let apart_u : t.addr ≡ u.addr → ⊥ = λ e. omega (arith, e, s.joins, s.first.some) in
     let still : 0 < (head_at heads' t.addr).size = rw (written, update_other (head_at heads) u.addr no_head t.addr apart_u, s.first.head) s.first.some in
     let gone : tiles_of heads' ≡ swapped u.addr [] (tiles_of heads) = tiles_of-changed heads heads' u.addr no_head written s.second.below (omega (arith, s.second.some, ap (λ (k : Head). k.size) s.second.head)) in
-    let tiles : tiles_of heads'' ≡ fused t.addr x (tiles_of heads) =
-    tiles_of-changed heads' heads'' t.addr h written' s.first.below still ∙ (ap (λ ts. swapped t.addr ts (tiles_of heads')) one ∙ (ap (swapped t.addr (x ∷ [])) gone ∙ swapped-fused 0 t.addr (tiles_of heads) u x (spread (tiles_of heads) j.row) j.behind)) in
-    row_is heads'' _ _ tiles (same' ∙ same)
+    tiles_of-changed heads' heads'' t.addr h written' s.first.below still ∙ (ap (λ ts. swapped t.addr ts (tiles_of heads')) one ∙ (ap (swapped t.addr (x ∷ [])) gone ∙ swapped-fused 0 t.addr (tiles_of heads) u x (spread (tiles_of heads) j.row) j.behind))
+
+pub row_fused : (heads : Parts Head) (feet : Parts ℕ) (t u : Tile) (kind : TileKind) (heads' heads'' : Parts Head) → Joins heads feet t u → head_at heads' ≡ update (head_at heads) u.addr no_head → extent_of heads' ≡ extent_of heads → head_at heads'' ≡ update (head_at heads') t.addr (record { size = t.size + u.size; kind = kind }) → extent_of heads'' ≡ extent_of heads' → row_of heads'' ≡ record { tiles = fused t.addr (record { addr = t.addr; size = t.size + u.size; kind = kind }) (tiles_of heads); extent = extent_of heads }
+row_fused heads feet t u kind heads' heads'' j written same written' same' =
+    let s = side heads feet t u j in
+    row_is heads'' _ _ (tiles_fused heads feet t u (record { size = t.size + u.size; kind = kind }) heads' heads'' j (omega (arith, s.first.some)) written written') (same' ∙ same)
 
 -- A tile that is cut into two.
 pub record Cuts (heads : Parts Head) (feet : Parts ℕ) (t : Tile) (nb : ℕ) : Type 0 where

@@ -32,6 +32,21 @@ fn top_is_cut_and_made_whole(rt: HostRuntime) -> Result<(), Fail> {
         TileKind::Top,
     );
     assert_eq!(rt; words.tile(Addr(4160)).size, Size(32));
+    assert_eq!(rt;
+        words.shift_border(
+            &tile(4160, 32, TileKind::Used),
+            &tile(4192, 4000, TileKind::Top),
+            Size(48)
+        ),
+        Addr(4208)
+    );
+    assert_eq!(rt; words.tile(Addr(4208)).size, Size(3984));
+    words.shift_border(
+        &tile(4160, 48, TileKind::Used),
+        &tile(4208, 3984, TileKind::Top),
+        Size(32),
+    );
+    assert_eq!(rt; words.tile(Addr(4192)).size, Size(4000));
     words.set_kind(&tile(4096, 64, TileKind::Used), TileKind::Free);
     assert!(rt; words.free_before(Addr(4160)).is_some());
     assert_eq!(rt;

@@ -185,6 +185,48 @@ impl TileWords {
         put(&mut self.cells, at, Head { size, kind });
     }
 
+    /// Shifts the border between a chunk and the tile behind it, so that the chunk has `nb` bytes, and gives the address of
+    /// the second. Neither is free.
+    pub fn shift_border(&mut self, t: &Tile, u: &Tile, nb: Size) -> Addr
+        requires row { Row self.old.tiles }
+        requires tile { tile_at t.now.addr self.old.tiles ≡ Some t.now }
+        requires chunk { is_edge t.now ≡ false }
+        requires behind { tile_behind t.now.addr self.old.tiles ≡ Some u.now }
+        requires used { is_free t.now ≡ false }
+        requires rest { is_free u.now ≡ false }
+        requires whole { nb % 16 ≡ 0 }
+        requires some { 0 < nb }
+        requires less { nb < t.now.size + u.now.size }
+        requires below { t.now.size + u.now.size < 2 ^ 34 }
+        ensures at { result ≡ t.now.addr + nb }
+        ensures tiles { self.new ≡ record self.old {
+          tiles = swapped t.now.addr
+              (record t.now { size = nb }
+              ∷ record u.now { addr = t.now.addr + nb; size = t.now.size + u.now.size - nb } ∷ [])
+              (fused t.now.addr
+              (record u.now { addr = t.now.addr; size = t.now.size + u.now.size })
+              self.old.tiles);
+        } }
+    {
+        let border = u.addr.0;
+        put(&mut self.cells, border, Head::NONE);
+        let at = t.addr.0;
+        let size = nb.0;
+        let kind = t.kind;
+        put(&mut self.cells, at, Head { size, kind });
+        let next = at + size;
+        let left = t.size.0 + u.size.0 - size;
+        put(
+            &mut self.cells,
+            next,
+            Head {
+                size: left,
+                kind: u.kind,
+            },
+        );
+        Addr(next)
+    }
+
     /// A tile of a new range, at whose address no tile begins yet.
     pub fn enter(&mut self, t: &Tile)
         requires none { tile_at t.now.addr self.old.tiles ≡ None }

@@ -5,4 +5,3 @@ pub mod Lifts
 pub mod Carried
 pub mod Trims
 pub mod HoldSteps
-pub mod Allowing

@@ -1,4 +1,5 @@
-//! The fast bins of an arena: what a port to them promises, and the ten bins for one order of calls.
+//! The fast bins of an arena: what a port to them promises, and the ten bins for one order of calls (`PlainFast`). A
+//! contract sees a port by its steps (`FastPorts`).
 #![tactic(auto)]
 
 mod plain;

@@ -1,3 +1,4 @@
+pub mod IntoTop
 pub mod TopLaws
 pub mod MainMoves
 mod Scenes

@@ -13,6 +13,7 @@ ghost use Rattle.arena_rules.specs.MainPlaces.{times_covered, IsMainPlaced};
 ghost use Rattle.arena_rules.specs.Moves.{tile_of, absorbed, closed_top, cut_from_top, left_of_top, top_end, top_size, top_start, with_moved_top, with_top_size};
 ghost use Rattle.arena_rules.specs.Growth.{is_top_at_break, break_taken, break_rest, has_top_for, noted, piece_taken};
 ghost use Rattle.arena_rules.specs.Trim.{main_cut, CanCutMain};
+ghost use Rattle.arena_rules.specs.Resize.{grown_into_top};
 ghost use Rattle.heap_top.specs.Regions.{arena_of, bare_arena, closed_tiles, left_of_closed, KnowsTop, HasTop};
 ghost use Rattle.heap_top.specs.MainRanges.{IsNewRange};
 
@@ -114,6 +115,31 @@ impl Regions {
         tiles.fuse(&chunk, &top, TileKind::Top);
         self.top = Some(at);
         tiles.tile(at).size
+    }
+
+    /// Grows a used chunk into the top behind it, to exactly `nb` bytes; top keeps at least 32 (a step of glibc's
+    /// `_int_realloc`).
+    pub fn grow_into_top(&mut self, tiles: &mut TileWords, c: Chunk, nb: Size)
+        requires row { Row tiles.old.tiles }
+        requires chunk { tile_at c.at tiles.old.tiles ≡ Some (tile_of TileKind.Used c.at c.size) }
+        requires top { tile_behind c.at tiles.old.tiles ≡ top_of tiles.old.tiles }
+        requires main { IsMainPlaced (bare_arena self.old tiles.old.tiles) }
+        requires size { IsChunkSize nb }
+        requires room { nb + 32 ≤ c.size + top_size (bare_arena self.old tiles.old.tiles) }
+        ensures top { HasTop self.new.top tiles.new.tiles }
+        ensures arena { (bins : List (List Piece)) (last : Option ℕ)
+            → arena_of self.new tiles.new.tiles bins last
+            ≡ grown_into_top (arena_of self.old tiles.old.tiles bins last) c nb }
+        ensures extent { tiles.new.extent ≡ tiles.old.extent }
+    {
+        let Chunk { at, size } = c;
+        let chunk = Tile {
+            addr: at,
+            size,
+            kind: TileKind::Used,
+        };
+        let top = tiles.behind(&chunk);
+        self.top = Some(tiles.shift_border(&chunk, &top, nb));
     }
 
     /// Takes a growth of the break, which was granted: top grows where it ends there, and else moves there. Gives what is

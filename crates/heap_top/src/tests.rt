@@ -105,98 +105,112 @@ fn expect_tiles(
     Ok(())
 }
 
+/// The first growth is top, which a later one makes longer.
+fn top_grows(
+    rt: &impl Abort,
+    alloc: Global,
+    main: &mut Regions,
+    tiles: &mut TileWords,
+) -> Result<(), NoMemory>
+    requires { IsScene main.old tiles.old }
+    ensures { IsScene main.new tiles.new }
+{
+    assert_eq!(rt; grow(rt, main, tiles, 135_168), None);
+    assert_eq!(rt; cut(rt, main, tiles, 32), Addr(MAIN_START));
+    assert_eq!(rt; grow(rt, main, tiles, 4096), None);
+    note(main, tiles);
+    assert_eq!(rt; main.system, 139_264);
+    assert_eq!(rt; main.most, 139_264);
+    let want = [
+        (MAIN_START, 32, TileKind::Used),
+        (MAIN_START + 32, 139_232, TileKind::Top),
+    ];
+    expect_tiles(rt, alloc, tiles, main, &want)
+}
+
+/// A piece is top, and the old one ends in a fence.
+fn top_moves(
+    rt: &impl Abort,
+    alloc: Global,
+    main: &mut Regions,
+    tiles: &mut TileWords,
+) -> Result<(), NoMemory>
+    requires { IsScene main.old tiles.old }
+    ensures { IsScene main.new tiles.new }
+{
+    let rest = take_piece(rt, main, tiles, 1_048_576);
+    let want = Chunk {
+        at: Addr(MAIN_START + 32),
+        size: Size(139_200),
+    };
+    assert_eq!(rt; rest, Some(want));
+    assert!(rt; !main.contiguous);
+    assert_eq!(rt; main.next_piece, PIECE_START + 1_048_576);
+    let want = [
+        (MAIN_START, 32, TileKind::Used),
+        (MAIN_START + 32, 139_200, TileKind::Used),
+        (MAIN_START + 139_232, 32, TileKind::Fence),
+        (PIECE_START, 1_048_576, TileKind::Top),
+    ];
+    expect_tiles(rt, alloc, tiles, main, &want)
+}
+
+/// A top of 48 bytes, and one of 32, are all fence.
+fn small_tops_close(
+    rt: &impl Abort,
+    alloc: Global,
+    main: &mut Regions,
+    tiles: &mut TileWords,
+) -> Result<(), NoMemory>
+    requires { IsScene main.old tiles.old }
+    ensures { IsScene main.new tiles.new }
+{
+    assert_eq!(rt; cut(rt, main, tiles, 1_048_528), Addr(PIECE_START));
+    assert_eq!(rt; grow(rt, main, tiles, 4096), None);
+    assert_eq!(rt; cut(rt, main, tiles, 4064), Addr(MAIN_START + 139_264));
+    assert_eq!(rt; take_piece(rt, main, tiles, 1_048_576), None);
+    note(main, tiles);
+    assert_eq!(rt; main.most, 2_240_512);
+    let want = [
+        (MAIN_START, 32, TileKind::Used),
+        (MAIN_START + 32, 139_200, TileKind::Used),
+        (MAIN_START + 139_232, 32, TileKind::Fence),
+        (MAIN_START + 139_264, 4064, TileKind::Used),
+        (MAIN_START + 143_328, 32, TileKind::Fence),
+        (PIECE_START, 1_048_528, TileKind::Used),
+        (PIECE_START + 1_048_528, 48, TileKind::Fence),
+        (PIECE_START + 1_048_576, 1_048_576, TileKind::Top),
+    ];
+    expect_tiles(rt, alloc, tiles, main, &want)
+}
+
+/// Top goes back to the break, whose end is given back; the maximum stays.
+fn top_goes_back(rt: &impl Abort, main: &mut Regions, tiles: &mut TileWords)
+    requires { IsScene main.old tiles.old }
+{
+    let rest = grow(rt, main, tiles, 8192);
+    let want = Chunk {
+        at: Addr(PIECE_START + 1_048_576),
+        size: Size(1_048_544),
+    };
+    assert_eq!(rt; rest, Some(want));
+    note(main, tiles);
+    trim(rt, main, tiles, 4096);
+    note(main, tiles);
+    assert_eq!(rt; main.break_at, MAIN_START + 147_456);
+    assert_eq!(rt; main.system, 2_244_608);
+    assert_eq!(rt; main.most, 2_248_704);
+    let top = main.top(tiles).expect(rt, "top");
+    assert_eq!(rt; top.addr, Addr(MAIN_START + 143_360));
+    assert_eq!(rt; top.size, Size(4096));
+}
+
 #[test]
 fn top_grows_is_cut_and_moves(rt: HostRuntime) -> Result<(), Fail> {
     let (mut main, mut tiles) = main_with_words(rt.alloc())?;
-    let start = MAIN_START;
-    let pieces = PIECE_START;
-
-    // the first growth is top, which a later one makes longer
-    assert_eq!(rt; grow(&rt, &mut main, &mut tiles, 135_168), None);
-    assert_eq!(rt; cut(&rt, &mut main, &mut tiles, 32), Addr(start));
-    assert_eq!(rt; grow(&rt, &mut main, &mut tiles, 4096), None);
-    note(&mut main, &tiles);
-    assert_eq!(rt; main.system, 139_264);
-    assert_eq!(rt; main.most, 139_264);
-    expect_tiles(
-        &rt,
-        rt.alloc(),
-        &tiles,
-        &main,
-        &[
-            (start, 32, TileKind::Used),
-            (start + 32, 139_232, TileKind::Top),
-        ],
-    )?;
-
-    // a piece is top, and the old one ends in a fence
-    let rest = take_piece(&rt, &mut main, &mut tiles, 1_048_576);
-    assert_eq!(rt;
-        rest,
-        Some(Chunk {
-            at: Addr(start + 32),
-            size: Size(139_200)
-        })
-    );
-    assert!(rt; !main.contiguous);
-    assert_eq!(rt; main.next_piece, pieces + 1_048_576);
-    expect_tiles(
-        &rt,
-        rt.alloc(),
-        &tiles,
-        &main,
-        &[
-            (start, 32, TileKind::Used),
-            (start + 32, 139_200, TileKind::Used),
-            (start + 139_232, 32, TileKind::Fence),
-            (pieces, 1_048_576, TileKind::Top),
-        ],
-    )?;
-
-    // a top of 48 bytes, and one of 32, are all fence
-    assert_eq!(rt; cut(&rt, &mut main, &mut tiles, 1_048_528), Addr(pieces));
-    assert_eq!(rt; grow(&rt, &mut main, &mut tiles, 4096), None);
-    assert_eq!(rt;
-        cut(&rt, &mut main, &mut tiles, 4064),
-        Addr(start + 139_264)
-    );
-    assert_eq!(rt; take_piece(&rt, &mut main, &mut tiles, 1_048_576), None);
-    note(&mut main, &tiles);
-    assert_eq!(rt; main.most, 2_240_512);
-    expect_tiles(
-        &rt,
-        rt.alloc(),
-        &tiles,
-        &main,
-        &[
-            (start, 32, TileKind::Used),
-            (start + 32, 139_200, TileKind::Used),
-            (start + 139_232, 32, TileKind::Fence),
-            (start + 139_264, 4064, TileKind::Used),
-            (start + 143_328, 32, TileKind::Fence),
-            (pieces, 1_048_528, TileKind::Used),
-            (pieces + 1_048_528, 48, TileKind::Fence),
-            (pieces + 1_048_576, 1_048_576, TileKind::Top),
-        ],
-    )?;
-
-    // top goes back to the break, whose end is given back; the maximum stays
-    let rest = grow(&rt, &mut main, &mut tiles, 8192);
-    assert_eq!(rt;
-        rest,
-        Some(Chunk {
-            at: Addr(pieces + 1_048_576),
-            size: Size(1_048_544)
-        })
-    );
-    note(&mut main, &tiles);
-    trim(&rt, &mut main, &mut tiles, 4096);
-    note(&mut main, &tiles);
-    assert_eq!(rt; main.break_at, start + 147_456);
-    assert_eq!(rt; main.system, 2_244_608);
-    assert_eq!(rt; main.most, 2_248_704);
-    let top = main.top(&tiles).expect(&rt, "top");
-    assert_eq!(rt; top.addr, Addr(start + 143_360));
-    assert_eq!(rt; top.size, Size(4096));
+    top_grows(&rt, rt.alloc(), &mut main, &mut tiles)?;
+    top_moves(&rt, rt.alloc(), &mut main, &mut tiles)?;
+    small_tops_close(&rt, rt.alloc(), &mut main, &mut tiles)?;
+    top_goes_back(&rt, &mut main, &mut tiles);
     Ok(())
 }

@@ -8,7 +8,7 @@ ghost use Rattle.mapped_chunks.specs.Mappings.{IsMapped};
 ghost use Rattle.consolidate_trim.specs.Holds.{no_chunk};
 ghost use Rattle.hold_lists.specs.Kept.{IsKept, chunks_of};
 
-use address_space::{Budget, Space, Windows};
+use address_space::{Budget, MAP_LIMIT, Space, Windows};
 use arena_core::{Arena, Take, Who};
 use arena_ground::Ground;
 use chunk_tags::{Block, NoMemory, Size, Tunables, cache_index, fast_index, request_size};
@@ -82,7 +82,8 @@ fn is_mapping(block: &Block) -> bool
         && block.lead <= block.addr.0
         && block.addr.0 % 16 == 0
         && (block.addr.0 - block.lead) % 4096 == 0
-        && block.addr.0 < 18_446_744_073_709_551_615 - block.size.0
+        && block.addr.0 <= MAP_LIMIT
+        && block.size.0 <= MAP_LIMIT - block.addr.0
 }
 
 impl Bench {

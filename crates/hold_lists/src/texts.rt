@@ -15,6 +15,10 @@ fn act_text(alloc: Global, act: &Act) -> Result<String, AllocError> {
     match act {
         Act::Take { nb } => format!(in alloc; "take {}", nb.0),
         Act::Give { addr, size } => format!(in alloc; "give {:#x} {}", user(*addr), size.0),
+        Act::Resize { addr, size, nb } => {
+            format!(in alloc; "resize {:#x} {} {}", user(*addr), size.0, nb.0)
+        }
+        Act::Align { align, nb } => format!(in alloc; "align {align} {}", nb.0),
     }
 }
 

@@ -37,7 +37,7 @@ use Rattle.arena_core.specs.Ledgers.{stage}
 use Rattle.arena_core.specs.Replay.{IsReplay, chunk_at}
 use Rattle.arena_core.specs.Shown.{MappedShown, ShowsMapped, EndsCounted, StopsCounted, IsCounted}
 use Rattle.arena_core.specs.Journal.{Recorded}
-use Rattle.arena_core.proofs.Mapped.{IsFramed, walked_frame, walked_to_end, walked_short, rules_map_once, request_of}
+use Rattle.arena_core.proofs.Mapped.{IsFramed, walked_frame, walked_to_end, walked_short, rules_map_within, request_of}
 use Rattle.arena_core.specs.declared.found.Found.{Found}
 use Rattle.arena_core.specs.declared.found.Found.TheVariants as finds
 use Rattle.arena_core.specs.declared.journal.Act.{Act}
@@ -201,6 +201,23 @@ found_mapped {shown = shown} n finds.Nowhere ends =
     let bytes = ap (λ (s : MappedShown). s.bytes) same in
     (omega (arith, count), omega (arith, bytes), omega (arith, count, bytes, ends.bytes))
 
+-- the same where it was left for want of memory
+record IsShort {P K : Type 0} (shown : P → MappedShown) (o z : Outside P K) : Type 0 where
+  count : (shown o.port).count ≤ (shown z.port).count
+  bytes : (shown o.port).bytes ≤ (shown z.port).bytes
+  most : (shown z.port).count + o.space.mapped ≤ (shown o.port).count + z.space.mapped
+
+short_mapped : {P K : Type 0} {shown : P → MappedShown} {nb : ℕ} {o z : Outside P K} → o.space.mapped ≤ z.space.mapped → StopsCounted shown nb o z → IsShort shown o z
+short_mapped grows stops = elim stops.counts [
+  | inl same ↦
+      let count = ap (λ (s : MappedShown). s.count) same in
+      record { count = omega (arith, count); bytes = omega (arith, ap (λ (s : MappedShown). s.bytes) same); most = omega (arith, count, grows) }
+  | inr one ↦
+      let count = ap (λ (s : MappedShown). s.count) one in
+      let bytes = ap (λ (s : MappedShown). s.bytes) one in
+      record { count = omega (arith, count); bytes = omega (arith, bytes); most = omega (arith, count, bytes, stops.bytes) }
+]
+
 -- a hold leaves what a cache weighs, where chunks of arenas weigh nothing
 cache_same : (c d : CacheValue) (weigh : Block → ℕ) → ((b : Block) → IsSome b.arena → weigh b ≡ 0) → IfSome c IsSoundCache → IfSome d IsSoundCache → structure_of d ≡ structure_of c → in_cache d weigh ≡ in_cache c weigh
 cache_same c d weigh none sound left same =
@@ -263,7 +280,7 @@ mapped_taken ways m {t = t} {nb = nb} {k = k} {k' = k'} {port = port} {left = le
     let z : Outside _ _ = beside_arena left now later in
     let frame : IsFramed m o z = walked_frame {m = m} r.walks.walks in
     let ends : EndsCounted ways.shown nb o z (record { found = found_of found; arena = k'.arena }) =
-    walked_to_end m k.arena.number ways.shown shows nb (rules_map_once t (acts.Take nb) k.arena) r.walks.walks in
+    walked_to_end m k.arena.number ways.shown shows nb (rules_map_within t (acts.Take nb) k.arena) r.walks.walks in
     omega (arith, found_byte m o z k.arena.number n found frame ends, cache_same cache now (as_mapped_byte n) (byte_none n) sound well frame.structure)
 
 -- those of one that memory was too short for have none but what they had
@@ -281,7 +298,7 @@ account_taken {K = K} ways m {t = t} {nb = nb} {k = k} {k' = k'} {port = port} {
     let n : ℕ = k.arena.number in
     let frame : IsFramed m (beside_arena port cache space) (beside_arena left now later) = walked_frame {m = m} r.walks.walks in
     let ends : EndsCounted ways.shown nb (beside_arena port cache space) (beside_arena left now later) (record { found = found_of found; arena = k'.arena }) =
-    walked_to_end m n ways.shown shows nb (rules_map_once t (acts.Take nb) k.arena) r.walks.walks in
+    walked_to_end m n ways.shown shows nb (rules_map_within t (acts.Take nb) k.arena) r.walks.walks in
     let mapped = found_mapped n found ends in
     let b = r.balances in
     record {
@@ -313,7 +330,7 @@ pub noted_taken : {P H D K : Type 0} (ways : PlaceWays P H D) (m : Means H K) {t
     IsNoted ways before.outside.port left before.outside.space.mapped later.mapped
 noted_taken ways m {t = t} {nb = nb} {before = before} {arena = arena} {left = left} {now = now} {later = later} found shows r =
     let ends : EndsCounted ways.shown nb before.outside (beside_arena left now later) (record { found = found_of found; arena = arena }) =
-    walked_to_end m before.arena.number ways.shown shows nb (rules_map_once t (acts.Take nb) before.arena) r.walks.walks in
+    walked_to_end m before.arena.number ways.shown shows nb (rules_map_within t (acts.Take nb) before.arena) r.walks.walks in
     record { count = (found_mapped before.arena.number found ends).2; bytes = ends.bytes }
 
 -- one that memory was too short for
@@ -324,24 +341,25 @@ pub account_short : {P H D K : Type 0} (ways : PlaceWays P H D) (m : Means H K) 
 account_short ways m {t = t} {nb = nb} {k = k} {port = port} {left = left} {cache = cache} {now = now} {space = space} {later = later} shows sound well r =
     let n : ℕ = k.arena.number in
     let frame : IsFramed m (beside_arena port cache space) (beside_arena left now later) = walked_frame {m = m} r.stops.reaches.walks in
-    let stops : StopsCounted ways.shown (beside_arena port cache space) (beside_arena left now later) =
-    walked_short m n ways.shown shows nb (rules_map_once t (acts.Take nb) k.arena) r.stops.reaches.walks in
+    let stops : StopsCounted ways.shown nb (beside_arena port cache space) (beside_arena left now later) =
+    walked_short m n ways.shown shows nb (rules_map_within t (acts.Take nb) k.arena) r.stops.reaches.walks in
+    let short : IsShort ways.shown (beside_arena port cache space) (beside_arena left now later) = short_mapped frame.mapped stops in
     let b = r.loses in
     record {
       chunks = λ e. omega (arith, b.kept e, cached_is n cache e, cached_is n now e, ap (λ (o : Option Block). weight_of o (as_chunk_of n e)) frame.structure);
       others = λ x e other. omega (arith, b.others x other e, cached_is x cache e, cached_is x now e, ap (λ (o : Option Block). weight_of o (as_chunk_of x e)) frame.structure);
-      count = omega (arith, ap (λ (s : MappedShown). s.count) stops.same, cache_mapped cache now sound well frame.structure);
-      bytes = omega (arith, ap (λ (s : MappedShown). s.bytes) stops.same, cache_mapped_bytes cache now sound well frame.structure);
+      count = omega (arith, short.count, cache_mapped cache now sound well frame.structure);
+      bytes = omega (arith, short.bytes, cache_mapped_bytes cache now sound well frame.structure);
     }
 
 pub noted_short : {P H D K : Type 0} (ways : PlaceWays P H D) (m : Means H K) {t : Tunables} {who : Who} {act : Act} {before after : Held H K} {given : Chunks} →
     ShowsMapped m.fast m.dials ways.shown → RecordsShort m t who act before given after →
     IsNoted ways before.outside.port after.outside.port before.outside.space.mapped after.outside.space.mapped
 noted_short ways m {t = t} {act = act} {before = before} {after = after} shows r =
-    let stops : StopsCounted ways.shown before.outside after.outside =
-    walked_short m before.arena.number ways.shown shows (request_of act) (rules_map_once t act before.arena) r.stops.reaches.walks in
+    let stops : StopsCounted ways.shown (request_of act) before.outside after.outside =
+    walked_short m before.arena.number ways.shown shows (request_of act) (rules_map_within t act before.arena) r.stops.reaches.walks in
     let frame : IsFramed m before.outside after.outside = walked_frame {m = m} r.stops.reaches.walks in
-    record { count = omega (arith, ap (λ (s : MappedShown). s.count) stops.same, frame.mapped); bytes = omega (arith, ap (λ (s : MappedShown). s.bytes) stops.same, frame.mapped) }
+    record { count = (short_mapped frame.mapped stops).most; bytes = stops.bytes }
 
 -- a chunk that is given back
 pub account_given : {P H D K : Type 0} (ways : PlaceWays P H D) (m : Means H K) {t : Tunables} {who : Who} {k k' : KeptArena} {port left : H} {space later : Space K} (b : Block) →
@@ -351,7 +369,7 @@ pub account_given : {P H D K : Type 0} (ways : PlaceWays P H D) (m : Means H K) 
 account_given ways m {t = t} {k = k} {k' = k'} {port = port} {left = left} {space = space} {later = later} b shows arena r exact =
     let n : ℕ = k.arena.number in
     let ends : EndsCounted ways.shown 0 (beside_arena port None space) (beside_arena left None later) (record { found = growth.Nowhere; arena = k'.arena }) =
-    walked_to_end m n ways.shown shows 0 (rules_map_once t (acts.Give b.addr b.size) k.arena) r.walks.walks in
+    walked_to_end m n ways.shown shows 0 (rules_map_within t (acts.Give b.addr b.size) k.arena) r.walks.walks in
     let same = ends.none (λ d is. absurd cc) in
     record {
       chunks = λ e. covers_any exact _ _ (omega (arith, r.balances.kept e, chunk_is n e b arena));
@@ -365,7 +383,7 @@ pub noted_given : {P H D K : Type 0} (ways : PlaceWays P H D) (m : Means H K) {t
     IsNoted ways before.outside.port left before.outside.space.mapped later.mapped
 noted_given ways m {t = t} {at = at} {size = size} {before = before} {arena = arena} {left = left} {now = now} {later = later} shows r =
     let ends : EndsCounted ways.shown 0 before.outside (beside_arena left now later) (record { found = growth.Nowhere; arena = arena }) =
-    walked_to_end m before.arena.number ways.shown shows 0 (rules_map_once t (acts.Give at size) before.arena) r.walks.walks in
+    walked_to_end m before.arena.number ways.shown shows 0 (rules_map_within t (acts.Give at size) before.arena) r.walks.walks in
     let frame : IsFramed m before.outside (beside_arena left now later) = walked_frame {m = m} r.walks.walks in
     record { count = omega (arith, ap (λ (s : MappedShown). s.count) (ends.none (λ d is. absurd cc)), frame.mapped); bytes = ends.bytes }
 
@@ -375,13 +393,15 @@ pub account_given_short : {P H D K : Type 0} (ways : PlaceWays P H D) (m : Means
     IsAccounted ways m.fast k.arena.number false (λ weigh. weigh b) port k (λ weigh. 0) left k'
 account_given_short ways m {t = t} {k = k} {port = port} {left = left} {space = space} {later = later} b shows arena r =
     let n : ℕ = k.arena.number in
-    let stops : StopsCounted ways.shown (beside_arena port None space) (beside_arena left None later) =
-    walked_short m n ways.shown shows 0 (rules_map_once t (acts.Give b.addr b.size) k.arena) r.stops.reaches.walks in
+    let stops : StopsCounted ways.shown 0 (beside_arena port None space) (beside_arena left None later) =
+    walked_short m n ways.shown shows 0 (rules_map_within t (acts.Give b.addr b.size) k.arena) r.stops.reaches.walks in
+    let frame : IsFramed m (beside_arena port None space) (beside_arena left None later) = walked_frame {m = m} r.stops.reaches.walks in
+    let short : IsShort ways.shown (beside_arena port None space) (beside_arena left None later) = short_mapped frame.mapped stops in
     record {
       chunks = λ e. omega (arith, r.loses.kept e, chunk_is n e b arena);
       others = λ x e other. omega arith;
-      count = omega (arith, ap (λ (s : MappedShown). s.count) stops.same);
-      bytes = omega (arith, ap (λ (s : MappedShown). s.bytes) stops.same);
+      count = omega (arith, short.count);
+      bytes = omega (arith, short.bytes);
     }
 
 -- nothing changed
@@ -425,7 +445,7 @@ held_found {k = k} {k' = k'} {cache = cache} shown (finds.InArena c) shows fits 
     record { chunk = tile.size; mapped = λ e. absurd cc }
 held_found {m = m} {t = t} {nb = nb} {k = k} {k' = k'} {port = port} {left = left} {cache = cache} {now = now} {space = space} {later = later} shown (finds.InMapping c) shows fits r =
     let ends : EndsCounted shown nb (beside_arena port cache space) (beside_arena left now later) (record { found = growth.InMapping c; arena = k'.arena }) =
-    walked_to_end m k.arena.number shown shows nb (rules_map_once t (acts.Take nb) k.arena) r.walks.walks in
+    walked_to_end m k.arena.number shown shows nb (rules_map_within t (acts.Take nb) k.arena) r.walks.walks in
     let one = ends.one c refl in
     let size : IsChunkSize c.size = (omega (arith, one.length), omega (arith, one.length)) in
     record {

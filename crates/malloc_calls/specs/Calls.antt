@@ -20,9 +20,9 @@ use Rattle.malloc_calls.specs.declared.reply.Origin.TheVariants as origins
 use Rattle.malloc_calls.specs.declared.reply.To.TheVariants as sinks
 use Rattle.malloc_calls.specs.declared.reply.Why.TheVariants.{Big, Refused}
 
--- What a call does: it ends; an arena is held for an act, with the caller's cache, and the call goes on by the place of
--- the hold's entry in the arena's journal, how it ended, and the cache then; a block is pushed into a fast bin of its
--- arena; a mapped chunk is freed.
+-- What a call does: it ends; an arena is held for an act, with the caller's cache (`rules_of` of arena_core `Replay`
+-- has the rules of an act), and the call goes on by the place of the hold's entry in the arena's journal, how it ended,
+-- and the cache then; a block is pushed into a fast bin of its arena; a mapped chunk is freed.
 pub data Call (A : Type 0) : Type 0 where
   Done : A → Call A
   Holds : ℕ → Act → CacheValue → (ℕ → Ended → CacheValue → Call A) → Call A

@@ -1,4 +1,6 @@
-//! The calls of a thread: which of its blocks, caches and arenas answer them.
+//! The calls of a thread: which of its blocks, caches and arenas answer them. `Thread::malloc` and `free` go through
+//! their trees (`Calls`) over any `Places`; `Serial` has those of one order of calls. Their main promise is the clause
+//! `does`.
 #![tactic(auto)]
 
 mod both;

@@ -1,6 +1,6 @@
 -- Chunks in mappings of their own: glibc 2.31 malloc/malloc.c, sysmalloc where it maps, mremap_chunk, munmap_chunk, and
 -- __libc_free where it raises the thresholds.
-use Rattle.std.specs.Prelude.{◌≡◌, ◌≢◌, ℕ, ◌+◌, ◌-◌, ◌%◌, ◌^◌, ◌<◌, ◌≤◌, Bool, true, false, ◌&&◌, nat_lt, nat_le, List, [], ◌∷◌, Option, Some, None, IfSome, IfNone, OnSome, Result, Ok, Err, IfOk, IfErr, OnOk, option_map, if◌then◌else◌}
+use Rattle.std.specs.Prelude.{◌≡◌, ◌≢◌, ℕ, ◌+◌, ◌-◌, ◌%◌, ◌<◌, ◌≤◌, Bool, true, false, ◌&&◌, nat_lt, nat_le, List, [], ◌∷◌, Option, Some, None, IfSome, IfNone, OnSome, Result, Ok, Err, IfOk, IfErr, OnOk, option_map, if◌then◌else◌}
 use Rattle.chunk_tags.specs.Dials.{Dial, MmapThreshold}
 use Rattle.chunk_tags.specs.Pages.{mapping_length}
 use Rattle.chunk_tags.specs.Sizes.{IsChunkSize}
@@ -9,7 +9,7 @@ use Rattle.address_space.specs.declared.asks.Back.{Back}
 use Rattle.address_space.specs.declared.asks.Back.TheVariants as backs
 use Rattle.address_space.specs.declared.space.Space.{Space}
 use Rattle.address_space.specs.Ports.{Port}
-use Rattle.address_space.specs.Spaces.{MapsWithin, RemapsWithin, GivesWithin, LengthChange, length_change}
+use Rattle.address_space.specs.Spaces.{map_limit, MapsWithin, RemapsWithin, GivesWithin, LengthChange, length_change}
 use Rattle.mapped_chunks.specs.DialPorts.{DialStep, Reads, Raises, Maps, Unmaps, Remaps, Dialled}
 
 -- the chunk that fills a mapping
@@ -23,15 +23,15 @@ mapping_start b = b.addr - b.lead
 abbrev pub mapping_bytes : Block → ℕ
 mapping_bytes b = b.lead + b.size
 
--- a chunk in a mapping: it belongs to no arena, it begins at a multiple of 16, and its mapping with a page and lies in
--- 64 bits
+-- a chunk in a mapping: it belongs to no arena, it begins at a multiple of 16, and its mapping with a page and ends before
+-- the end of the windows for mappings
 pub record IsMapped (b : Block) : Type 0 where
   pub arena : b.arena ≡ None
   pub size : IsChunkSize b.size
   pub lead : b.lead ≤ b.addr
   pub place : b.addr % 16 ≡ 0
   pub page : mapping_start b % 4096 ≡ 0
-  pub fits : b.addr + b.size < 2 ^ 64
+  pub fits : b.addr + b.size ≤ map_limit
 
 -- A mapping that was asked for: where it is granted, a chunk fills it, and it is counted.
 pub record MapsChunk {K P : Type 0} (port : Port K) (dials : Dialled P) (old : Space K × P) (len : ℕ) (block : Option Block) (new : Space K × P) : Type 0 where
@@ -70,7 +70,7 @@ pub record RemapsChunk {K P : Type 0} (port : Port K) (dials : Dialled P) (old :
   pub same : len ≡ mapping_bytes b → (block ≡ Ok b) × (new ≡ old)
   pub other : len ≢ mapping_bytes b → ChangesLength port dials old b len block new
 
--- what is read of the words and no new length of a mapping changes, as the thresholds
+-- a word that no new length of a mapping changes, as a threshold
 pub record IsFixed {P : Type 0} (dials : Dialled P) (word : P → ℕ) : Type 0 where
   pub stays : (p q : P) (old_len new_len : ℕ) → dials.step p (Remaps old_len new_len) q → word q ≡ word p
 

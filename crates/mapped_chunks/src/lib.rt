@@ -1,4 +1,5 @@
 //! Chunks in mappings of their own, and the words beside the arenas: the thresholds, and the count of mapped chunks.
+//! `map`, `remap`, `unmap` and `unmap_freed` ask or give back, and count at once (`Mappings`).
 #![tactic(auto)]
 
 mod mapping;

@@ -1,6 +1,6 @@
 //! Chunks in mappings of their own.
 
-ghost use Rattle.std.specs.Prelude.{◌≡◌, ◌≢◌, ℕ, ◌+◌, ◌%◌, ◌^◌, ◌<◌, ◌≤◌, false, IfSome, IfOk};
+ghost use Rattle.std.specs.Prelude.{◌≡◌, ◌≢◌, ℕ, ◌+◌, ◌%◌, ◌≤◌, false, IfSome, IfOk};
 ghost use Rattle.chunk_tags.specs.Pages.{mapping_length};
 ghost use Rattle.chunk_tags.specs.Sizes.{IsRequestSize};
 ghost use Rattle.address_space.specs.Spaces.{map_passes, remap_passes};
@@ -39,9 +39,9 @@ pub fn map<K: Kernel, D: Dials>(nb: Size, space: &mut Space<K>, dials: &mut D) -
     })
 }
 
-/// Asks for another length of a mapped chunk's mapping, so that the chunk has at least `nb` bytes, and counts it (glibc's
-/// `mremap_chunk`). Where the mapping has that length already, nothing is asked. `Err` hands the chunk back, exactly where
-/// the ask was refused.
+/// Asks for another length of a mapped chunk's mapping, so that the chunk has at least `nb` bytes and 8 more behind its
+/// lead, and counts the new bytes in place of the old ones (glibc's `mremap_chunk`). Where the mapping has that length
+/// already, nothing is asked. `Err` hands the chunk back as it was, exactly where the ask was refused.
 pub fn remap<K: Kernel, D: Dials>(
     b: Block,
     nb: Size,
@@ -50,7 +50,6 @@ pub fn remap<K: Kernel, D: Dials>(
 ) -> Result<Block, Block>
     requires size { IsRequestSize nb }
     requires mapped { IsMapped b }
-    requires fits { nb + b.lead + 8 + 4095 < 2 ^ 64 }
     requires counted { remap_length b nb ≢ mapping_bytes b
         → remap_passes space.old (mapping_change b (remap_length b nb)) ≡ false
         → D.dials.allows dials.old (Remaps (mapping_bytes b) (remap_length b nb)) }

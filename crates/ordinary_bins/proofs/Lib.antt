@@ -1,2 +1,1 @@
-pub mod BinLaws
 mod Search

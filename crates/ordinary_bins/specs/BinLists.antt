@@ -1,6 +1,6 @@
 -- The order of unsorted and of the small bins: glibc 2.31 malloc/malloc.c, the unsorted chunks and small bins of
 -- _int_malloc and _int_free. A chunk is put in front, and the last chunk is the oldest.
-use Rattle.std.specs.Prelude.{ℕ, Bool, not, nat_eq, List, Option, Some, None, map, drop, take, length}
+use Rattle.std.specs.Prelude.{ℕ, Bool, not, nat_eq, List, Option, Some, None, map, drop, length}
 use Rattle.std.specs.List.{position_from}
 use Rattle.bin_links.specs.Lists.{list_at, last_of, without}
 
@@ -10,13 +10,6 @@ unsorted_bin = 1
 
 abbrev pub unsorted_of : List (List ℕ) → List ℕ
 unsorted_of lists = list_at unsorted_bin lists
-
--- the small bins, 2 to 63, and the large ones, 64 to 126
-abbrev pub small_of : List (List ℕ) → List (List ℕ)
-small_of lists = take 62 (drop 2 lists)
-
-abbrev pub large_of : List (List ℕ) → List (List ℕ)
-large_of lists = drop 64 lists
 
 -- the oldest chunk of a bin
 abbrev pub oldest_in : ℕ → List (List ℕ) → Option ℕ

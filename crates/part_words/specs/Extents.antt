@@ -12,10 +12,6 @@ pub record Extent : Type 0 where
 abbrev pub index_of : ℕ → ℕ → ℕ
 index_of base at = (at - base) / 16
 
--- how many bytes of a part are open
-abbrev pub open_bytes : Extent → ℕ → ℕ
-open_bytes e part = 16 * slice_index e.words part
-
 -- there is a word for this address
 pub record IsOpen (e : Extent) (at : ℕ) : Type 0 where
   pub place : e.base + 16 * index_of e.base at ≡ at

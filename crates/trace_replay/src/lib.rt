@@ -1,5 +1,5 @@
 //! The top call: a trace's bytes in, the report's bytes out. A contract sees a run by its words, the bytes that its
-//! source tells, its ports and its answer; the one promise is `run`'s clause `told`: what is written, or how it is
+//! source tells, its ports and its answer; the main promise is `run`'s clause `told`: what is written, or how it is
 //! refused, is what the rules give (`verdict` of `SerialText`).
 #![tactic(auto)]
 

@@ -1,4 +1,4 @@
-use Rattle.std.proofs.Common.{◌≡◌, ◌+◌, ◌∙◌, ap}
+use Rattle.std.proofs.Common.{◌≡◌, ◌+◌, ◌∙◌, ap, arith}
 use Rattle.chunk_tags.specs.Pages.{page_up_of, mapping_length}
 use Rattle.chunk_tags.specs.declared.block.Block.{Block}
 use Rattle.arena_core.proofs.Enough.{enough_mapped}
@@ -26,4 +26,6 @@ returns-in-None-clause-asks g c =
     (mapping_refused _ c.args.nb _ _ _ _ maps.asked)
 
 pub returns-in-Some-clause-fits : goal.returns-in-Some-clause-fits
-returns-in-Some-clause-fits g c = enough_mapped c.args.nb _ (ap (λ (b : Block). b.size) c.in-Some.ensures.maps.chunk)
+returns-in-Some-clause-fits g c =
+    let is = c.in-Some.ensures.maps.chunk in
+    enough_mapped c.args.nb _ (ap (λ (b : Block). b.size) is) (omega (arith, c.in-Some.ensures.mapped.page, ap (λ (b : Block). b.lead) is)) (omega (arith, c.in-Some.ensures.mapped.fits))

@@ -9,11 +9,11 @@ use Rattle.arena_rules.specs.Growth.{Took, InMapping}
 use Rattle.arena_rules.specs.Mapped.{NeverMaps}
 
 -- what holds of every end of the rules
-abbrev pub EndsAs : {A : Type 0} → (A → Type 0) → Rules A → Type 0
-EndsAs P (Stop x) = P x
-EndsAs P Misfit = Unit {0}
-EndsAs P (Does d r) = EndsAs P r
-EndsAs P (Needs a n f) = (s : Said) → EndsAs P (f s)
+abbrev pub StopsAs : {A : Type 0} → (A → Type 0) → Rules A → Type 0
+StopsAs P (Stop x) = P x
+StopsAs P Misfit = Unit {0}
+StopsAs P (Does d r) = StopsAs P r
+StopsAs P (Needs a n f) = (s : Said) → StopsAs P (f s)
 
 -- what was found is a mapping, this one; or is none
 abbrev pub IsInMapping : Chunk → Took → Type 0
@@ -27,15 +27,15 @@ pub record GoesOnMapped (len : ℕ) (s : Said) (r : Rules Took) : Type 0 where
   pub rest : Rules Took
   pub is : r ≡ Does (Counts len) rest
   pub never : NeverMaps rest
-  pub ends : EndsAs (IsInMapping (record { at = place_told s; size = len })) rest
+  pub ends : StopsAs (IsInMapping (record { at = place_told s; size = len })) rest
 
--- Mappings are asked for that hold nb bytes; from a granted one on the hold goes on so, and there is no other end with a
--- mapping.
-abbrev pub MapsWithin : ℕ → Rules Took → Type 0
-MapsWithin nb (Stop x) = IsNotMapped x
-MapsWithin nb Misfit = Unit {0}
-MapsWithin nb (Does (Counts len) r) = ⊥
-MapsWithin nb (Does d r) = MapsWithin nb r
-MapsWithin nb (Needs a (Maps len) f) =
-    (len ≡ mapping_length nb) × ((s : Said) → (flag_of s ≡ true → GoesOnMapped len s (f s)) × (flag_of s ≡ false → MapsWithin nb (f s)))
-MapsWithin nb (Needs a n f) = (s : Said) → MapsWithin nb (f s)
+-- Mappings are asked for that hold nb bytes, again only where one was refused; from a granted one on the hold goes on
+-- so, and there is no other end with a mapping.
+abbrev pub KeepsMapping : ℕ → Rules Took → Type 0
+KeepsMapping nb (Stop x) = IsNotMapped x
+KeepsMapping nb Misfit = Unit {0}
+KeepsMapping nb (Does (Counts len) r) = ⊥
+KeepsMapping nb (Does d r) = KeepsMapping nb r
+KeepsMapping nb (Needs a (Maps len) f) =
+    (len ≡ mapping_length nb) × ((s : Said) → (flag_of s ≡ true → GoesOnMapped len s (f s)) × (flag_of s ≡ false → KeepsMapping nb (f s)))
+KeepsMapping nb (Needs a n f) = (s : Said) → KeepsMapping nb (f s)

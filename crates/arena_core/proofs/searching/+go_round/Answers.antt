@@ -1,7 +1,7 @@
 use Rattle.std.proofs.Common.{◌≡◌, ◌-◌, suc, true, false, arith, rules}
 use Rattle.chunk_tags.specs.Tunables.{serial_values}
 use Rattle.arena_core.proofs.Rounds.{round_short, round_found, round_last, look_ready, again_as, flag_short, flag_ready, flag_allows, round_unflagged, consolidate_short, consolidate_ready, empties_allow, round_again}
-use Rattle.arena_core.proofs.search.+go_round.Goals as goal
+use Rattle.arena_core.proofs.searching.+go_round.Goals as goal
 
 pub returns-in_err-c-clause-finds : goal.returns-in_err-c-clause-finds
 returns-in_err-c-clause-finds g t c = round_short _ c.args.t.now c.args.nb c.args.again _ _ _ _ c.in_err-c.field-0.0 c.from_residual.result c.from_residual.ensures.0 c.in_err-c.ensures.steps

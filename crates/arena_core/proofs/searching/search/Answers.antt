@@ -1,6 +1,6 @@
 use Rattle.chunk_tags.specs.Tunables.{serial_values}
 use Rattle.arena_core.proofs.Rounds.{search_short, search_found, search_goes, begin_ready, begin_allows}
-use Rattle.arena_core.proofs.search.search.Goals as goal
+use Rattle.arena_core.proofs.searching.search.Goals as goal
 
 pub returns-in_err-c-clause-finds : goal.returns-in_err-c-clause-finds
 returns-in_err-c-clause-finds g c = search_short _ c.args.t.now c.args.nb _ _ _ c.in_err-c.field-0.0 c.from_residual.result c.from_residual.ensures.0 c.in_err-c.ensures.steps

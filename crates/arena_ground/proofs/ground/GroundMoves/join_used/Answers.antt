@@ -1,0 +1,48 @@
+use Rattle.std.proofs.Common.{◌+◌, ap, ◌∙◌, arith}
+use Rattle.arena_rules.specs.Moves.{hand}
+use Rattle.arena_rules.specs.Resize.{joined_with}
+use Rattle.heap_top.proofs.TopLaws.{pair_below}
+use Rattle.arena_ground.specs.Grounds.{GroundView}
+use Rattle.arena_ground.proofs.Keeping.{held}
+use Rattle.arena_ground.proofs.Moving.{own_tile}
+use Rattle.arena_ground.proofs.Joining.{used_behind, join_used_done}
+use Rattle.arena_ground.proofs.ground.GroundMoves.join_used.Goals as goal
+
+pub fuse-requires-clause-tile : goal.fuse-requires-clause-tile
+fuse-requires-clause-tile c =
+    let g = held _ _ _ _ _ c.self.invariant c.self.view_is c.requires.sound in
+    own_tile _ _ _ _ c.args.c g (rw (← c.self.view_is) at c.requires.own)
+
+pub fuse-requires-clause-behind : goal.fuse-requires-clause-behind
+fuse-requires-clause-behind c =
+    let g = held _ _ _ _ _ c.self.invariant c.self.view_is c.requires.sound in
+    used_behind _ _ _ _ c.args.c c.args.d g (rw (← c.self.view_is) at c.requires.own) (rw (← c.self.view_is) at c.requires.next) c.requires.behind
+
+pub fuse-requires-clause-below : goal.fuse-requires-clause-below
+fuse-requires-clause-below c =
+    let g = held _ _ _ _ _ c.self.invariant c.self.view_is c.requires.sound in
+    pair_below _ _ _ _ c.self.invariant.placed (own_tile _ _ _ _ c.args.c g (rw (← c.self.view_is) at c.requires.own))
+    (used_behind _ _ _ _ c.args.c c.args.d g (rw (← c.self.view_is) at c.requires.own) (rw (← c.self.view_is) at c.requires.next) c.requires.behind)
+
+pub invariant_of-self : goal.invariant_of-self
+invariant_of-self c =
+    let g = held _ _ _ _ _ c.self.invariant c.self.view_is c.requires.sound in
+    rw c.fuse.ensures (join_used_done _ _ _ _ c.args.c c.args.d g (rw (← c.self.view_is) at c.requires.own) (rw (← c.self.view_is) at c.requires.next) c.requires.behind).kept
+
+pub overflow_add-size : goal.overflow_add-size
+overflow_add-size c =
+    let g = held _ _ _ _ _ c.self.invariant c.self.view_is c.requires.sound in
+    omega (
+      arith,
+      pair_below _ _ _ _ c.self.invariant.placed (own_tile _ _ _ _ c.args.c g (rw (← c.self.view_is) at c.requires.own))
+          (used_behind _ _ _ _ c.args.c c.args.d g (rw (← c.self.view_is) at c.requires.own) (rw (← c.self.view_is) at c.requires.next) c.requires.behind),
+      c.size.view_is,
+      c.more.view_is,
+    )
+
+pub returns : goal.returns
+returns c =
+    let g = held _ _ _ _ _ c.self.invariant c.self.view_is c.requires.sound in
+    let is = (join_used_done _ _ _ _ c.args.c c.args.d g (rw (← c.self.view_is) at c.requires.own) (rw (← c.self.view_is) at c.requires.next) c.requires.behind).is in
+    rw c.fuse.ensures (λ i. hand (record { at = c.args.c.at; size = c.size.view_is i + c.more.view_is i }) (is i))
+    ∙ ap (λ (v : GroundView). joined_with (hand c.args.c v.arena) c.args.d) c.self.view_is
