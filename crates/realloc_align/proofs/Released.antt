@@ -1,0 +1,69 @@
+-- What is left of a reshaped chunk is released.
+use Rattle.std.proofs.Common.{◌≡◌, ℕ, ◌+◌, ◌≤◌, Option, IsTrue, Result, Ok, Err, refl, sym, subst, ap, ◌∙◌, arith}
+use Rattle.std.specs.Prelude.{nat_eq}
+use Rattle.chunk_tags.specs.declared.refusals.NoMemory.{NoMemory}
+use Rattle.chunk_tags.specs.declared.tiles.Chunk.{Chunk}
+use Rattle.chunk_tags.specs.declared.tunables.Tunables.{Tunables}
+use Rattle.address_space.specs.Ports.{Rose}
+use Rattle.arena_rules.specs.PlainArena.{Plain, is_main, once_of}
+use Rattle.arena_rules.specs.Growth.{Took}
+use Rattle.arena_rules.specs.Rules.{Rules, Stop}
+use Rattle.arena_rules.proofs.Walks.{reaches_then, reaches_behind, short_then, short_behind}
+use Rattle.consolidate_trim.specs.Holds.{no_chunk, one_chunk, IsBacked}
+use Rattle.consolidate_trim.specs.Outside.{Means, Outside}
+use Rattle.arena_core.specs.declared.found.Found.{Found}
+use Rattle.arena_core.specs.declared.found.Found.TheVariants.{Nowhere}
+use Rattle.arena_core.specs.Asking.{IsReady, Closes, took, chunks_in}
+use Rattle.arena_core.specs.Ledgers.{Stage, full}
+use Rattle.arena_core.proofs.Balance.{balances_then, balances_as}
+use Rattle.arena_core.proofs.Parts.{renumbered, renumbered_short}
+use Rattle.arena_core.proofs.Refusals.{refusals_of, reached_refusals, rose_on}
+use Rattle.realloc_align.specs.declared.cutting.Reshaped.{Reshaped}
+use Rattle.realloc_align.specs.declared.resizing.Stranded.{Stranded}
+use Rattle.realloc_align.specs.Resizes.{Reshapes, Resizes, Spares, rest_released, chunks_kept, chunks_reshaped}
+use Rattle.realloc_align.proofs.Accounts.{backed_with, backed_less, spares_then}
+
+-- what stays to be done behind the release
+abbrev block_at : Found → Plain → Rules Took
+block_at found b = Stop (took b found)
+
+-- the rest is the arena's, and nobody else's
+pub rest_backed : {P K : Type 0} (m : Means P K) (t : Tunables) (c : Chunk) (nb : ℕ) (x y : Stage (Outside P K)) (r : Reshaped) → IsBacked m.fast x.arena x.outside.port (one_chunk c) → Reshapes m t c nb x (Ok r) y → IsBacked m.fast y.arena y.outside.port (chunks_in r.rest)
+rest_backed m t c nb x y r backed w =
+    let all = backed_with m.fast (full m) x y x.outside.port y.outside.port (one_chunk c) (chunks_reshaped c r) no_chunk (λ e. refl) (λ e. refl) (backed_less backed (λ e. omega arith)) w.comes.balances in
+    backed_less all (λ e. omega arith)
+
+pub rest_main : {P K : Type 0} (m : Means P K) (t : Tunables) (c : Chunk) (nb : ℕ) (x y : Stage (Outside P K)) (r : Reshaped) → IsTrue (is_main x.arena) → Reshapes m t c nb x (Ok r) y → IsTrue (is_main y.arena)
+rest_main m t c nb x y r main w = ap (λ n. nat_eq n 0) w.comes.balances.number ∙ main
+
+pub resizes_released : {P K : Type 0} (m : Means P K) (t : Tunables) (c : Chunk) (nb : ℕ) (x y z : Stage (Outside P K)) (r : Reshaped) → Reshapes m t c nb x (Ok r) y → Closes m t r.rest y (Ok tt) z → Resizes m t c nb x (Ok r.found) z
+resizes_released m t c nb x y z r w v =
+    let comes = w.comes in
+    record {
+      walk = record {
+        done = reaches_then comes.reaches (renumbered (full m) t (rest_released t r y.arena) (Stop (took z.arena r.found)) y.outside z.outside y.said z.said y.arena.number x.arena.number comes.balances.number (reaches_behind (block_at r.found) v.walk.done));
+        short = tt;
+      };
+      keeps = balances_as (balances_then comes.balances v.keeps) (λ e. omega arith);
+      spares = tt;
+    }
+
+pub resizes_stranded : {P K : Type 0} (m : Means P K) (t : Tunables) (c : Chunk) (nb : ℕ) (x y z : Stage (Outside P K)) (r : Reshaped) (d : NoMemory) (s : Stranded) → s.found ≡ r.found → Reshapes m t c nb x (Ok r) y → Closes m t r.rest y (Err d) z → Resizes m t c nb x (Err s) z
+resizes_stranded m t c nb x y z r d s is w v =
+    let comes = w.comes in
+    record {
+      walk = record {
+        done = tt;
+        short = short_then comes.reaches (renumbered_short (full m) t (rest_released t r y.arena) z.arena y.outside z.outside y.said z.said y.arena.number x.arena.number comes.balances.number (short_behind (block_at r.found) v.walk.short));
+      };
+      keeps = tt;
+      spares = spares_then comes.balances v.spares (λ e. omega (arith, ap (λ f. chunks_kept c f e) is));
+    }
+
+-- memory was short in the search
+pub resizes_short : {P K : Type 0} (m : Means P K) (t : Tunables) (c : Chunk) (nb : ℕ) (x y : Stage (Outside P K)) (d : NoMemory) (s : Stranded) → s.found ≡ Nowhere → Reshapes m t c nb x (Err d) y → Resizes m t c nb x (Err s) y
+resizes_short m t c nb x y d s is w = record { walk = record { done = tt; short = w.short }; keeps = tt; spares = subst (λ f. Spares (full m) x (one_chunk c) (chunks_kept c f) y) (sym is) w.spares }
+
+-- the count of refusals stands through the release
+pub rose_released : {P K : Type 0} (m : Means P K) (t : Tunables) (y z : Stage (Outside P K)) (before : ℕ) (rest : Option Chunk) → Closes m t rest y (Ok tt) z → Rose before (refusals_of m y.outside) → Rose before (refusals_of m z.outside)
+rose_released m t y z before rest v rose = rose_on before (refusals_of m y.outside) (refusals_of m z.outside) rose (reached_refusals v.walk.done)

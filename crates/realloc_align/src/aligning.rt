@@ -1,0 +1,173 @@
+//! A chunk is searched for whose user address is a multiple, and what is before and behind it is released.
+
+ghost use Rattle.std.specs.Prelude.{◌≡◌, ◌+◌, ◌-◌, ◌^◌, ◌<◌, ◌≤◌, IsTrue, IfOk, nat_lt};
+ghost use Rattle.chunk_tags.specs.Sizes.{IsRequestSize};
+ghost use Rattle.address_space.specs.Ports.{Rose};
+ghost use Rattle.address_space.specs.Spaces.{space_refusals};
+ghost use Rattle.arena_rules.specs.PlainArena.{is_main};
+ghost use Rattle.arena_rules.specs.Moves.{hand};
+ghost use Rattle.arena_rules.specs.Align.{IsAlignment, bytes_past, align_of, aligned_in, tail_cut, lead_of, size_with_lead};
+ghost use Rattle.consolidate_trim.specs.Holds.{IsBacked, one_chunk};
+ghost use Rattle.consolidate_trim.specs.Outside.{Apart, means};
+ghost use Rattle.arena_core.specs.Ledgers.{stage};
+ghost use Rattle.arena_core.specs.Asking.{IsSearchable, IsReady, AllowsMaps, Finds, beside_arena};
+ghost use Rattle.arena_core.specs.Steps.{IsEnough};
+ghost use Rattle.realloc_align.specs.Aligns.{AlignsChunk, FitsAt, FitsAligned};
+
+use crate::cutting::{MIN_CHUNK, front_of};
+use address_space::{Kernel, Space};
+use arena_core::{Found, search};
+use arena_rules::{Moves, Said};
+use chunk_tags::{Addr, Chunk, NoMemory, Size, Tunables, request_size};
+use consolidate_trim::release;
+use fast_bins::FastPort;
+use mapped_chunks::Dials;
+use thread_cache::Cache;
+
+/// A chunk's user address is so many bytes behind its address.
+const HEADER: u64 = 16;
+
+/// The size of a chunk which has an aligned part of `nb` bytes wherever it lies, and a smallest chunk behind it.
+fn size_with_lead(align: u64, nb: Size) -> Size
+    requires { nb + align + 32 ≤ 2 ^ 63 - 1 }
+    ensures { result ≡ size_with_lead align nb }
+{
+    request_size(nb.0 + align + MIN_CHUNK).unwrap()
+}
+
+/// How far a chunk's user address is past a multiple.
+#[tactic(auto, using(crate::proofs::Addresses::past_is))]
+fn bytes_past(align: u64, at: Addr) -> u64
+    requires some { 0 < align }
+    requires most { align < 2 ^ 63 }
+    ensures { result ≡ bytes_past align at }
+{
+    (at.0 % align + HEADER) % align
+}
+
+/// How far behind a chunk's address the aligned one begins: none, or a smallest chunk at least.
+pub fn lead_of(align: u64, at: Addr) -> u64
+    requires align { IsAlignment align }
+    requires most { align < 2 ^ 63 }
+    ensures { result ≡ lead_of align at }
+{
+    let past = bytes_past(align, at);
+    if past == 0 {
+        return 0;
+    }
+    let lead = align - past;
+    if lead < MIN_CHUNK { lead + align } else { lead }
+}
+
+/// Whether a chunk has more than `nb` bytes and a smallest chunk.
+fn has_tail(c: &Chunk, nb: Size) -> bool
+    requires { IsRequestSize nb }
+    ensures { result ≡ nat_lt (nb + 32) c.now.size }
+{
+    nb.0 + MIN_CHUNK < c.size.0
+}
+
+/// Cuts a tail off, and releases it, where a chunk has more than `nb` bytes and a smallest chunk.
+fn cut_tail<M: Moves, K: Kernel, P: FastPort + Dials>(
+    g: &mut M,
+    c: &Chunk,
+    nb: Size,
+    cache: &mut Cache,
+    port: &mut P,
+    space: &mut Space<K>,
+    t: &Tunables,
+    said: &mut Vec<Said>,
+) -> Result<Chunk, NoMemory>
+    requires backed { IsBacked P.fast (M.plain g.old) port.old (one_chunk c.now) }
+    requires apart { Apart P.fast P.dials }
+    requires main { IsTrue (is_main (M.plain g.old)) }
+    requires fast { t.now.max_fast ≤ 160 }
+    requires size { IsRequestSize nb }
+    requires fits { nb ≤ c.now.size }
+    ensures aligns { AlignsChunk (means P.fast P.dials K.port) t.now
+        (tail_cut t.now nb (hand c.now (M.plain g.old))) c.now
+        (stage (M.plain g.old) (beside_arena port.old cache.old space.old) said.old.items)
+        result (stage (M.plain g.new) (beside_arena port.new cache.new space.new) said.new.items) }
+    ensures at { IfOk result (λ d. d.at ≡ c.now.at) }
+    ensures fits { IfOk result (λ d. IsEnough nb d.size) }
+{
+    if !has_tail(c, nb) {
+        return Ok(*c);
+    }
+    let tail = g.part(*c, nb);
+    release(g, tail, cache, port, space, t, said)?;
+    Ok(front_of(c, nb))
+}
+
+/// Keeps the aligned part of a used chunk, of `nb` bytes, and releases what is before and behind it.
+fn align_in<M: Moves, K: Kernel, P: FastPort + Dials>(
+    g: &mut M,
+    align: u64,
+    c: &Chunk,
+    nb: Size,
+    cache: &mut Cache,
+    port: &mut P,
+    space: &mut Space<K>,
+    t: &Tunables,
+    said: &mut Vec<Said>,
+) -> Result<Chunk, NoMemory>
+    requires backed { IsBacked P.fast (M.plain g.old) port.old (one_chunk c.now) }
+    requires apart { Apart P.fast P.dials }
+    requires main { IsTrue (is_main (M.plain g.old)) }
+    requires fast { t.now.max_fast ≤ 160 }
+    requires size { IsRequestSize nb }
+    requires align { IsAlignment align }
+    requires most { align < 2 ^ 63 }
+    requires fits { size_with_lead align nb ≤ c.now.size }
+    ensures aligns { AlignsChunk (means P.fast P.dials K.port) t.now
+        (aligned_in t.now align nb (hand c.now (M.plain g.old))) c.now
+        (stage (M.plain g.old) (beside_arena port.old cache.old space.old) said.old.items)
+        result (stage (M.plain g.new) (beside_arena port.new cache.new space.new) said.new.items) }
+    ensures fits { IfOk result (λ d. FitsAt align nb d.at d.size) }
+{
+    let lead = lead_of(align, c.at);
+    if lead == 0 {
+        return cut_tail(g, c, nb, cache, port, space, t, said);
+    }
+    let part = g.part(*c, Size(lead));
+    let before = front_of(c, Size(lead));
+    release(g, before, cache, port, space, t, said)?;
+    cut_tail(g, &part, nb, cache, port, space, t, said)
+}
+
+/// Searches an arena for a chunk of `nb` bytes whose user address is a multiple (glibc's `_int_memalign`). A mapping that is
+/// found stays whole. Nothing is found only where an ask was refused.
+pub fn align_in_arena<M: Moves, K: Kernel, P: FastPort + Dials>(
+    g: &mut M,
+    align: u64,
+    nb: Size,
+    cache: &mut Cache,
+    port: &mut P,
+    space: &mut Space<K>,
+    t: &Tunables,
+    said: &mut Vec<Said>,
+) -> Result<Found, NoMemory>
+    requires ready { IsReady (means P.fast P.dials K.port) t.now
+        (stage (M.plain g.old) (beside_arena port.old cache.old space.old) said.old.items) }
+    requires allows { AllowsMaps P.dials port.old space.old }
+    requires apart { Apart P.fast P.dials }
+    requires tuned { IsSearchable t.now }
+    requires size { IsRequestSize nb }
+    requires align { IsAlignment align }
+    requires most { nb + align + 32 ≤ 2 ^ 63 - 1 }
+    ensures finds { Finds (means P.fast P.dials K.port) t.now (align_of t.now align nb (M.plain g.old))
+        (stage (M.plain g.old) (beside_arena port.old cache.old space.old) said.old.items)
+        result (stage (M.plain g.new) (beside_arena port.new cache.new space.new) said.new.items) }
+    ensures fits { IfOk result (FitsAligned align nb) }
+    ensures refused { IfOk result (λ found. found ≡ Found.Nowhere
+        → Rose (space_refusals K.port space.old) (space_refusals K.port space.new)) }
+{
+    let padded = size_with_lead(align, nb);
+    match search(g, padded, cache, port, space, t, said)? {
+        Found::InArena(c) => Ok(Found::InArena(align_in(
+            g, align, &c, nb, cache, port, space, t, said,
+        )?)),
+        Found::InMapping(c) => Ok(Found::InMapping(c)),
+        Found::Nowhere => Ok(Found::Nowhere),
+    }
+}
