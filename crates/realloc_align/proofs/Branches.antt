@@ -1,6 +1,6 @@
 -- How a chunk is reshaped, branch by branch.
 use Rattle.std.proofs.Common.{◌≡◌, ℕ, ◌+◌, ◌-◌, ◌<◌, ◌≤◌, Bool, true, false, List, Option, Some, None, IsTrue, Result, Ok, Err, refl, sym, ap, ◌∙◌, subst, arith}
-use Rattle.std.specs.Prelude.{nat_le}
+use Rattle.std.specs.Prelude.{cond, nat_le, nat_lt}
 use Rattle.std.specs.Result.{IsErr}
 use Rattle.std.proofs.lemmas.Bool.{cond-true, cond-false, le-leb, lt-leb}
 use Rattle.chunk_tags.specs.BinOrder.{once}
@@ -13,7 +13,7 @@ use Rattle.arena_rules.specs.Moves.{Hand, hand, joined_behind}
 use Rattle.arena_rules.specs.Rules.{Rules, Stop, behind}
 use Rattle.arena_rules.specs.Growth.{Took}
 use Rattle.arena_rules.specs.Search.{searched}
-use Rattle.arena_rules.specs.Resize.{cut_to, took_in, front_of, fits_with_top, fits_with_free, grown_into_top, resize_with, resize_by_search, resize_of}
+use Rattle.arena_rules.specs.Resize.{cut_to, took_in, front_of, back_of, is_next_to, fits_with_top, fits_with_free, grown_into_top, resize_with, resize_by_search, resize_of}
 use Rattle.arena_rules.proofs.Beside.{beside_joined_behind}
 use Rattle.arena_rules.proofs.ChunkMoves.{own_count, joined_behind_moved, IsJoinedBehind}
 use Rattle.arena_rules.proofs.Resizes.{grown_into_top_moved, beside_grown_into_top, free_behind_fits}
@@ -29,7 +29,7 @@ use Rattle.arena_core.specs.Asking.{Finds, took, chunks_found}
 use Rattle.arena_core.specs.Ledgers.{Stage, stage, Balances, full}
 use Rattle.arena_core.proofs.Balance.{balances_then, balances_as}
 use Rattle.realloc_align.specs.declared.cutting.Reshaped.{Reshaped}
-use Rattle.realloc_align.specs.Resizes.{Comes, Spares, Reshapes, cut_of, arena_cut, placed_of, arena_placed, rest_released, chunks_reshaped}
+use Rattle.realloc_align.specs.Resizes.{Comes, Spares, Reshapes, whole_of, cut_of, arena_cut, placed_of, arena_placed, rest_released, chunks_reshaped}
 use Rattle.realloc_align.proofs.Accounts.{balances_move, balances_still, backed_with, backed_less, spares_then, comes_as, comes_then, comes_behind}
 use Rattle.realloc_align.proofs.Cuts.{IsUsed, used_in, cut_rules, cut_balances, cut_kept, placed_rules, placed_balances}
 
@@ -52,12 +52,27 @@ search_rules t a c nb lt short none =
 -- ---- without a search
 
 -- what comes of a reshaping that was made at once
-made_at_once : {P K : Type 0} {m : Means P K} {t : Tunables} {c : Chunk} {nb : ℕ} {x : Stage (Outside P K)} {r : Reshaped} {b : Plain} → resize_of t x.arena c nb ≡ rest_released t r b → Balances (full m) x (one_chunk c) (chunks_reshaped c r) (stage b x.outside x.said) → Reshapes m t c nb x (Ok r) (stage b x.outside x.said)
-made_at_once e balances = record { comes = comes_as e balances; short = tt; spares = tt }
+made_at_once : {P K : Type 0} {m : Means P K} {t : Tunables} {c : Chunk} {nb : ℕ} {x : Stage (Outside P K)} {r : Reshaped} {b : Plain} → ((d : Chunk) → r.found ≡ InMapping d → ⊥) → resize_of t x.arena c nb ≡ rest_released t r b → Balances (full m) x (one_chunk c) (chunks_reshaped c r) (stage b x.outside x.said) → Reshapes m t c nb x (Ok r) (stage b x.outside x.said)
+made_at_once none e balances = record { comes = comes_as e balances; mapped = λ d is. absurd (none d is); short = tt; spares = tt }
+
+-- a chunk that is cut is in the arena
+in_arena_either : (x : Bool) (c d e : Chunk) (r q : Option Chunk) → let cut : Reshaped = cond x (record { found = InArena c; rest = r }) (record { found = InArena d; rest = q }) in cut.found ≡ InMapping e → ⊥
+in_arena_either true c d e r q is = absurd cc
+in_arena_either false c d e r q is = absurd cc
+
+cut_in_arena : (c : Chunk) (nb : ℕ) (e : Chunk) → (cut_of c nb).found ≡ InMapping e → ⊥
+cut_in_arena c nb e is = in_arena_either (nat_lt (c.size - nb) 32) c (front_of c nb) e None (Some (back_of c nb)) is
+
+placed_either : (x : Bool) (cut : Reshaped) (d e : Chunk) (q : Option Chunk) → (cut.found ≡ InMapping e → ⊥) → let placed : Reshaped = cond x cut (record { found = InArena d; rest = q }) in placed.found ≡ InMapping e → ⊥
+placed_either true cut d e q none is = none is
+placed_either false cut d e q none is = absurd cc
+
+placed_in_arena : (c d : Chunk) (nb : ℕ) (e : Chunk) → (placed_of c d nb).found ≡ InMapping e → ⊥
+placed_in_arena c d nb e is = placed_either (is_next_to c d) (cut_of (whole_of c d) nb) d e (Some c) (cut_in_arena (whole_of c d) nb e) is
 
 pub reshapes_cut : {P K : Type 0} (m : Means P K) (t : Tunables) (c : Chunk) (nb : ℕ) (x : Stage (Outside P K)) → IsSound x.arena → IsTrue (is_own x.arena c) → IsChunkSize nb → nb ≤ c.size → Reshapes m t c nb x (Ok (cut_of c nb)) (stage (arena_cut x.arena c nb) x.outside x.said)
 reshapes_cut m t c nb x s own chunk le =
-    made_at_once (kept_rules t x.arena c nb le ∙ cut_rules t x.arena c nb) (cut_balances (full m) x c nb s (own_count x.arena c own) chunk le)
+    made_at_once (cut_in_arena c nb) (kept_rules t x.arena c nb le ∙ cut_rules t x.arena c nb) (cut_balances (full m) x c nb s (own_count x.arena c own) chunk le)
 
 abbrev whole_block : Chunk → Reshaped
 whole_block c = record { found = InArena c; rest = None }
@@ -66,7 +81,7 @@ pub reshapes_top : {P K : Type 0} (m : Means P K) (t : Tunables) (c : Chunk) (nb
     Reshapes m t c nb x (Ok (whole_block (front_of c nb))) (stage (grown_into_top x.arena c nb) x.outside x.said)
 reshapes_top m t c nb x s own chunk lt is =
     let moved = balances_move (full m) x (grown_into_top x.arena c nb) (one_chunk c) (one_chunk (front_of c nb)) (grown_into_top_moved x.arena c nb s own is chunk) (beside_grown_into_top x.arena c nb) in
-    made_at_once (top_rules t x.arena c nb lt is) (balances_as moved (λ e. omega arith))
+    made_at_once (λ d is. absurd cc) (top_rules t x.arena c nb lt is) (balances_as moved (λ e. omega arith))
 
 pub reshapes_free : {P K : Type 0} (m : Means P K) (t : Tunables) (c : Chunk) (nb : ℕ) (x : Stage (Outside P K)) (h : Hand) → h ≡ joined_behind (hand c x.arena) → IsSound x.arena → IsTrue (is_own x.arena c) → IsChunkSize nb → c.size < nb → fits_with_top x.arena c nb ≡ false → fits_with_free x.arena c nb ≡ true →
     Reshapes m t c nb x (Ok (cut_of h.chunk nb)) (stage (arena_cut h.arena h.chunk nb) x.outside x.said)
@@ -76,7 +91,7 @@ reshapes_free m t c nb x h is s own chunk lt short free =
     let beside = ap (λ (k : Hand). beside k.arena) is ∙ beside_joined_behind (hand c x.arena) in
     let moved = balances_move (full m) x h.arena (one_chunk c) (one_chunk h.chunk) j.joined.moved beside in
     let cut = cut_balances (full m) (stage h.arena x.outside x.said) h.chunk nb j.joined.moved.sound j.joined.own chunk fits in
-    made_at_once (free_rules t x.arena c nb lt short free ∙ (ap (cut_to t nb) (sym is) ∙ cut_rules t h.arena h.chunk nb))
+    made_at_once (cut_in_arena h.chunk nb) (free_rules t x.arena c nb lt short free ∙ (ap (cut_to t nb) (sym is) ∙ cut_rules t h.arena h.chunk nb))
     (balances_as (balances_then moved cut) (λ e. omega (arith, cut_kept c h.chunk nb e)))
 
 -- ---- with a search
@@ -108,23 +123,29 @@ reshapes_found m t c d nb x y rules backed chunk le w =
     let both = found_used m t c d nb x y backed w in
     let comes = found_comes m t c nb x y (InArena d) rules w in
     let next = comes_as (placed_rules t y.arena c d nb) (placed_balances (full m) y c d nb both.0.sound both.0.used both.1.used chunk le) in
-    record { comes = comes_then comes next; short = tt; spares = tt }
+    record { comes = comes_then comes next; mapped = λ e is. absurd (placed_in_arena c d nb e is); short = tt; spares = tt }
 
 pub reshapes_mapped : {P K : Type 0} (m : Means P K) (t : Tunables) (c d : Chunk) (nb : ℕ) (x y : Stage (Outside P K)) → let ok : Result Found NoMemory = Ok (InMapping d) in
     resize_of t x.arena c nb ≡ resize_by_search t x.arena c nb → Finds m t (searched t nb x.arena) x ok y → Reshapes m t c nb x (Ok (record { found = InMapping d; rest = Some c })) y
-reshapes_mapped m t c d nb x y rules w = record { comes = found_comes m t c nb x y (InMapping d) rules w; short = tt; spares = tt }
+reshapes_mapped m t c d nb x y rules w = record {
+  comes = found_comes m t c nb x y (InMapping d) rules w;
+  mapped = λ e is. (refl, subst (λ f. Reaches t ((full m).ways x.arena.number) (searched t nb x.arena) x.outside x.said (Stop (took y.arena f)) y.said y.outside) is w.walk.done);
+  short = tt;
+  spares = tt;
+}
 
 pub reshapes_nowhere : {P K : Type 0} (m : Means P K) (t : Tunables) (c : Chunk) (nb : ℕ) (x y : Stage (Outside P K)) → let ok : Result Found NoMemory = Ok Nowhere in
     resize_of t x.arena c nb ≡ resize_by_search t x.arena c nb → Finds m t (searched t nb x.arena) x ok y → Reshapes m t c nb x (Ok (record { found = Nowhere; rest = None })) y
 reshapes_nowhere m t c nb x y rules w =
     let p = found_comes m t c nb x y Nowhere rules w in
-    record { comes = record { reaches = p.reaches; balances = balances_as p.balances (λ e. omega arith) }; short = tt; spares = tt }
+    record { comes = record { reaches = p.reaches; balances = balances_as p.balances (λ e. omega arith) }; mapped = λ e is. absurd cc; short = tt; spares = tt }
 
 pub reshapes_short : {P K : Type 0} (m : Means P K) (t : Tunables) (c : Chunk) (nb : ℕ) (x y : Stage (Outside P K)) (d : NoMemory) (r : Result Reshaped NoMemory) → let err : Result Found NoMemory = Err d in
     IsErr r → IsSound x.arena → resize_of t x.arena c nb ≡ resize_by_search t x.arena c nb → Finds m t (searched t nb x.arena) x err y → Reshapes m t c nb x r y
 reshapes_short m t c nb x y d (Ok v) is s rules w = absurd cc
 reshapes_short m t c nb x y d (Err v) is s rules w = record {
   comes = tt;
+  mapped = tt;
   short = subst (λ r. StopsShort t ((full m).ways x.arena.number) r x.outside x.said y.arena y.said y.outside) (sym rules) (short_behind (resize_with t c nb) w.walk.short);
   spares = spares_then (balances_still (full m) x (one_chunk c) s) w.spares (λ e. omega arith);
 }

@@ -6,13 +6,14 @@ use Rattle.chunk_tags.specs.declared.tiles.Chunk.{Chunk}
 use Rattle.chunk_tags.specs.declared.tunables.Tunables.{Tunables}
 use Rattle.address_space.specs.Ports.{Rose}
 use Rattle.arena_rules.specs.PlainArena.{Plain, is_main, once_of}
-use Rattle.arena_rules.specs.Growth.{Took}
+use Rattle.arena_rules.specs.Growth.{Took, closing}
+use Rattle.arena_rules.specs.Walks.{StopsShort}
 use Rattle.arena_rules.specs.Rules.{Rules, Stop}
 use Rattle.arena_rules.proofs.Walks.{reaches_then, reaches_behind, short_then, short_behind}
 use Rattle.consolidate_trim.specs.Holds.{no_chunk, one_chunk, IsBacked}
 use Rattle.consolidate_trim.specs.Outside.{Means, Outside}
 use Rattle.arena_core.specs.declared.found.Found.{Found}
-use Rattle.arena_core.specs.declared.found.Found.TheVariants.{Nowhere}
+use Rattle.arena_core.specs.declared.found.Found.TheVariants.{InMapping, Nowhere}
 use Rattle.arena_core.specs.Asking.{IsReady, Closes, took, chunks_in}
 use Rattle.arena_core.specs.Ledgers.{Stage, full}
 use Rattle.arena_core.proofs.Balance.{balances_then, balances_as}
@@ -20,7 +21,7 @@ use Rattle.arena_core.proofs.Parts.{renumbered, renumbered_short}
 use Rattle.arena_core.proofs.Refusals.{refusals_of, reached_refusals, rose_on}
 use Rattle.realloc_align.specs.declared.cutting.Reshaped.{Reshaped}
 use Rattle.realloc_align.specs.declared.resizing.Stranded.{Stranded}
-use Rattle.realloc_align.specs.Resizes.{Reshapes, Resizes, Spares, rest_released, chunks_kept, chunks_reshaped}
+use Rattle.realloc_align.specs.Resizes.{Reshapes, Resizes, Spares, StopsInMapping, rest_released, chunks_kept, chunks_reshaped}
 use Rattle.realloc_align.proofs.Accounts.{backed_with, backed_less, spares_then}
 
 -- what stays to be done behind the release
@@ -46,6 +47,18 @@ resizes_released m t c nb x y z r w v =
       };
       keeps = balances_as (balances_then comes.balances v.keeps) (λ e. omega arith);
       spares = tt;
+      mapped = tt;
+    }
+
+-- where the block is in a mapping
+stops_in_mapping : {P K : Type 0} (m : Means P K) (t : Tunables) (c : Chunk) (nb : ℕ) (x y z : Stage (Outside P K)) (r : Reshaped) (d : NoMemory) (e : Chunk) → r.found ≡ InMapping e → Reshapes m t c nb x (Ok r) y → Closes m t r.rest y (Err d) z → StopsInMapping m t c nb x e z
+stops_in_mapping m t c nb x y z r d e is w v =
+    let finds = w.mapped e is in
+    let short = renumbered_short (full m) t (closing t r.rest y.arena) z.arena y.outside z.outside y.said z.said y.arena.number x.arena.number w.comes.balances.number v.walk.short in
+    record {
+      between = y;
+      finds = finds.1;
+      release = subst (λ o. StopsShort t ((full m).ways x.arena.number) (closing t o y.arena) y.outside y.said z.arena z.said z.outside) finds.0 short;
     }
 
 pub resizes_stranded : {P K : Type 0} (m : Means P K) (t : Tunables) (c : Chunk) (nb : ℕ) (x y z : Stage (Outside P K)) (r : Reshaped) (d : NoMemory) (s : Stranded) → s.found ≡ r.found → Reshapes m t c nb x (Ok r) y → Closes m t r.rest y (Err d) z → Resizes m t c nb x (Err s) z
@@ -58,11 +71,17 @@ resizes_stranded m t c nb x y z r d s is w v =
       };
       keeps = tt;
       spares = spares_then comes.balances v.spares (λ e. omega (arith, ap (λ f. chunks_kept c f e) is));
+      mapped = λ e mapping. stops_in_mapping m t c nb x y z r d e (sym is ∙ mapping) w v;
     }
 
 -- memory was short in the search
 pub resizes_short : {P K : Type 0} (m : Means P K) (t : Tunables) (c : Chunk) (nb : ℕ) (x y : Stage (Outside P K)) (d : NoMemory) (s : Stranded) → s.found ≡ Nowhere → Reshapes m t c nb x (Err d) y → Resizes m t c nb x (Err s) y
-resizes_short m t c nb x y d s is w = record { walk = record { done = tt; short = w.short }; keeps = tt; spares = subst (λ f. Spares (full m) x (one_chunk c) (chunks_kept c f) y) (sym is) w.spares }
+resizes_short m t c nb x y d s is w = record {
+  walk = record { done = tt; short = w.short };
+  keeps = tt;
+  spares = subst (λ f. Spares (full m) x (one_chunk c) (chunks_kept c f) y) (sym is) w.spares;
+  mapped = λ e mapping. absurd (cc (sym is ∙ mapping));
+}
 
 -- the count of refusals stands through the release
 pub rose_released : {P K : Type 0} (m : Means P K) (t : Tunables) (y z : Stage (Outside P K)) (before : ℕ) (rest : Option Chunk) → Closes m t rest y (Ok tt) z → Rose before (refusals_of m y.outside) → Rose before (refusals_of m z.outside)

@@ -1,6 +1,7 @@
 -- What is recorded of a resize and of a search for an aligned chunk, and what they give (this project's own).
 use Rattle.std.specs.Prelude.{◌≡◌, ℕ, ◌++◌, List, [], ◌∷◌, Option, Some, None, ◌⊎◌, if◌then◌else◌}
 use Rattle.chunk_tags.specs.declared.block.Block.{Block}
+use Rattle.chunk_tags.specs.declared.tiles.Chunk.{Chunk}
 use Rattle.chunk_tags.specs.declared.tunables.Tunables.{Tunables}
 use Rattle.arena_rules.specs.declared.said.Said.{Said}
 use Rattle.arena_rules.specs.Align as aligns
@@ -24,7 +25,7 @@ use Rattle.arena_core.specs.Steps.{IsEnough}
 use Rattle.realloc_align.specs.declared.to_size.Resized.{Resized}
 use Rattle.realloc_align.specs.declared.to_size.Resized.TheVariants.{Kept, Moved, Refused}
 use Rattle.realloc_align.specs.Aligns.{FitsAt}
-use Rattle.realloc_align.specs.Resizes.{Spares, chunks_kept}
+use Rattle.realloc_align.specs.Resizes.{Spares, StopsInMapping, chunks_kept}
 
 -- where a block is whose resize found this, in the arena with this number: as it was where nothing was found
 abbrev pub block_found : ℕ → Block → Found → Block
@@ -46,7 +47,7 @@ pub record ResizesBlock {P K : Type 0} (m : Means P K) (t : Tunables) (who : Who
   pub records : Records m t who (acts.Resize b.addr b.size nb) before (one_chunk (chunk_at b.addr b.size)) found after
 
 -- Memory was short behind the entry: it says so, the arena is what the rules have before the next answer, and the block that
--- comes back is a used chunk of it, or a mapping.
+-- comes back is a used chunk of it, or a mapping that a search found.
 pub record ResizesShort {P K : Type 0} (m : Means P K) (t : Tunables) (who : Who) (b : Block) (nb : ℕ) (before : Held P K) (back : Block) (after : Held P K) : Type 0 where
   pub said : List Said
   pub found : Found
@@ -54,6 +55,8 @@ pub record ResizesShort {P K : Type 0} (m : Means P K) (t : Tunables) (who : Who
   pub added : after.journal ≡ before.journal ++ recorded who (acts.Resize b.addr b.size nb) said Short ∷ []
   pub stops : StopsShort t (ways m before.arena.number) (rules_of t (acts.Resize b.addr b.size nb) before.arena) before.outside [] after.arena said after.outside
   pub spares : Spares (full m) (stage before.arena before.outside []) (one_chunk (chunk_at b.addr b.size)) (chunks_kept (chunk_at b.addr b.size) found) (stage after.arena after.outside said)
+  pub mapped : (d : Chunk) → found ≡ finds.InMapping d →
+      StopsInMapping m t (chunk_at b.addr b.size) nb (stage before.arena before.outside []) d (stage after.arena after.outside said)
 
 -- Memory was short: for the entry itself, and then nothing changed; or later. A block always comes back.
 abbrev pub FailsResize : {P K : Type 0} → Means P K → Tunables → Who → Block → ℕ → Held P K → Option Block → Held P K → Type 0

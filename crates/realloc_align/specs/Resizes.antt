@@ -10,6 +10,8 @@ use Rattle.arena_rules.specs.Moves.{parted, hand}
 use Rattle.arena_rules.specs.Rules.{Rules, Stop, behind}
 use Rattle.arena_rules.specs.Growth as growth
 use Rattle.arena_rules.specs.Growth.{closing}
+use Rattle.arena_rules.specs.Search.{searched}
+use Rattle.arena_rules.specs.Release.{released}
 use Rattle.arena_rules.specs.Resize.{front_of, back_of, is_next_to, joined_with, resize_of}
 use Rattle.arena_rules.specs.Walks.{Reaches, StopsShort, Performs}
 use Rattle.consolidate_trim.specs.Holds.{Chunks, one_chunk, KeepsOthers}
@@ -73,9 +75,21 @@ pub record Spares {O : Type 0} (l : Ledger O) (before : Stage O) (given got : Ch
   pub kept : (e : Chunk) → times_used e before.arena + (elsewhere l before.arena.number after.outside e + got e)
       ≤ times_used e after.arena + (elsewhere l before.arena.number before.outside e + given e)
 
+-- A search found a mapping for the block.
+abbrev pub FindsMapping : {P K : Type 0} → Means P K → Tunables → ℕ → Stage (Outside P K) → Chunk → Stage (Outside P K) → Type 0
+FindsMapping m t nb before d after =
+    Reaches t (ways m before.arena.number) (searched t nb before.arena) before.outside before.said (Stop (took after.arena (InMapping d))) after.said after.outside
+
+-- It did, and memory was short while the block's old chunk was released.
+pub record StopsInMapping {P K : Type 0} (m : Means P K) (t : Tunables) (c : Chunk) (nb : ℕ) (before : Stage (Outside P K)) (d : Chunk) (after : Stage (Outside P K)) : Type 0 where
+  pub between : Stage (Outside P K)
+  pub finds : FindsMapping m t nb before d between
+  pub release : StopsShort t (ways m before.arena.number) (released t between.arena c) between.outside between.said after.arena after.said after.outside
+
 -- A chunk is reshaped: from the rules of its resize to the release; or memory was short in the search, and it is as it was.
 pub record Reshapes {P K : Type 0} (m : Means P K) (t : Tunables) (c : Chunk) (nb : ℕ) (before : Stage (Outside P K)) (result : Result Reshaped NoMemory) (after : Stage (Outside P K)) : Type 0 where
   pub comes : IfOk result (λ r. Comes (full m) t (resize_of t before.arena c nb) before (one_chunk c) (chunks_reshaped c r) (rest_released t r after.arena) after)
+  pub mapped : IfOk result (λ r. (d : Chunk) → r.found ≡ InMapping d → (r.rest ≡ Some c) × FindsMapping m t nb before d after)
   pub short : OnErr result (StopsShort t (ways m before.arena.number) (resize_of t before.arena c nb) before.outside before.said after.arena after.said after.outside)
   pub spares : OnErr result (Spares (full m) before (one_chunk c) (one_chunk c) after)
 
@@ -84,3 +98,4 @@ pub record Resizes {P K : Type 0} (m : Means P K) (t : Tunables) (c : Chunk) (nb
   pub walk : Performs t (ways m before.arena.number) (resize_of t before.arena c nb) before.outside before.said (took after.arena) after.arena result after.said after.outside
   pub keeps : IfOk result (λ found. Balances (full m) before (one_chunk c) (chunks_kept c found) after)
   pub spares : IfErr result (λ s. Spares (full m) before (one_chunk c) (chunks_kept c s.found) after)
+  pub mapped : IfErr result (λ s. (d : Chunk) → s.found ≡ InMapping d → StopsInMapping m t c nb before d after)
