@@ -2,7 +2,7 @@
 use Rattle.std.proofs.Common.{◌≡◌, ℕ, ◌+◌, ◌≤◌, Bool, true, false, ◌&&◌, cond, List, [], Option, Some, None, IfSome, IsTrue, refl, sym, ap, ◌∙◌, subst, arith}
 use Rattle.std.proofs.lemmas.Bool.{eqb-true}
 use Rattle.std.proofs.Math.Bool.{and-false, and-true}
-use Rattle.std.specs.Prelude.{nat_eq, IfNone, sum_by, count_by}
+use Rattle.std.specs.Prelude.{nat_eq, IfNone, sum_by, count_by, not, if◌then◌else◌}
 use Rattle.chunk_tags.specs.BinOrder.{once, same_chunk, times_in, fast_chunk}
 use Rattle.chunk_tags.specs.Sizes.{IsChunkSize, fast_index_of}
 use Rattle.chunk_tags.specs.declared.block.Block.{Block}
@@ -19,6 +19,7 @@ use Rattle.fast_bins.specs.FastPorts.{Did, Idles}
 use Rattle.fast_bins.specs.PlainBins as bins
 use Rattle.fast_bins.specs.PlainBins.{FastState, empty_state, state_of}
 use Rattle.arena_rules.specs.declared.said.Said.{Said}
+use Rattle.arena_rules.specs.Align as aligns
 use Rattle.arena_rules.specs.PlainArena.{Plain, IsSound, empty_main, is_main, times_used}
 use Rattle.arena_rules.specs.MainPlaces.{IsPlaced}
 use Rattle.arena_rules.specs.Rules.{windows_of, block_of}
@@ -35,11 +36,14 @@ use Rattle.arena_core.specs.declared.journal.Act.TheVariants as acts
 use Rattle.arena_core.specs.declared.journal.Who.{Who}
 use Rattle.arena_core.specs.declared.take.Take.{Take}
 use Rattle.arena_core.specs.declared.take.Take.TheVariants as takes
-use Rattle.arena_core.specs.Arenas.{held, Takes, Records, take_of, mapped_block}
+use Rattle.arena_core.specs.Arenas.{held, Takes, Records, take_of, mapped_block, chunks_got}
 use Rattle.arena_core.specs.Asking.{beside_arena, chunks_found}
 use Rattle.arena_core.specs.Ledgers.{stage, Balances, full}
 use Rattle.arena_core.specs.Replay.{chunk_at}
 use Rattle.arena_core.proofs.Growing.{walks_windows}
+use Rattle.realloc_align.specs.declared.to_size.Resized.{Resized}
+use Rattle.realloc_align.specs.declared.to_size.Resized.TheVariants.{Kept, Moved, Refused}
+use Rattle.realloc_align.specs.Calls.{ResizesBlock, AlignsBlock, resize_to, aligned_take}
 use Rattle.hold_lists.specs.declared.bench.Bench.{Bench}
 use Rattle.malloc_calls.specs.Playing.{PlainPort}
 use Rattle.hold_lists.specs.Kept.{IsKept, chunks_of, times_of, times_taken, main_of}
@@ -93,8 +97,10 @@ kept_after {t = t} {x = x} {y = y} {given = given} {got = got} k blocks windows 
 chunk_of : (e : Chunk) (c : Chunk) (n : ℕ) → n ≡ 0 → times_of e (block_of n c) ≡ once e c
 chunk_of e c n zero = subst (λ k. times_of e (block_of k c) ≡ once e c) (sym zero) (block_is 0 e c)
 
-mapped_none : (e c : Chunk) → times_of e (mapped_block c) ≡ 0
-mapped_none e c = ap {B = ℕ} (λ (b : Bool). cond b 1 0) (and-false (same_chunk e c))
+mapped_none : (e : Chunk) (b : Block) → b.arena ≡ None → times_of e b ≡ 0
+mapped_none e b is =
+    ap {B = ℕ} (λ (o : Option ℕ). cond (same_chunk e (chunk_at b.addr b.size) && (elim o [ None ↦ false | Some a ↦ nat_eq a 0 ])) 1 0) is
+    ∙ ap {B = ℕ} (λ (q : Bool). cond q 1 0) (and-false (same_chunk e (chunk_at b.addr b.size)))
 
 -- what is in hand of what a search found
 abbrev pub hand_of : Take → Chunks
@@ -103,7 +109,7 @@ hand_of takes.Refused e = 0
 
 found_hand : (n : ℕ) → n ≡ 0 → (found : Found) (e : Chunk) → hand_of (take_of n found) e ≡ chunks_found found e
 found_hand n zero (finds.InArena c) e = chunk_of e c n zero
-found_hand n zero (finds.InMapping c) e = mapped_none e c
+found_hand n zero (finds.InMapping c) e = mapped_none e (mapped_block c) refl
 found_hand n zero finds.Nowhere e = refl
 
 pub kept_search : {t : Tunables} {x y : Bench} {who : Who} {nb : ℕ} (take : Take) → IsKept t x no_chunk → y.blocks ≡ x.blocks →
@@ -113,6 +119,20 @@ kept_search {t = t} {x = x} {y = y} take k blocks took =
     let after : IsKept t y (chunks_found took.found) = kept_after k blocks (walks_windows r.walks.walks) r.balances in
     let zero : (main_of x).number ≡ 0 = number_zero (main_of x) k.main in
     kept_as after (λ e. omega (arith, ap (λ (q : Take). hand_of q e) took.taken, found_hand (main_of x).number zero took.found e))
+
+-- a block behind a lead too
+aligned_hand : (align n : ℕ) → n ≡ 0 → (found : Found) (e : Chunk) → hand_of (aligned_take align n found) e ≡ chunks_found found e
+aligned_hand align n zero (finds.InArena c) e = chunk_of e c n zero
+aligned_hand align n zero (finds.InMapping c) e = mapped_none e (aligns.aligned_block align c) refl
+aligned_hand align n zero finds.Nowhere e = refl
+
+pub kept_aligned : {t : Tunables} {x y : Bench} {who : Who} {align nb : ℕ} (take : Take) → IsKept t x no_chunk → y.blocks ≡ x.blocks →
+    AlignsBlock of_port t who align nb (held (main_of x) x.port x.cache x.space x.arena.journal.items) take (held (main_of y) y.port y.cache y.space y.arena.journal.items) → IsKept t y (hand_of take)
+kept_aligned {t = t} {x = x} {y = y} {align = align} take k blocks took =
+    let r = took.records in
+    let after : IsKept t y (chunks_found took.found) = kept_after k blocks (walks_windows r.walks.walks) r.balances in
+    let zero : (main_of x).number ≡ 0 = number_zero (main_of x) k.main in
+    kept_as after (λ e. omega (arith, ap (λ (q : Take). hand_of q e) took.taken, aligned_hand align (main_of x).number zero took.found e))
 
 -- a block of main is its chunk
 block_own : (b : Block) → b.arena ≡ Some 0 → (e : Chunk) → times_of e b ≡ once e (chunk_at b.addr b.size)
@@ -133,6 +153,32 @@ kept_give {t = t} {x = x} {y = y} b is k blocks r =
 
 pub give_backed : {t : Tunables} {x : Bench} (b : Block) → b.arena ≡ Some 0 → IsKept t x (chunks_of (Some b)) → IsBacked port_fast (main_of x) x.port (one_chunk (chunk_at b.addr b.size))
 give_backed b is k = record { sound = k.sound; used = λ e. omega (arith, k.used e, block_own b is e) }
+
+-- ---- another size
+
+-- what is in hand of a block whose resize came to this
+abbrev pub hand_resized : Resized → Chunks
+hand_resized (Kept b) e = times_of e b
+hand_resized (Moved b) e = times_of e b
+hand_resized (Refused b) e = times_of e b
+
+kept_or_moved : (q : Bool) (at b : Block) (e : Chunk) → hand_resized (if q then Kept at else (if not q then Moved at else Refused b)) e ≡ times_of e at
+kept_or_moved true at b e = refl
+kept_or_moved false at b e = refl
+
+resized_hand : (number : ℕ) → number ≡ 0 → (b : Block) → b.arena ≡ Some 0 → (nb : ℕ) (found : Found) (e : Chunk) → hand_resized (resize_to number b found) e ≡ chunks_got (acts.Resize b.addr b.size nb) found e
+resized_hand number zero b is nb (finds.InArena c) e = kept_or_moved (nat_eq c.at b.addr) (block_of number c) b e ∙ chunk_of e c number zero
+resized_hand number zero b is nb (finds.InMapping c) e = mapped_none e (mapped_block c) refl
+resized_hand number zero b is nb finds.Nowhere e = block_own b is e
+
+pub kept_resized : {t : Tunables} {x y : Bench} {who : Who} {nb : ℕ} (b : Block) (r : Resized) → b.arena ≡ Some 0 → IsKept t x (chunks_of (Some b)) → y.blocks ≡ x.blocks →
+    ResizesBlock of_port t who b nb (held (main_of x) x.port x.cache x.space x.arena.journal.items) r (held (main_of y) y.port y.cache y.space y.arena.journal.items) → IsKept t y (hand_resized r)
+kept_resized {t = t} {x = x} {y = y} {nb = nb} b r is k blocks resized =
+    let s = resized.records in
+    let given : IsKept t x (one_chunk (chunk_at b.addr b.size)) = kept_as k (λ e. omega (arith, block_own b is e)) in
+    let after : IsKept t y (chunks_got (acts.Resize b.addr b.size nb) resized.found) = kept_after given blocks (walks_windows s.walks.walks) s.balances in
+    let zero : (main_of x).number ≡ 0 = number_zero (main_of x) k.main in
+    kept_as after (λ e. omega (arith, ap (λ (q : Resized). hand_resized q e) resized.came, resized_hand (main_of x).number zero b is nb resized.found e))
 
 -- ---- the cache
 

@@ -1,12 +1,15 @@
 //! Main, and one thread that takes chunks of it and gives them back.
 
-ghost use Rattle.std.specs.Prelude.{◌≡◌, ◌≤◌, ◌<◌, ◌^◌, true, Some, None, IsTrue, IfOk, OnOk, OnSome, IfSome};
+ghost use Rattle.std.specs.Prelude.{◌≡◌, ◌+◌, ◌-◌, ◌≤◌, ◌<◌, ◌^◌, true, Some, None, IsTrue, IfOk, OnOk, OnSome, IfSome};
 ghost use Rattle.chunk_tags.specs.Sizes.{IsRequestSize, max_cached};
 ghost use Rattle.chunk_tags.specs.Tunables.{IsTuned};
 ghost use Rattle.thread_cache.specs.Held.{IsSound as IsSoundCache};
 ghost use Rattle.mapped_chunks.specs.Mappings.{IsMapped};
+ghost use Rattle.arena_rules.specs.Align.{IsAlignment};
+ghost use Rattle.arena_core.specs.Asking.{AllowsMaps};
 ghost use Rattle.consolidate_trim.specs.Holds.{no_chunk};
 ghost use Rattle.hold_lists.specs.Kept.{IsKept, chunks_of};
+ghost use Rattle.hold_lists.specs.Ports.{port_dials};
 
 use address_space::{Budget, MAP_LIMIT, Space, Windows};
 use arena_core::{Arena, Take, Who};
@@ -15,8 +18,12 @@ use chunk_tags::{Block, NoMemory, Size, Tunables, cache_index, fast_index, reque
 use fast_bins::{FastPort, PlainFast};
 use malloc_calls::Both;
 use mapped_chunks::{DialState, PlainDials, unmap_freed};
+use realloc_align::{Resized, aligned, resize};
 use std::alloc::Global;
 use thread_cache::{Cache, STRUCTURE_SIZE};
+
+/// No request is for more bytes (glibc's PTRDIFF_MAX).
+const MOST_BYTES: u64 = 9_223_372_036_854_775_807;
 
 /// Main with its fast bins, the words and the address space, and what a thread has of it: its cache, and the blocks that it
 /// took, in order.
@@ -112,6 +119,14 @@ impl Bench {
         })
     }
 
+    /// Whether another mapping can be counted here.
+    fn may_map(&self) -> bool
+        ensures { IsTrue result → AllowsMaps port_dials self.now.port self.now.space }
+    {
+        let state = self.port.dials.state;
+        state.mapped < 4_294_967_296 && state.bytes < 1_152_921_504_606_846_976
+    }
+
     /// One search of main.
     fn search(
         &mut self,
@@ -125,8 +140,7 @@ impl Bench {
         requires size { IsRequestSize nb }
         ensures { IfOk result (λ found. IsKept t.now self.new (chunks_of found)) }
     {
-        let state = self.port.dials.state;
-        if state.mapped >= 4_294_967_296 || state.bytes >= 1_152_921_504_606_846_976 {
+        if !self.may_map() {
             return Err(Halt::Odd);
         }
         let who = Who { thread: 0, line };
@@ -255,7 +269,7 @@ impl Bench {
         let state = self.port.dials.state;
         if state.mapped == 0
             || block.size.0 > state.bytes
-            || block.lead != 0
+            || block.lead > state.bytes - block.size.0
             || !is_mapping(&block)
         {
             return Err(Halt::Odd);
@@ -368,6 +382,203 @@ impl Bench {
             None => None,
         };
         self.keep(block, t)?;
+        Ok(())
+    }
+
+    /// Puts a block into the place of one that was taken out of those that were taken, and gives what is there.
+    fn exchange(&mut self, index: usize, block: Block, t: &Tunables) -> Option<Block>
+        requires { IsKept t.now self.old (chunks_of (Some block)) }
+        ensures { IsKept t.now self.new (chunks_of result) }
+    {
+        if index < self.blocks.len() {
+            self.blocks[index].replace(block)
+        } else {
+            Some(block)
+        }
+    }
+
+    /// Main is searched for a block whose user address is a multiple.
+    fn search_aligned(
+        &mut self,
+        alloc: Global,
+        line: u64,
+        align: u64,
+        nb: Size,
+        t: &Tunables,
+    ) -> Result<Option<Block>, Halt>
+        requires kept { IsKept t.now self.old no_chunk }
+        requires tuned { IsTuned t.now }
+        requires size { IsRequestSize nb }
+        requires align { IsAlignment align }
+        requires most { nb + align + 32 ≤ 2 ^ 63 - 1 }
+        ensures { IfOk result (λ found. IsKept t.now self.new (chunks_of found)) }
+    {
+        if !self.may_map() {
+            return Err(Halt::Odd);
+        }
+        let who = Who { thread: 0, line };
+        match aligned(
+            &mut self.arena,
+            alloc,
+            who,
+            align,
+            nb,
+            &mut self.cache,
+            &mut self.port,
+            &mut self.space,
+            t,
+        ) {
+            Ok(Take::Got(block)) => Ok(Some(block)),
+            Ok(Take::Refused) => Ok(None),
+            Err(_short) => Err(Halt::NoMemory),
+        }
+    }
+
+    /// The block of posix_memalign, if there is one: main is searched, and where that is refused once more.
+    fn aligned_block(
+        &mut self,
+        alloc: Global,
+        line: u64,
+        align: u64,
+        bytes: u64,
+        t: &Tunables,
+    ) -> Result<Option<Block>, Halt>
+        requires kept { IsKept t.now self.old no_chunk }
+        requires tuned { IsTuned t.now }
+        ensures { IfOk result (λ found. IsKept t.now self.new (chunks_of found)) }
+    {
+        let Some(nb) = request_size(bytes) else {
+            return Ok(None);
+        };
+        if !align.is_power_of_two() || align < 8 {
+            return Ok(None);
+        }
+        if align <= 16 {
+            return self.block(alloc, line, nb, t);
+        }
+        if align % 16 != 0 || nb.0 > MOST_BYTES - 32 || align > MOST_BYTES - 32 - nb.0 {
+            return Ok(None);
+        }
+        match self.search_aligned(alloc, line, align, nb, t)? {
+            Some(block) => Ok(Some(block)),
+            None => self.search_aligned(alloc, line, align, nb, t),
+        }
+    }
+
+    /// posix_memalign of so many bytes.
+    pub fn aligned(
+        &mut self,
+        alloc: Global,
+        line: u64,
+        align: u64,
+        bytes: u64,
+        t: &Tunables,
+    ) -> Result<(), Halt>
+        requires kept { IsKept t.now self.old no_chunk }
+        requires tuned { IsTuned t.now }
+        ensures { OnOk result (IsKept t.now self.new no_chunk) }
+    {
+        let block = self.aligned_block(alloc, line, align, bytes, t)?;
+        self.keep(block, t)?;
+        Ok(())
+    }
+
+    /// A block of main gets another size, in a hold: where it is then, and whether that was refused.
+    fn resize_block(
+        &mut self,
+        alloc: Global,
+        line: u64,
+        block: Block,
+        nb: Size,
+        t: &Tunables,
+    ) -> Result<(Block, bool), Halt>
+        requires kept { IsKept t.now self.old (chunks_of (Some block)) }
+        requires main { block.arena ≡ Some 0 }
+        requires tuned { IsTuned t.now }
+        requires size { IsRequestSize nb }
+        ensures { IfOk result (λ r. IsKept t.now self.new (chunks_of (Some r.0))) }
+    {
+        if !self.may_map() {
+            return Err(Halt::Odd);
+        }
+        let who = Who { thread: 0, line };
+        match resize(
+            &mut self.arena,
+            alloc,
+            who,
+            block,
+            nb,
+            &mut self.cache,
+            &mut self.port,
+            &mut self.space,
+            t,
+        ) {
+            Ok(Resized::Kept(block)) => Ok((block, false)),
+            Ok(Resized::Moved(block)) => Ok((block, false)),
+            Ok(Resized::Refused(block)) => Ok((block, true)),
+            Err(_short) => Err(Halt::NoMemory),
+        }
+    }
+
+    /// Another block is taken for one whose resize was refused, and that is given up.
+    fn replace(
+        &mut self,
+        alloc: Global,
+        line: u64,
+        index: usize,
+        nb: Size,
+        t: &Tunables,
+    ) -> Result<(), Halt>
+        requires kept { IsKept t.now self.old no_chunk }
+        requires tuned { IsTuned t.now }
+        requires size { IsRequestSize nb }
+        ensures { OnOk result (IsKept t.now self.new no_chunk) }
+    {
+        let Some(other) = self.block(alloc, line, nb, t)? else {
+            return Ok(());
+        };
+        let Some(block) = self.exchange(index, other, t) else {
+            return Ok(());
+        };
+        if block.arena != Some(0) {
+            return Err(Halt::Odd);
+        }
+        self.free_chunk(alloc, line, block, t)?;
+        Ok(())
+    }
+
+    /// realloc of the block that was taken at an index, where that is one of main. A mapped one isn't resized under main's lock,
+    /// and stays as it is.
+    pub fn resize(
+        &mut self,
+        alloc: Global,
+        line: u64,
+        index: usize,
+        bytes: u64,
+        t: &Tunables,
+    ) -> Result<(), Halt>
+        requires kept { IsKept t.now self.old no_chunk }
+        requires tuned { IsTuned t.now }
+        ensures { OnOk result (IsKept t.now self.new no_chunk) }
+    {
+        let Some(nb) = request_size(bytes) else {
+            return Ok(());
+        };
+        if !self.is_of_main(index) {
+            return Ok(());
+        }
+        self.open_cache(alloc, line, t)?;
+        let Some(block) = self.take_back(index, t) else {
+            return Ok(());
+        };
+        if block.arena != Some(0) {
+            return Err(Halt::Odd);
+        }
+        let (block, refused) = self.resize_block(alloc, line, block, nb, t)?;
+        let _free = self.exchange(index, block, t);
+        if refused {
+            return self.replace(alloc, line, index, nb, t);
+        }
         Ok(())
     }
 }

@@ -1,6 +1,7 @@
-//! Reads a list of takes and gives of one thread on main, and prints what each hold was told and gave. The first line has the
-//! budget of the address space in bytes, and the numbers of the asks that are refused; each other line is `m BYTES`, or
-//! `f N` for the block of the line that was the `N`th of those, from 0 on. At the end it prints the tiles of main.
+//! Reads a list of calls of one thread on main, and prints what each hold was told and gave. The first line has the budget of
+//! the address space in bytes, and the numbers of the asks that are refused. Each other line is a call: `m BYTES` takes a block,
+//! `a ALIGN BYTES` one at a multiple of `ALIGN`; `f N` gives the block back that the `N`th of those lines took, from 0 on, and
+//! `r N BYTES` gives it another size, unless it is mapped. At the end it prints the tiles of main.
 #![tactic(auto)]
 
 mod bench;
@@ -39,23 +40,36 @@ fn budget(alloc: Global, line: &str) -> io::Result<Budget> {
     Ok(Budget::new(bytes, refused))
 }
 
+fn number(word: &str) -> Result<u64, Halt> {
+    match word.parse::<u64>() {
+        Ok(number) => Ok(number),
+        Err(_) => Err(Halt::Odd),
+    }
+}
+
 /// One line of the list.
-fn step(alloc: Global, bench: &mut Bench, number: u64, line: &str, t: &Tunables) -> Result<(), Halt>
+fn step(alloc: Global, bench: &mut Bench, line: u64, text: &str, t: &Tunables) -> Result<(), Halt>
     requires kept { IsKept t.now bench.old no_chunk }
     requires tuned { IsTuned t.now }
     ensures { OnOk result (IsKept t.now bench.new no_chunk) }
 {
-    let Some((call, value)) = line.split_once(' ') else {
-        return Err(Halt::Odd);
-    };
-    let Ok(value) = value.parse::<u64>() else {
+    let Some((call, values)) = text.split_once(' ') else {
         return Err(Halt::Odd);
     };
     if call == "m" {
-        return bench.malloc(alloc, number, value, t);
+        return bench.malloc(alloc, line, number(values)?, t);
     }
-    bench.free(alloc, number, value as usize, t)?;
-    Ok(())
+    if call == "f" {
+        bench.free(alloc, line, number(values)? as usize, t)?;
+        return Ok(());
+    }
+    let Some((first, second)) = values.split_once(' ') else {
+        return Err(Halt::Odd);
+    };
+    if call == "a" {
+        return bench.aligned(alloc, line, number(first)?, number(second)?, t);
+    }
+    bench.resize(alloc, line, number(first)? as usize, number(second)?, t)
 }
 
 /// The lines of a list, behind the first.
