@@ -4,7 +4,7 @@ use Rattle.chunk_tags.specs.declared.tunables.Tunables.{Tunables}
 use Rattle.arena_core.specs.declared.journal.Who.{Who}
 use Rattle.malloc_calls.specs.Places.{Setting, Standing}
 use Rattle.malloc_calls.specs.Calls.{Call, Done, then_call}
-use Rattle.malloc_calls.specs.Going.{Told, Goes, here, idled, held, pushed, freed, Does}
+use Rattle.malloc_calls.specs.Going.{Told, Goes, here, idled, held, pushed, freed, unmapped, remapped, Does}
 
 -- one part, and another from where it ends
 pub goes_then : {P H D K A : Type 0} {s : Setting P H D K} {t : Tunables} {who : Who} {c q u : Call A} {o p z : Standing P K} {told more : List Told} →
@@ -14,6 +14,8 @@ goes_then (idled i a) b = idled i (goes_then a b)
 goes_then (held h a) b = held h (goes_then a b)
 goes_then (pushed h a) b = pushed h (goes_then a b)
 goes_then (freed h a) b = freed h (goes_then a b)
+goes_then (unmapped h a) b = unmapped h (goes_then a b)
+goes_then (remapped h a) b = remapped h (goes_then a b)
 
 -- a call goes the same way with another behind it
 pub goes_behind : {P H D K A B : Type 0} {s : Setting P H D K} {t : Tunables} {who : Who} {c q : Call A} {o z : Standing P K} {told : List Told} (f : A → Call B) →
@@ -23,6 +25,8 @@ goes_behind f (idled i a) = idled i (goes_behind f a)
 goes_behind f (held h a) = held h (goes_behind f a)
 goes_behind f (pushed h a) = pushed h (goes_behind f a)
 goes_behind f (freed h a) = freed h (goes_behind f a)
+goes_behind f (unmapped h a) = unmapped h (goes_behind f a)
+goes_behind f (remapped h a) = remapped h (goes_behind f a)
 
 pub does_here : {P H D K A : Type 0} {s : Setting P H D K} {t : Tunables} {who : Who} (x : A) (o : Standing P K) → Does s t who (Done x) o x o
 does_here x o = record { told = []; goes = here }

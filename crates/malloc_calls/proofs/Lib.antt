@@ -3,9 +3,13 @@ pub mod Going
 pub mod Weights
 pub mod Carrying
 pub mod Holds
+pub mod Founds
 pub mod Taken
 pub mod Unmapped
 pub mod Calling
+pub mod Supplies
+pub mod Releases
+pub mod Resettlings
 pub mod Obeying
 pub mod Joining
 pub mod Playing

@@ -66,3 +66,5 @@ obeys {s = s} {t = t} {who = who} result e (going.held {act = act} {cache = cach
     )
 obeys result e (going.pushed h a) = (refl, obeys result e a)
 obeys result e (going.freed h a) = obeys result e a
+obeys result e (going.unmapped h a) = obeys result e a
+obeys result e (going.remapped h a) = obeys result e a

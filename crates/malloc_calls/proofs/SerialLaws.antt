@@ -10,7 +10,7 @@ use Rattle.fast_bins.specs.FastPorts.{Pushes, Did, Idles}
 use Rattle.fast_bins.specs.PlainBins.{PlainBins, FastState, plain_fast, state_of, empty_state, chunks_of}
 use Rattle.mapped_chunks.specs.DialPorts.{DialStep, Reads, Raises, Maps, Unmaps, Remaps}
 use Rattle.mapped_chunks.specs.Mappings.{AllSteps}
-use Rattle.mapped_chunks.specs.PlainDials.{plain_dials}
+use Rattle.mapped_chunks.specs.PlainDials.{after_step, plain_dials}
 use Rattle.mapped_chunks.specs.declared.plain.DialState.{DialState}
 use Rattle.mapped_chunks.specs.declared.plain.PlainDials.{PlainDials}
 use Rattle.arena_rules.specs.PlainArena.{Plain, times_used, empty_main}
@@ -129,7 +129,7 @@ abbrev words_back : SerialState → PlainPort → PlainDials → SerialState
 words_back q port d = record q { port = Some (record port { dials = d }) }
 
 pub returned : (places q new : SerialState) (port : PlainPort) (first d : PlainDials) (steps : List DialStep) → q.port ≡ Some port → DialsOut places first q →
-    AllSteps plain_dials first steps d → new ≡ words_back q port d → AreReturned (serial_ways (λ (s : SerialState). s)) places steps new
+    AllSteps plain_dials first steps d → new ≡ words_back q port d → AreReturned (serial_ways (λ (s : SerialState). s)) plain_dials places first steps new
 returned places q new port first d steps at h walk is = rw is (
     let from : q ≡ places = h.left in
     let o : h.port ≡ port = same_some h.port port h.port_at (sym (ap (λ (s : SerialState). s.port) from) ∙ at) in
@@ -163,6 +163,17 @@ returned places q new port first d steps at h walk is = rw is (
             windows = n.windows;
             count = omega (arith, c, n.count, steps_n.count, mapped, ap (λ (x : PlainPort). x.dials.state.mapped) mine);
             bytes = omega (arith, b, n.bytes, steps_n.bytes, bytes, ap (λ (x : PlainPort). x.dials.state.bytes) mine);
+          };
+      shorter = λ old_len new_len own others one allowed less n.
+          let mine : n.port ≡ port = same_some n.port port n.port_at (sym (ap (λ (s : SerialState). s.port) from) ∙ at) in
+          let walked : AllSteps plain_dials first (Remaps old_len new_len ∷ []) d = subst (λ (ss : List DialStep). AllSteps plain_dials first ss d) one walk in
+          let after : d.state ≡ after_step (Remaps old_len new_len) first.state = ap (λ (x : PlainDials). x.state) walked.rest ∙ ap (λ (x : PlainDials). x.state) walked.step.1 in
+          record {
+            port = record port { dials = d };
+            port_at = refl;
+            windows = n.windows;
+            count = omega (arith, n.count, ap (λ (x : DialState). x.mapped) after, mapped, ap (λ (x : PlainPort). x.dials.state.mapped) mine);
+            bytes = omega (arith, n.bytes, ap (λ (x : DialState). x.bytes) after, allowed.counted, less, bytes, ap (λ (x : PlainPort). x.dials.state.bytes) mine);
           };
       tunables = ap (λ (s : SerialState). s.tunables) from;
       there = λ n. rw (from, h.port_at) refl;

@@ -1,7 +1,7 @@
 -- A call over the places for one order of calls, and a kernel that tells, is what the plain world plays; other crates may
 -- cite this file.
 use Rattle.std.proofs.Common.{◌≡◌, ℕ, Bool, true, false, cond, IsTrue, List, [], ◌∷◌, ◌++◌, length, Option, Some, None, refl, sym, ap, ◌∙◌, subst}
-use Rattle.std.specs.Prelude.{nat_eq}
+use Rattle.std.specs.Prelude.{nat_eq, Result, Ok, Err}
 use Rattle.std.specs.Option.{option_and_then}
 use Rattle.chunk_tags.specs.Sizes.{fast_index_of}
 use Rattle.chunk_tags.specs.declared.block.Block.{Block}
@@ -12,8 +12,8 @@ use Rattle.address_space.specs.Spaces.{space_tells}
 use Rattle.fast_bins.specs.FastPorts as fasts
 use Rattle.fast_bins.specs.PlainBins as bins
 use Rattle.fast_bins.specs.PlainBins.{FastState, state_of}
-use Rattle.mapped_chunks.specs.DialPorts.{DialStep}
-use Rattle.mapped_chunks.specs.Mappings.{AllSteps, freeing_steps}
+use Rattle.mapped_chunks.specs.DialPorts.{DialStep, Unmaps}
+use Rattle.mapped_chunks.specs.Mappings.{AllSteps, ChangesLength, freeing_steps, granted_start, mapping_bytes}
 use Rattle.mapped_chunks.specs.PlainDials.{plain_dials}
 use Rattle.mapped_chunks.specs.declared.plain.DialState.{DialState}
 use Rattle.mapped_chunks.specs.declared.plain.PlainDials.{PlainDials}
@@ -28,7 +28,7 @@ use Rattle.malloc_calls.specs.Places.{KeptArena, with_journal, Standing}
 use Rattle.malloc_calls.specs.Calls.{Call, Done, Holds}
 use Rattle.malloc_calls.specs.Going as going
 use Rattle.malloc_calls.specs.Going.{Told}
-use Rattle.malloc_calls.specs.SerialWays.{SerialState, serial_setting, SerialWorld, world_at, world_held, hold_world, after_steps, world_freed, played_call}
+use Rattle.malloc_calls.specs.SerialWays.{SerialState, serial_setting, SerialWorld, world_at, world_held, hold_world, after_steps, world_freed, world_unmapped, world_remapped, remap_start, remap_words, played_call}
 use Rattle.malloc_calls.proofs.Playing.{plays, tells_after}
 
 -- the places are idle, with this arena and this port, and the kernel tells
@@ -59,6 +59,12 @@ freed_state false b threshold d e h = steps_state (freeing_steps false b thresho
 freed_state true b threshold d e h =
     let P : ℕ → Type 0 = λ n. e.state ≡ after_steps (freeing_steps true b n) d.state in
     subst P h.step.0 (steps_state (freeing_steps true b threshold) d e h)
+
+-- the words after another length was asked for
+remapped_state : {K : Type 0} (port : Port K) (before now : Space K) (b : Block) (len : ℕ) (answer : Result Block Block) (d e : PlainDials) →
+    ChangesLength port plain_dials (before, d) b len answer (now, e) → e.state ≡ remap_words b len (granted_start answer) d.state
+remapped_state port before now b len (Ok c) d e h = ap (λ (x : PlainDials). x.state) h.counted.1
+remapped_state port before now b len (Err c) d e h = ap (λ (x : PlainDials). x.state) h.refused.1
 
 -- an entry, by its parts
 entry_same : (e : Recorded) (who : Who) (act : Act) (ended : Ended) → e.who ≡ who → e.act ≡ act → e.ended ≡ ended →
@@ -153,3 +159,49 @@ plays_call {K = K} view kernel {t = t} {who = who} {o = o} {z = z} x main port e
     ∙ (ap (λ v. f (state_of port.bins) (frees v.state) p.space) dial
     ∙ ap (f (state_of port.bins) (frees port.dials.state)) (h.frees.given.others ∙ ap (λ k. record o.space { kernel = k }) (h.frees.given.kernel.left at.tells)))) in
     record { main = r.main; port = r.port; at = r.at; played = ap (played_call kernel t who c) (sym w) ∙ r.played }
+plays_call {K = K} view kernel {t = t} {who = who} {o = o} {z = z} x main port e at (going.unmapped {b = b} {c = c} {p = p} h a) =
+    let last : PlainPort = record h.gave.port { dials = h.last_dial } in
+    let here : IsAt view kernel p main last = record {
+      main_at = ap (λ v. v.main) h.gave.left ∙ (ap (λ v. v.main) h.lent.left ∙ at.main_at);
+      port_at = ap (λ v. v.port) h.gave.left;
+      tells = h.unmaps.given.kernel.tells at.tells;
+    } in
+    let r : PlaysTo view kernel t who c (world_at main last p.space) x z = plays_call view kernel x main last e here a in
+    let f : FastState → DialState → Space K → SerialWorld K = λ b d s. record { main = main; bins = b; dials = d; space = s } in
+    let steps : List DialStep = Unmaps (mapping_bytes b) ∷ [] in
+    let in_lent : h.gave.port ≡ port =
+    some_same h.gave.port port h.gave.port_at (ap (λ v. v.port) h.lent.left ∙ at.port_at) in
+    let dial : h.dial ≡ port.dials = h.lent.told ∙ ap (λ v. v.dials) (some_same h.lent.port port h.lent.port_at at.port_at) in
+    let w : world_at main last p.space ≡ world_unmapped kernel b steps (world_at main port o.space) =
+    ap (λ v. f (state_of v.bins) h.last_dial.state p.space) in_lent
+    ∙ (ap (λ v. f (state_of port.bins) v.state p.space) h.unmaps.counted.1
+    ∙ (ap (λ v. f (state_of port.bins) (after_steps steps v.state) p.space) dial
+    ∙ ap (f (state_of port.bins) (after_steps steps port.dials.state)) (h.unmaps.given.others ∙ ap (λ k. record o.space { kernel = k }) (h.unmaps.given.kernel.left at.tells)))) in
+    record { main = r.main; port = r.port; at = r.at; played = ap (played_call kernel t who c) (sym w) ∙ r.played }
+plays_call {K = K} view kernel {t = t} {who = who} {o = o} {z = z} x main port e at (going.remapped {b = b} {len = len} {next = next} {p = p} {start = start} h a) =
+    let last : PlainPort = record h.gave.port { dials = h.last_dial } in
+    let here : IsAt view kernel p main last = record {
+      main_at = ap (λ v. v.main) h.gave.left ∙ (ap (λ v. v.main) h.lent.left ∙ at.main_at);
+      port_at = ap (λ v. v.port) h.gave.left;
+      tells = h.changes.asked.tells at.tells;
+    } in
+    let r : PlaysTo view kernel t who (next start) (world_at main last p.space) x z = plays_call view kernel x main last e here a in
+    let f : FastState → DialState → Space K → SerialWorld K = λ b d s. record { main = main; bins = b; dials = d; space = s } in
+    let world : SerialWorld K = world_at main port o.space in
+    let told : granted_start h.answer ≡ remap_start kernel b len world = h.changes.asked.answered at.tells in
+    let in_lent : h.gave.port ≡ port =
+    some_same h.gave.port port h.gave.port_at (ap (λ v. v.port) h.lent.left ∙ at.port_at) in
+    let dial : h.dial ≡ port.dials = h.lent.told ∙ ap (λ v. v.dials) (some_same h.lent.port port h.lent.port_at at.port_at) in
+    let w : world_at main last p.space ≡ world_remapped kernel b len world =
+    ap (λ v. f (state_of v.bins) h.last_dial.state p.space) in_lent
+    ∙ (ap (λ v. f (state_of port.bins) v p.space) (remapped_state kernel o.space p.space b len h.answer h.dial h.last_dial h.changes)
+    ∙ (ap (λ v. f (state_of port.bins) (remap_words b len (granted_start h.answer) v.state) p.space) dial
+    ∙ (ap (λ v. f (state_of port.bins) (remap_words b len v port.dials.state) p.space) told
+    ∙ ap (f (state_of port.bins) (remap_words b len (remap_start kernel b len world) port.dials.state)) (h.changes.asked.left at.tells)))) in
+    record {
+      main = r.main;
+      port = r.port;
+      at = r.at;
+      played = ap (played_call kernel t who (next (remap_start kernel b len world))) (sym w)
+          ∙ (ap (λ v. played_call kernel t who (next v) (world_at main last p.space)) (sym told ∙ h.told) ∙ r.played);
+    }

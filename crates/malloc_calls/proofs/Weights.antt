@@ -24,7 +24,7 @@ in_names-with name b names weigh below empty =
     omega (arith, e, z)
 
 -- a name that holds a block has a place
-below : (names : List (Option Block)) (name : ℕ) (b : Block) → block_at names name ≡ Some b → name < length names
+pub below : (names : List (Option Block)) (name : ℕ) (b : Block) → block_at names name ≡ Some b → name < length names
 below [] name b e = absurd cc
 below (o ∷ os) zero b e = omega arith
 below (o ∷ os) (suc name) b e = omega (arith, below os name b e)

@@ -1,33 +1,42 @@
--- A call of a thread, as a tree over what it is told: glibc 2.31 malloc/malloc.c, __libc_malloc, __libc_free, tcache_init
--- and _int_free outside the arena's lock. That it is a tree is this project's own form.
-use Rattle.std.specs.Prelude.{◌≡◌, ℕ, ◌≤◌, Bool, nat_le, List, Option, Some, None, if◌then◌else◌}
-use Rattle.chunk_tags.specs.Sizes.{padded_request, structure_size, fast_index_of}
+-- A call of a thread, as a tree over what it is told, and the parts that calls share: glibc 2.31 malloc/malloc.c,
+-- tcache_init, _int_malloc and _int_memalign as their callers see them, and _int_free outside the arena's lock. That it is a
+-- tree is this project's own form.
+use Rattle.std.specs.Prelude.{ℕ, ◌-◌, ◌≤◌, ◌≡◌, Bool, nat_le, List, Option, Some, None, option_map, if◌then◌else◌}
+use Rattle.chunk_tags.specs.Pages.{mapping_length}
+use Rattle.chunk_tags.specs.Sizes.{structure_size, fast_index_of}
 use Rattle.chunk_tags.specs.declared.block.Block.{Block}
 use Rattle.chunk_tags.specs.declared.tunables.Tunables.{Tunables}
 use Rattle.thread_cache.specs.Caches.{CacheValue, opened, is_open, with_newest, takes}
+use Rattle.arena_rules.specs.Align.{size_with_lead}
 use Rattle.arena_core.specs.Arenas.{need_of}
 use Rattle.arena_core.specs.declared.journal.Act.{Act}
-use Rattle.arena_core.specs.declared.journal.Act.TheVariants.{Take, Give}
+use Rattle.arena_core.specs.declared.journal.Act.TheVariants.{Take, Give, Align}
 use Rattle.arena_core.specs.declared.journal.Ended.{Ended}
 use Rattle.arena_core.specs.declared.journal.Ended.TheVariants as ends
-use Rattle.malloc_calls.specs.Names.{block_at, with_block, without_block}
+use Rattle.malloc_calls.specs.Names.{block_at, with_block}
 use Rattle.malloc_calls.specs.Own.{newest_of_size, without_newest_of}
 use Rattle.malloc_calls.specs.declared.own.Own.{Own}
 use Rattle.malloc_calls.specs.declared.reply.Reply.{Reply}
-use Rattle.malloc_calls.specs.declared.reply.Reply.TheVariants.{Got, Null, Freed, NotYours}
+use Rattle.malloc_calls.specs.declared.reply.Reply.TheVariants.{Got, Null}
 use Rattle.malloc_calls.specs.declared.reply.Origin.{Origin}
 use Rattle.malloc_calls.specs.declared.reply.Origin.TheVariants as origins
+use Rattle.malloc_calls.specs.declared.reply.To.{To}
 use Rattle.malloc_calls.specs.declared.reply.To.TheVariants as sinks
-use Rattle.malloc_calls.specs.declared.reply.Why.TheVariants.{Big, Refused}
+use Rattle.malloc_calls.specs.declared.reply.Why.TheVariants.{Refused}
+use Rattle.malloc_calls.specs.declared.supplying.Supply.{Supply}
 
 -- What a call does: it ends; an arena is held for an act, with the caller's cache (`rules_of` of arena_core `Replay`
 -- has the rules of an act), and the call goes on by the place of the hold's entry in the arena's journal, how it ended,
--- and the cache then; a block is pushed into a fast bin of its arena; a mapped chunk is freed.
+-- and the cache then; a block is pushed into a fast bin of its arena; a mapped chunk is freed; or the mapping of one goes
+-- back, and the thresholds stay; or another length of one's mapping is asked for, and the call goes on by where that begins,
+-- or by `None` where it was refused.
 pub data Call (A : Type 0) : Type 0 where
   Done : A → Call A
   Holds : ℕ → Act → CacheValue → (ℕ → Ended → CacheValue → Call A) → Call A
   Pushes : Block → Call A → Call A
   Frees : Block → Call A → Call A
+  Unmaps : Block → Call A → Call A
+  Remaps : Block → ℕ → (Option ℕ → Call A) → Call A
 
 -- one call, and another behind it
 abbrev pub then_call : {A B : Type 0} → Call A → (A → Call B) → Call B
@@ -35,6 +44,8 @@ then_call (Done x) f = f x
 then_call (Holds a act cache g) f = Holds a act cache (λ place ended left. then_call (g place ended left) f)
 then_call (Pushes b c) f = Pushes b (then_call c f)
 then_call (Frees b c) f = Frees b (then_call c f)
+then_call (Unmaps b c) f = Unmaps b (then_call c f)
+then_call (Remaps b len g) f = Remaps b len (λ start. then_call (g start) f)
 
 -- ---- what a hold gives
 
@@ -51,15 +62,25 @@ hold_end place ended cache = record { place = place; ended = ended; cache = cach
 abbrev pub hold_of : ℕ → Act → CacheValue → Call HoldEnd
 hold_of a act cache = Holds a act cache (λ place ended left. Done (hold_end place ended left))
 
--- the block that a hold of an arena took
-abbrev pub block_taken : ℕ → ℕ → ℕ → Bool → Block
-block_taken a at size mapped = record { addr = at; size = size; lead = 0; arena = if mapped then None else Some a }
+-- the bytes before a mapped chunk of a size in its mapping: an aligned one has a lead
+abbrev pub lead_taken : Act → ℕ → ℕ
+lead_taken (Align align nb) size = mapping_length (size_with_lead align nb) - size
+lead_taken _ size = 0
 
-abbrev pub taken_of : ℕ → Ended → Option Block
-taken_of a (ends.Got at size mapped) = Some (block_taken a at size mapped)
-taken_of a ends.Done = None
-taken_of a ends.Refused = None
-taken_of a ends.Short = None
+-- the block that an act in an arena took
+abbrev pub block_taken : ℕ → Act → ℕ → ℕ → Bool → Block
+block_taken a act at size mapped = record {
+  addr = at;
+  size = size;
+  lead = if mapped then lead_taken act size else 0;
+  arena = if mapped then None else Some a;
+}
+
+abbrev pub taken_of : ℕ → Act → Ended → Option Block
+taken_of a act (ends.Got at size mapped) = Some (block_taken a act at size mapped)
+taken_of a act ends.Done = None
+taken_of a act ends.Refused = None
+taken_of a act ends.Short = None
 
 -- where a block of a hold came from
 abbrev pub origin_of : ℕ → Block → Origin
@@ -78,76 +99,69 @@ cache_with_structure t (Some b) cache = opened b t.tcache_count t.tcache_bins
 abbrev pub opening : Tunables → ℕ → CacheValue → Call CacheValue
 opening t home cache =
     if is_open cache then Done cache
-    else then_call (hold_of home (Take structure_size) cache) (λ e. Done (cache_with_structure t (taken_of home e.ended) e.cache))
+    else then_call (hold_of home (Take structure_size) cache) (λ e.
+    Done (cache_with_structure t (taken_of home (Take structure_size) e.ended) e.cache))
 
--- ---- malloc
+-- ---- a block for a request
 
--- what is answered with a block of a hold, or without one
-abbrev pub reply_of : ℕ → Option Block → Reply
-reply_of place None = Null Refused
-reply_of place (Some b) = Got b.addr b.size (origin_of place b)
+-- what a call gets with the thread's cache: a block, where there is one, and where it came from
+abbrev pub Supplied : Type 0
+Supplied = Option Supply × CacheValue
 
--- it has the name then
-abbrev pub names_with : ℕ → Option Block → List (Option Block) → List (Option Block)
-names_with name None names = names
-names_with name (Some b) names = with_block name b names
+abbrev pub supply_of : Block → Origin → Supply
+supply_of b from = record { block = b; from = from }
 
-abbrev pub answer_with : ℕ → ℕ → Option Block → Own → Reply × Own
-answer_with name place o own = (reply_of place o, record own { names = names_with name o own.names })
-
--- a chunk from the thread's arena
-abbrev pub from_arena : ℕ → ℕ → ℕ → Own → Call (Reply × Own)
-from_arena home name nb own = then_call (hold_of home (Take nb) own.cache) (λ e.
-    Done (answer_with name e.place (taken_of home e.ended) (with_cache e.cache own)))
+-- one act in an arena, for a block
+abbrev pub from_arena : ℕ → Act → CacheValue → Call Supplied
+from_arena home act cache = then_call (hold_of home act cache) (λ e.
+    Done (option_map (λ b. supply_of b (origin_of e.place b)) (taken_of home act e.ended), e.cache))
 
 -- the newest chunk of its list in the cache, else one from the thread's arena
-abbrev pub from_cache : ℕ → ℕ → ℕ → Option Block → Own → Call (Reply × Own)
-from_cache home name nb None own = from_arena home name nb own
-from_cache home name nb (Some b) own = Done (
-  Got b.addr b.size origins.Cached,
-  record { cache = without_newest_of nb own.cache; names = with_block name b own.names },
-)
+abbrev pub from_cache : ℕ → ℕ → Option Block → CacheValue → Call Supplied
+from_cache home nb None cache = from_arena home (Take nb) cache
+from_cache home nb (Some b) cache = Done (Some (supply_of b origins.Cached), without_newest_of nb cache)
 
--- a size that is too big changes nothing; else the cache is opened where it is closed
-abbrev pub padded_malloc : Tunables → ℕ → ℕ → Option ℕ → Own → Call (Reply × Own)
-padded_malloc t home name None own = Done (Null Big, own)
-padded_malloc t home name (Some nb) own = then_call (opening t home own.cache) (λ cache.
-    from_cache home name nb (newest_of_size nb cache) (with_cache cache own))
+-- the cache is opened where it is closed, and asked first
+abbrev pub plain_supply : Tunables → ℕ → ℕ → CacheValue → Call Supplied
+plain_supply t home nb cache = then_call (opening t home cache) (λ c. from_cache home nb (newest_of_size nb c) c)
 
-abbrev pub malloc_call : Tunables → ℕ → ℕ → ℕ → Own → Call (Reply × Own)
-malloc_call t home name size own = padded_malloc t home name (padded_request size) own
+-- it is opened where it is closed, and passed over
+abbrev pub fresh_supply : Tunables → ℕ → ℕ → CacheValue → Call Supplied
+fresh_supply t home nb cache = then_call (opening t home cache) (λ c. from_arena home (Take nb) c)
 
--- ---- free
+-- the block has the name then
+abbrev pub own_with : ℕ → Block → CacheValue → Own → Own
+own_with name b cache own = record { cache = cache; names = with_block name b own.names }
 
-abbrev pub without_name : ℕ → Own → Own
-without_name name own = record own { names = without_block name own.names }
+-- what is answered with a block, or without one, and what the names are then
+abbrev pub reply_of : Option Supply → Reply
+reply_of None = Null Refused
+reply_of (Some s) = Got s.block.addr s.block.size s.from
+
+abbrev pub names_with : ℕ → Option Supply → List (Option Block) → List (Option Block)
+names_with name None names = names
+names_with name (Some s) names = with_block name s.block names
+
+abbrev pub answer_with : ℕ → Own → Supplied → Reply × Own
+answer_with name own s = (reply_of s.0, record { cache = s.1; names = names_with name s.0 own.names })
+
+abbrev pub named : ℕ → Own → Call Supplied → Call (Reply × Own)
+named name own c = then_call c (λ s. Done (answer_with name own s))
+
+-- ---- a block of an arena is released
 
 -- a chunk that the cache doesn't take: into its fast bin where it is fast, else to its arena
-abbrev pub past_cache : Tunables → ℕ → Block → Own → Call (Reply × Own)
-past_cache t a b own =
+abbrev pub past_cache : Tunables → ℕ → Block → CacheValue → Call (To × CacheValue)
+past_cache t a b cache =
     if nat_le b.size t.max_fast
-    then Pushes b (Done (Freed (sinks.Fast a (fast_index_of b.size)), own))
-    else then_call (hold_of a (Give b.addr b.size) own.cache) (λ e.
-    Done (Freed (sinks.Binned a e.place), with_cache e.cache own))
+    then Pushes b (Done (sinks.Fast a (fast_index_of b.size), cache))
+    else then_call (hold_of a (Give b.addr b.size) cache) (λ e. Done (sinks.Binned a e.place, e.cache))
 
--- a chunk of an arena: into the cache where that takes it
-abbrev pub to_cache : Tunables → ℕ → Block → Own → Call (Reply × Own)
-to_cache t a b own =
-    if takes own.cache b then Done (Freed sinks.Cached, with_cache (with_newest own.cache b) own) else past_cache t a b own
+-- into the cache where that takes it
+abbrev pub releasing : Tunables → ℕ → Block → CacheValue → Call (To × CacheValue)
+releasing t a b cache = if takes cache b then Done (sinks.Cached, with_newest cache b) else past_cache t a b cache
 
-abbrev pub free_of_block : Tunables → ℕ → ℕ → Block → Option ℕ → Own → Call (Reply × Own)
-free_of_block t home name b None own = Frees b (Done (Freed sinks.Unmapped, without_name name own))
-free_of_block t home name b (Some a) own = then_call (opening t home own.cache) (λ cache.
-    to_cache t a b (without_name name (with_cache cache own)))
-
-abbrev pub free_of_name : Tunables → ℕ → ℕ → Option Block → Own → Call (Reply × Own)
-free_of_name t home name None own = Done (NotYours, own)
-free_of_name t home name (Some b) own = free_of_block t home name b b.arena own
-
-abbrev pub free_call : Tunables → ℕ → ℕ → Own → Call (Reply × Own)
-free_call t home name own = free_of_name t home name (block_at own.names name) own
-
--- ---- what malloc promises of a name
+-- ---- what is promised of a name
 
 -- the block that a name has, if any, is large enough for a chunk of nb bytes: a mapped one has 8 more
 abbrev pub FitsName : ℕ → ℕ → List (Option Block) → Type 0

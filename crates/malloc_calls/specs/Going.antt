@@ -1,10 +1,10 @@
 -- How a call goes: what is done at the places and the thread's address space, in order, and what the call is told
 -- (this project's own).
-use Rattle.std.specs.Prelude.{◌≡◌, ℕ, List, [], ◌∷◌, ◌++◌, length, Some}
+use Rattle.std.specs.Prelude.{◌≡◌, ℕ, List, [], ◌∷◌, ◌++◌, length, Option, Some, Result}
 use Rattle.chunk_tags.specs.declared.block.Block.{Block}
 use Rattle.chunk_tags.specs.declared.tunables.Tunables.{Tunables}
 use Rattle.address_space.specs.declared.space.Space.{Space}
-use Rattle.mapped_chunks.specs.Mappings.{FreesChunk}
+use Rattle.mapped_chunks.specs.Mappings.{FreesChunk, UnmapsChunk, ChangesLength, granted_start}
 use Rattle.thread_cache.specs.Caches.{CacheValue}
 use Rattle.arena_rules.specs.PlainArena.{Plain}
 use Rattle.arena_rules.specs.Rules.{Stop}
@@ -17,14 +17,17 @@ use Rattle.arena_core.specs.Journal.{Recorded}
 use Rattle.arena_core.specs.Replay.{rules_of, ended_of}
 use Rattle.consolidate_trim.specs.Outside.{Outside, ways}
 use Rattle.malloc_calls.specs.Places.{with_journal, Setting, Standing}
-use Rattle.malloc_calls.specs.Calls.{Call, Done, Holds, Pushes, Frees}
+use Rattle.malloc_calls.specs.Calls.{Call, Done, Holds, Pushes, Frees, Unmaps, Remaps}
 
 -- What a call is told: of a hold the arena's number, the place of its entry, the arena before it, and the entry; a push; a
--- mapped chunk that was freed, with the threshold that was read.
+-- mapped chunk that was freed, with the threshold that was read; a mapping that went back; and of another length where the
+-- mapping begins then, or `None` where it was refused.
 pub data Told : Type 0 where
   Held : ℕ → ℕ → Plain → Recorded → Told
   Pushed : Block → Told
   Freed : ℕ → Told
+  Unmapped : Told
+  Remapped : Option ℕ → Told
 
 abbrev pub beside : {H K : Type 0} → H → CacheValue → Space K → Outside H K
 beside port cache space = record { port = port; cache = cache; space = space }
@@ -67,6 +70,26 @@ pub record FreeStep {P H D K : Type 0} (s : Setting P H D K) (t : Tunables) (b :
   pub read : frees.threshold ≡ threshold
   pub gave : s.ways.dials_gave lending last_dial new.places
 
+-- a mapping goes back outside all holds
+pub record UnmapStep {P H D K : Type 0} (s : Setting P H D K) (b : Block) (old new : Standing P K) : Type 0 where
+  pub lending : P
+  pub dial : D
+  pub last_dial : D
+  pub lent : s.ways.dials_lent old.places dial lending
+  pub unmaps : UnmapsChunk s.means.kernel s.dials (old.space, dial) b (new.space, last_dial)
+  pub gave : s.ways.dials_gave lending last_dial new.places
+
+-- another length of a mapping is asked for outside all holds
+pub record RemapStep {P H D K : Type 0} (s : Setting P H D K) (b : Block) (len : ℕ) (old : Standing P K) (start : Option ℕ) (new : Standing P K) : Type 0 where
+  pub lending : P
+  pub dial : D
+  pub last_dial : D
+  pub answer : Result Block Block
+  pub lent : s.ways.dials_lent old.places dial lending
+  pub changes : ChangesLength s.means.kernel s.dials (old.space, dial) b len answer (new.space, last_dial)
+  pub told : granted_start answer ≡ start
+  pub gave : s.ways.dials_gave lending last_dial new.places
+
 -- From a call and where it stands, by what it is told, to what is left of the call and where it stands then.
 pub data Goes {P H D K A : Type 0} (s : Setting P H D K) (t : Tunables) (who : Who) :
     Call A → Standing P K → List Told → Call A → Standing P K → Type 0 where
@@ -81,6 +104,10 @@ pub data Goes {P H D K A : Type 0} (s : Setting P H D K) (t : Tunables) (who : W
       PushStep s b o p → Goes s t who c p told q z → Goes s t who (Pushes b c) o (Pushed b ∷ told) q z
   freed : {b : Block} {c q : Call A} {o p z : Standing P K} {told : List Told} {threshold : ℕ} →
       FreeStep s t b o threshold p → Goes s t who c p told q z → Goes s t who (Frees b c) o (Freed threshold ∷ told) q z
+  unmapped : {b : Block} {c q : Call A} {o p z : Standing P K} {told : List Told} →
+      UnmapStep s b o p → Goes s t who c p told q z → Goes s t who (Unmaps b c) o (Unmapped ∷ told) q z
+  remapped : {b : Block} {len : ℕ} {next : Option ℕ → Call A} {q : Call A} {o p z : Standing P K} {told : List Told} {start : Option ℕ} →
+      RemapStep s b len o start p → Goes s t who (next start) p told q z → Goes s t who (Remaps b len next) o (Remapped start ∷ told) q z
 
 -- A call goes to its end with a result.
 pub record Does {P H D K A : Type 0} (s : Setting P H D K) (t : Tunables) (who : Who) (c : Call A) (o : Standing P K)

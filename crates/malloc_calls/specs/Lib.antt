@@ -2,10 +2,15 @@ pub use Rattle.chunk_tags.specs.Sizes
 pub mod Names
 pub mod Own
 pub mod Calls
+pub mod Mallocs
+pub mod Frees
+pub mod Reallocs
 pub mod Places
 pub mod Returning
 pub mod Going
 pub mod Holding
+pub mod Supplying
+pub mod Resettling
 pub mod Obeys
 pub mod Joined
 pub mod Playing

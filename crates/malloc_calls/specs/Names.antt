@@ -15,6 +15,11 @@ with_places_to name names = names ++ replicate (name + 1 - length names) None
 abbrev pub with_block : ℕ → Block → List (Option Block) → List (Option Block)
 with_block name b names = slice_set names name (Some b)
 
+-- with a block that may be none
+abbrev pub with_some : ℕ → Option Block → List (Option Block) → List (Option Block)
+with_some name None names = names
+with_some name (Some b) names = with_block name b names
+
 abbrev pub without_block : ℕ → List (Option Block) → List (Option Block)
 without_block name names = slice_set names name None
 

@@ -9,8 +9,8 @@ use Rattle.arena_core.specs.declared.journal.Act.{Act}
 use Rattle.arena_core.specs.declared.journal.Who.{Who}
 use Rattle.arena_core.specs.Journal.{Recorded}
 use Rattle.arena_core.specs.Replay.{rules_of, ended_of}
-use Rattle.malloc_calls.specs.Calls.{Call, Done, Holds, Pushes, Frees}
-use Rattle.malloc_calls.specs.Going.{Told, Held, Pushed, Freed}
+use Rattle.malloc_calls.specs.Calls.{Call, Done, Holds, Pushes, Frees, Unmaps, Remaps}
+use Rattle.malloc_calls.specs.Going.{Told, Held, Pushed, Freed, Unmapped, Remapped}
 
 -- an entry of this act, in this line, that ended as the rules do by its answers
 pub record IsEntryOf (t : Tunables) (who : Who) (act : Act) (before : Plain) (entry : Recorded) : Type 0 where
@@ -28,4 +28,6 @@ Obeys t who (Holds a act cache next) (Held a' place before entry ∷ told) resul
     × Obeys t who (next place entry.ended (cache_after before.number (rules_of t act before) entry.said cache)) told result
 Obeys t who (Pushes b c) (Pushed b' ∷ told) result = (b' ≡ b) × Obeys t who c told result
 Obeys t who (Frees b c) (Freed threshold ∷ told) result = Obeys t who c told result
+Obeys t who (Unmaps b c) (Unmapped ∷ told) result = Obeys t who c told result
+Obeys t who (Remaps b len next) (Remapped start ∷ told) result = Obeys t who (next start) told result
 Obeys t who c told result = ⊥

@@ -1,11 +1,11 @@
 -- Where a thread's calls find arenas, fast bins and the words beside them, as contracts see it (this project's own form).
-use Rattle.std.specs.Prelude.{◌≡◌, ℕ, ◌+◌, ◌-◌, ◌≤◌, ◌&&◌, nat_le, Bool, false, true, List, Option, Some, None, is_some, IsTrue, sum_by, if◌then◌else◌}
+use Rattle.std.specs.Prelude.{◌≡◌, ℕ, ◌+◌, ◌-◌, ◌^◌, ◌<◌, ◌≤◌, ◌&&◌, nat_le, Bool, false, true, List, Option, Some, None, is_some, IsTrue, sum_by, if◌then◌else◌}
 use Rattle.chunk_tags.specs.declared.block.Block.{Block}
 use Rattle.chunk_tags.specs.declared.tiles.Chunk.{Chunk}
 use Rattle.chunk_tags.specs.declared.tunables.Tunables.{Tunables}
 use Rattle.address_space.specs.declared.space.Space.{Space}
 use Rattle.address_space.specs.Spaces.{map_length, map_start}
-use Rattle.mapped_chunks.specs.DialPorts.{Dialled, Maps, Unmaps}
+use Rattle.mapped_chunks.specs.DialPorts.{Dialled, Maps, Unmaps, Remaps}
 use Rattle.mapped_chunks.specs.Mappings.{mapping_start, mapping_bytes, IsSteady}
 use Rattle.fast_bins.specs.FastPorts.{Fast}
 use Rattle.thread_cache.specs.Caches.{CacheValue, blocks_of, structure_of}
@@ -162,8 +162,13 @@ pub record IsLent {P H D : Type 0} (ways : PlaceWays P H D) (fast : Fast H) (dia
   pub backed : (hands : Hands) → ways.serves false p hands → (e : Chunk) → fast.stock port e + hands (as_chunk_of a e) ≤ times_used e k.arena
   pub maps : (own others len : ℕ) → ways.notes p own others → own + len ≤ map_length → dials.allows port (Maps len)
 
+-- another length of a mapping that a thread may ask for, so many bytes of whose window are given: a longer one fits into it
+pub record MayLengthen (b : Block) (own len : ℕ) : Type 0 where
+  pub window : map_start 0 + own < 2 ^ 64
+  pub fits : mapping_bytes b < len → own + len ≤ map_length
+
 -- what is true of places: as often the same blocks are given out, or fewer; a lent arena is such; a block of an arena that
--- is given out has its arena there; a mapped one may be counted no more
+-- is given out has its arena there; a mapped one may be counted no more, or with another length that fits its thread's window
 pub record PlaceLaws {P H D : Type 0} (ways : PlaceWays P H D) (fast : Fast H) (dials : Dialled H) (words : Dialled D) : Type 0 where
   pub apart : Apart fast dials
   pub shows : ShowsMapped fast dials ways.shown
@@ -174,3 +179,6 @@ pub record PlaceLaws {P H D : Type 0} (ways : PlaceWays P H D) (fast : Fast H) (
   pub known : (p : P) (b : Block) (others : Hands) (a : ℕ) → ways.serves false p (both_of (λ weigh. weigh b) others) → b.arena ≡ Some a → IsTrue (ways.there p a)
   pub unmaps : (p q : P) (d : D) (b : Block) (others : Hands) → ways.dials_lent p d q → ways.serves false p (both_of (λ weigh. weigh b) others) → b.arena ≡ None →
       words.allows d (Unmaps (mapping_bytes b))
+  pub remaps : (p q : P) (d : D) (b : Block) (others : Hands) (own more len : ℕ) → ways.dials_lent p d q →
+      ways.serves false p (both_of (λ weigh. weigh b) others) → b.arena ≡ None → ways.notes p own more → MayLengthen b own len →
+      words.allows d (Remaps (mapping_bytes b) len)

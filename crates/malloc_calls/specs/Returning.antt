@@ -88,12 +88,14 @@ pub record IsSettled (exact : Bool) (given got : Hands) (steps : List DialStep) 
   pub had : (unmaps_in steps).count ≤ given as_mapped
   pub had_bytes : (unmaps_in steps).bytes ≤ given as_mapped_bytes
 
--- What giving the words back keeps.
-pub record AreReturned {P H D : Type 0} (ways : PlaceWays P H D) (places : P) (steps : List DialStep) (new : P) : Type 0 where
+-- What giving the words back keeps. A mapping that becomes shorter takes nothing of its thread's window.
+pub record AreReturned {P H D : Type 0} (ways : PlaceWays P H D) (words : Dialled D) (places : P) (first : D) (steps : List DialStep) (new : P) : Type 0 where
   pub serves : (exact : Bool) (given got others : Hands) → IsSettled exact given got steps →
       ways.serves exact places (both_of given others) → ways.serves exact new (both_of got others)
   pub notes : (own own' others : ℕ) → (maps_in steps).count + own ≤ own' → (maps_in steps).bytes + own ≤ own' →
       ways.notes places own others → ways.notes new own' others
+  pub shorter : (old_len new_len own others : ℕ) → steps ≡ Remaps old_len new_len ∷ [] → words.allows first (Remaps old_len new_len) →
+      new_len ≤ old_len → ways.notes places own others → ways.notes new own others
   pub tunables : ways.tunables new ≡ ways.tunables places
   pub there : (n : ℕ) → ways.there new n ≡ ways.there places n
 
@@ -101,7 +103,7 @@ pub record AreReturned {P H D : Type 0} (ways : PlaceWays P H D) (places : P) (s
 abbrev pub ReturnsWords : {P H D : Type 0} → PlaceWays P H D → Dialled D → P → D → P → Type 0
 ReturnsWords {P} {H} {D} ways words lending d new =
     (places : P) (first : D) (steps : List DialStep) → ways.dials_lent places first lending →
-    AllSteps words first steps d → AreReturned ways places steps new
+    AllSteps words first steps d → AreReturned ways words places first steps new
 
 -- ---- room, and a push
 

@@ -1,23 +1,24 @@
 -- The places of one order of calls keep the laws of places (this project's own).
-use Rattle.std.proofs.Common.{◌≡◌, ℕ, zero, suc, ◌+◌, ◌≤◌, Bool, true, false, ◌&&◌, cond, Option, Some, None, IsTrue, refl, sym, ap, ◌∙◌, subst, arith}
+use Rattle.std.proofs.Common.{◌≡◌, ℕ, zero, suc, ◌+◌, ◌-◌, ◌*◌, ◌^◌, ◌<◌, ◌≤◌, Bool, true, false, ◌&&◌, cond, Option, Some, None, inl, inr, IsTrue, refl, sym, ap, ◌∙◌, subst, arith}
 use Rattle.std.specs.Prelude.{nat_eq, is_some}
-use Rattle.std.proofs.lemmas.Bool.{eq-eqb}
+use Rattle.std.proofs.lemmas.Bool.{eq-eqb, cases_lt}
 use Rattle.chunk_tags.specs.BinOrder.{same_chunk}
 use Rattle.chunk_tags.specs.declared.block.Block.{Block}
 use Rattle.chunk_tags.specs.declared.tiles.Chunk.{Chunk}
+use Rattle.address_space.specs.Spaces.{map_length, map_start}
 use Rattle.fast_bins.specs.PlainBins.{plain_fast}
 use Rattle.mapped_chunks.specs.DialPorts.{Maps}
 use Rattle.mapped_chunks.specs.Mappings.{mapping_bytes}
-use Rattle.mapped_chunks.specs.PlainDials.{MayUnmap, plain_dials}
+use Rattle.mapped_chunks.specs.PlainDials.{MayUnmap, MayRemap, plain_dials}
 use Rattle.mapped_chunks.specs.declared.plain.PlainDials.{PlainDials}
 use Rattle.mapped_chunks.proofs.PlainSteady.{plain_steady}
 use Rattle.arena_rules.specs.PlainArena.{times_used}
 use Rattle.arena_rules.proofs.Bins.{once_self}
 use Rattle.consolidate_trim.proofs.HoldSteps.{block_is}
-use Rattle.malloc_calls.specs.Places.{KeptArena, Hands, both_of, as_chunk_of, as_mapped, as_mapped_bytes, Covers, IsLent, PlaceLaws}
+use Rattle.malloc_calls.specs.Places.{KeptArena, Hands, both_of, as_chunk_of, as_mapped, as_mapped_bytes, Covers, IsLent, MayLengthen, PlaceLaws}
 use Rattle.malloc_calls.specs.Joined.{joined_fast, joined_dials}
 use Rattle.malloc_calls.specs.Playing.{PlainPort}
-use Rattle.malloc_calls.specs.SerialWays.{SerialState, Serves, LentMain, DialsOut, IsKeptMain, is_there, serial_ways, mapped_in_words}
+use Rattle.malloc_calls.specs.SerialWays.{SerialState, Serves, Notes, LentMain, DialsOut, IsKeptMain, is_there, serial_ways, mapped_in_words}
 
 pub covers_same : (exact : Bool) (n m k : ℕ) → m ≡ n → Covers exact n k → Covers exact m k
 covers_same true n m k e c = e ∙ c
@@ -100,6 +101,23 @@ unmaps p q d b others h s e =
     let o : s.port.dials ≡ d = ap (λ (x : PlainPort). x.dials) (same_some s.port h.port s.port_at h.port_at) ∙ sym h.told in
     subst (λ (x : PlainDials). MayUnmap x.state (mapping_bytes b)) o (record { count = omega (arith, s.count, mapped_one b e); bytes = omega (arith, s.bytes, mapped_all b e) })
 
+-- the bytes that are counted then pass no 64 bits
+remapped_bytes : (old_len len bytes own more : ℕ) → old_len ≤ bytes → bytes ≤ own + more → more ≤ 63 * map_length → map_start 0 + own < 2 ^ 64 → (old_len < len → own + len ≤ map_length) →
+    bytes - old_len + len < 2 ^ 64
+remapped_bytes old_len len bytes own more counted most windows below fits = elim (cases_lt old_len len) [
+  | inl lt ↦ omega (arith, most, windows, fits lt)
+  | inr ge ↦ omega (arith, counted, most, windows, below, ge)
+]
+
+remaps : (p q : SerialState) (d : PlainDials) (b : Block) (others : Hands) (own more len : ℕ) → DialsOut p d q → Serves false p (both_of (λ weigh. weigh b) others) → b.arena ≡ None →
+    Notes p own more → MayLengthen b own len → MayRemap d.state (mapping_bytes b) len
+remaps p q d b others own more len h s e n may =
+    let o : s.port.dials ≡ d = ap (λ (x : PlainPort). x.dials) (same_some s.port h.port s.port_at h.port_at) ∙ sym h.told in
+    let m : n.port.dials ≡ d = ap (λ (x : PlainPort). x.dials) (same_some n.port h.port n.port_at h.port_at) ∙ sym h.told in
+    let most : d.state.bytes ≤ own + more = omega (arith, n.bytes, ap (λ (x : PlainDials). x.state.bytes) m) in
+    let counted : mapping_bytes b ≤ d.state.bytes = omega (arith, s.bytes, mapped_all b e, ap (λ (x : PlainDials). x.state.bytes) o) in
+    record { counted = counted; bytes = remapped_bytes (mapping_bytes b) len d.state.bytes own more counted most n.windows may.window may.fits }
+
 pub serial_laws : PlaceLaws (serial_ways (λ (s : SerialState). s)) (joined_fast plain_fast) (joined_dials plain_dials) plain_dials
 serial_laws = record {
   apart = record {
@@ -121,4 +139,5 @@ serial_laws = record {
   lends = lends;
   known = known;
   unmaps = unmaps;
+  remaps = remaps;
 }

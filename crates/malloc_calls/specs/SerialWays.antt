@@ -8,13 +8,13 @@ use Rattle.chunk_tags.specs.declared.tiles.Chunk.{Chunk}
 use Rattle.chunk_tags.specs.declared.tunables.Tunables.{Tunables}
 use Rattle.address_space.specs.declared.space.Space.{Space}
 use Rattle.address_space.specs.Ports.{Port}
-use Rattle.address_space.specs.Spaces.{map_length}
+use Rattle.address_space.specs.Spaces.{map_length, space_remap_place, space_remapped}
 use Rattle.fast_bins.specs.FastPorts as fasts
 use Rattle.fast_bins.specs.FastPorts.{HasRoom}
 use Rattle.fast_bins.specs.PlainBins as bins
 use Rattle.fast_bins.specs.PlainBins.{FastState, state_of, empty_state, plain_fast}
 use Rattle.mapped_chunks.specs.DialPorts as dials
-use Rattle.mapped_chunks.specs.Mappings.{unmapping, freeing_steps}
+use Rattle.mapped_chunks.specs.Mappings.{unmapping, freeing_steps, mapping_bytes, mapping_change}
 use Rattle.mapped_chunks.specs.PlainDials as words
 use Rattle.mapped_chunks.specs.PlainDials.{plain_dials}
 use Rattle.mapped_chunks.specs.declared.plain.DialState.{DialState}
@@ -33,7 +33,7 @@ use Rattle.arena_rules.specs.Growth.{Took}
 use Rattle.malloc_calls.specs.Playing.{HoldWorld, PlainPort, plain_means, PlayedHold, played_hold}
 use Rattle.malloc_calls.specs.Places.{KeptArena, with_journal, kept_of, new_arena, Hands, as_chunk_of, as_mapped, as_mapped_bytes, Covers, PlaceWays, Setting, setting}
 use Rattle.malloc_calls.specs.Joined.{joined_fast}
-use Rattle.malloc_calls.specs.Calls.{Call, Done, Holds, Pushes, Frees}
+use Rattle.malloc_calls.specs.Calls.{Call, Done, Holds, Pushes, Frees, Unmaps, Remaps}
 
 -- main between holds, or None while it is lent; its port so too; and the tunables
 pub record SerialState : Type 0 where
@@ -223,11 +223,31 @@ abbrev pub after_steps : List dials.DialStep → DialState → DialState
 after_steps [] d = d
 after_steps (s ∷ ss) d = after_steps ss (words.after_step s d)
 
--- the world when a mapped chunk was freed
-abbrev pub world_freed : {K : Type 0} → Port K → Tunables → Block → SerialWorld K → SerialWorld K
-world_freed port t b w = record w {
-  dials = after_steps (freeing_steps t.dynamic b w.dials.mmap_threshold) w.dials;
+-- the world when a mapping went back, with these steps at the words
+abbrev pub world_unmapped : {K : Type 0} → Port K → Block → List dials.DialStep → SerialWorld K → SerialWorld K
+world_unmapped port b steps w = record w {
+  dials = after_steps steps w.dials;
   space = record w.space { kernel = port.given w.space.kernel (unmapping b) };
+}
+
+-- when a mapped chunk was freed
+abbrev pub world_freed : {K : Type 0} → Port K → Tunables → Block → SerialWorld K → SerialWorld K
+world_freed port t b w = world_unmapped port b (freeing_steps t.dynamic b w.dials.mmap_threshold) w
+
+-- where a mapping begins when another length was asked for, or `None` where that is refused
+abbrev pub remap_start : {K : Type 0} → Port K → Block → ℕ → SerialWorld K → Option ℕ
+remap_start port b len w = space_remap_place port w.space (mapping_change b len)
+
+-- the words when another length was granted, or refused
+abbrev pub remap_words : Block → ℕ → Option ℕ → DialState → DialState
+remap_words b len None d = d
+remap_words b len (Some start) d = words.after_step (dials.Remaps (mapping_bytes b) len) d
+
+-- the world then
+abbrev pub world_remapped : {K : Type 0} → Port K → Block → ℕ → SerialWorld K → SerialWorld K
+world_remapped port b len w = record w {
+  dials = remap_words b len (remap_start port b len w) w.dials;
+  space = space_remapped port w.space (mapping_change b len);
 }
 
 -- A call from a world on: its result, and the world. There is no arena but main to hold.
@@ -242,3 +262,6 @@ played_call port t who (Holds a act cache next) w =
 played_call port t who (Pushes b c) w =
     played_call port t who c (record w { bins = bins.after_step (fasts.Pushes (fast_index_of b.size) b.addr) w.bins })
 played_call port t who (Frees b c) w = played_call port t who c (world_freed port t b w)
+played_call port t who (Unmaps b c) w = played_call port t who c (world_unmapped port b (dials.Unmaps (mapping_bytes b) ∷ []) w)
+played_call port t who (Remaps b len next) w =
+    played_call port t who (next (remap_start port b len w)) (world_remapped port b len w)

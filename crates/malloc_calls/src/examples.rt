@@ -2,7 +2,8 @@
 
 ghost use Rattle.std.specs.Prelude.{◌≡◌, ◌^◌, [], ◌∷◌};
 ghost use Rattle.chunk_tags.specs.Tunables.{serial_values};
-ghost use Rattle.malloc_calls.specs.Calls.{malloc_call, free_call};
+ghost use Rattle.malloc_calls.specs.Mallocs.{malloc_call};
+ghost use Rattle.malloc_calls.specs.Frees.{free_call};
 ghost use Rattle.malloc_calls.specs.Examples.{replies};
 ghost use Rattle.malloc_calls.specs.declared.reply.Reply.TheVariants.{Got, Null, Freed, NotYours};
 ghost use Rattle.malloc_calls.specs.declared.reply.Origin.TheVariants as origins;

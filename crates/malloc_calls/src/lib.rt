@@ -1,6 +1,6 @@
-//! The calls of a thread: which of its blocks, caches and arenas answer them. `Thread::malloc` and `free` go through
-//! their trees (`Calls`) over any `Places`; `Serial` has those of one order of calls. Their main promise is the clause
-//! `does`.
+//! The calls of a thread: which of its blocks, its cache and arenas answer them. Their main promise is the clause `does`:
+//! `Thread::malloc`, `calloc`, `posix_memalign`, `realloc` and `free` go through their trees (`Mallocs`, `Reallocs`, `Frees`)
+//! over any `Places`. `Serial` has the places of one order of calls.
 #![tactic(auto)]
 
 mod both;
@@ -10,12 +10,16 @@ mod examples;
 mod free;
 mod holding;
 mod malloc;
+mod mapping;
 mod names;
 mod opening;
 mod own;
 mod places;
+mod realloc;
+mod releasing;
 mod reply;
 mod serial;
+mod supplying;
 mod thread;
 
 pub use both::Both;

@@ -1,55 +1,69 @@
-//! malloc.
+//! The calls that give a name a block: malloc, calloc, posix_memalign.
 
-ghost use Rattle.std.specs.Prelude.{◌≡◌, ◌<◌, None, Ok, IfOk, OnErr, IfSome, is_ok, length};
-ghost use Rattle.chunk_tags.specs.Sizes.{IsRequestSize, chunk_size_of, padded_request};
+ghost use Rattle.std.specs.Prelude.{◌≡◌, ◌*◌, ◌<◌, ◌≤◌, ◌^◌, ◌+◌, ◌-◌, None, Ok, IfOk, OnErr, IsSome, IfSome, is_ok, length, true, false};
+ghost use Rattle.chunk_tags.specs.Sizes.{chunk_size_of, padded_request};
 ghost use Rattle.chunk_tags.specs.Tunables.{IsTuned};
 ghost use Rattle.address_space.specs.Ports.{Rose};
 ghost use Rattle.address_space.specs.Spaces.{space_refusals};
+ghost use Rattle.arena_core.specs.Replay.{has_lead_in_range};
 ghost use Rattle.consolidate_trim.specs.Outside.{means};
 ghost use Rattle.malloc_calls.specs.Names.{IsHeld, block_at};
-ghost use Rattle.malloc_calls.specs.Calls.{from_arena, from_cache, malloc_call, origin_of, reply_of, names_with, FitsName};
+ghost use Rattle.malloc_calls.specs.Calls.{FitsName, reply_of, names_with};
+ghost use Rattle.malloc_calls.specs.Mallocs.{malloc_call, calloc_call, posix_memalign_call, is_memalign, IsAlignedName};
 ghost use Rattle.malloc_calls.specs.declared.reply.Reply.TheVariants.{Null};
-ghost use Rattle.malloc_calls.specs.declared.reply.Why.TheVariants.{Big, Refused};
+ghost use Rattle.malloc_calls.specs.declared.reply.Why.TheVariants.{Big, Align, Refused};
 ghost use Rattle.malloc_calls.specs.Going.{Does};
-ghost use Rattle.malloc_calls.specs.Own.{newest_of_size};
 ghost use Rattle.malloc_calls.specs.Places.{setting, IsServed, Carries, standing, in_own};
 
-use crate::holding::{Search, take_held};
 use crate::names::Names;
-use crate::opening::{MAIN, open_cache};
-use crate::own::{Own, take_newest};
+use crate::own::Own;
 use crate::places::Places;
-use crate::reply::{Origin, Reply, Why};
+use crate::reply::{Reply, Why};
+use crate::supplying::{Supply, aligned_supply, fresh_supply, plain_supply};
 use address_space::{Kernel, Space};
 use arena_core::Who;
-use chunk_tags::{Block, NoMemory, Size, Tunables, request_size};
+use chunk_tags::{MAX_REQUEST, NoMemory, Size, Tunables, request_size};
 use std::alloc::Global;
 
-/// Where a block of a hold came from.
-fn origin(hold: u64, block: &Block) -> Origin
-    ensures { result ≡ origin_of hold block.now }
+/// The alignment of each chunk's user address.
+const LEAST_ALIGNMENT: u64 = 16;
+
+/// The chunk size of a product, where that isn't above `MAX_REQUEST`.
+fn product_size(n: u64, size: u64) -> Option<Size>
+    ensures { result ≡ padded_request (n * size) }
 {
-    match block.arena {
-        None => Origin::Mapped,
-        Some(a) => Origin::Arena { a, hold },
-    }
+    request_size(n.checked_mul(size)?)
 }
 
-/// Gives the block of a hold a name, where there is one, and answers so.
-fn answer(names: &mut Names, name: u32, hold: u64, block: Option<Block>) -> Reply
+/// Whether posix_memalign takes an alignment: a power of two that is a multiple of a pointer's size.
+fn is_memalign(align: u64) -> bool
+    ensures { result ≡ is_memalign align }
+{
+    align.is_power_of_two() && align % 8 == 0
+}
+
+/// Whether the request with room for a lead isn't too big.
+fn has_lead_in_range(align: u64, nb: Size) -> bool
+    ensures { result ≡ has_lead_in_range align nb }
+{
+    nb.0 <= MAX_REQUEST && align <= MAX_REQUEST - nb.0 && 32 <= MAX_REQUEST - nb.0 - align
+}
+
+/// Gives what was got a name, where there is a block, and answers so.
+pub fn answer(names: &mut Names, name: u32, got: Option<Supply>) -> Reply
     requires room { name < length names.old }
     requires empty { block_at names.old name ≡ None }
-    requires held { IfSome block IsHeld }
-    ensures reply { result ≡ reply_of hold block }
-    ensures names { names.new ≡ names_with name block names.old }
+    requires held { IfSome got (λ g. IsHeld g.block) }
+    ensures reply { result ≡ reply_of got }
+    ensures names { names.new ≡ names_with name got names.old }
 {
-    match block {
+    match got {
         None => Reply::Null(Why::Refused),
-        Some(block) => {
+        Some(Supply { block, from }) => {
             let reply = Reply::Got {
                 addr: block.addr,
                 size: block.size,
-                from: origin(hold, &block),
+                from,
             };
             names.put(name, block);
             reply
@@ -57,38 +71,8 @@ fn answer(names: &mut Names, name: u32, hold: u64, block: Option<Block>) -> Repl
     }
 }
 
-/// A chunk from main.
-fn malloc_from_main<P: Places, K: Kernel>(
-    own: &mut Own,
-    alloc: Global,
-    p: &mut P,
-    who: &Who,
-    name: u32,
-    nb: Size,
-    space: &mut Space<K>,
-    t: &Tunables,
-) -> Result<Reply, NoMemory>
-    requires room { name < length own.old.names }
-    requires empty { block_at own.old.names name ≡ None }
-    requires size { IsRequestSize nb }
-    requires tuned { IsTuned t.now }
-    requires served { IsServed P.ways t.now (in_own own.old) (standing p.old space.old) }
-    ensures does { IfOk result (λ reply.
-        Does (setting P.ways (means P.Hold.fast P.Hold.dials K.port) P.Dial.dials) t.now who.now (from_arena 0 name nb own.old)
-        (standing p.old space.old) (reply, own.new) (standing p.new space.new)) }
-    ensures fits { IfOk result (λ _. FitsName nb name own.new.names) }
-    ensures refused { IfOk result (λ reply. reply ≡ Null Refused
-        → Rose (space_refusals K.port space.old) (space_refusals K.port space.new)) }
-    ensures carries { Carries P.ways (is_ok result) (in_own own.old) (standing p.old space.old)
-        (in_own own.new) (standing p.new space.new) }
-    ensures names { OnErr result (own.new.names ≡ own.old.names) }
-{
-    let Search { hold, block } = take_held(alloc, p, MAIN, who, nb, &mut own.cache, space, t)?;
-    Ok(answer(&mut own.names, name, hold, block))
-}
-
-/// malloc of a size, under a name that holds nothing: the newest chunk of its list in the cache, else one from main (glibc's
-/// `__libc_malloc`). After `NoMemory` the names hold what they held; it never comes where the size is too big.
+/// malloc of a size, under a name that holds nothing (glibc's `__libc_malloc`). After `NoMemory` the names hold what they held;
+/// it never comes where the size is too big.
 pub fn malloc<P: Places, K: Kernel>(
     own: &mut Own,
     alloc: Global,
@@ -114,52 +98,94 @@ pub fn malloc<P: Places, K: Kernel>(
         (in_own own.new) (standing p.new space.new) }
     ensures names { OnErr result (own.new.names ≡ own.old.names) }
 {
-    match request_size(size) {
-        None => Ok(Reply::Null(Why::Big)),
-        Some(nb) => {
-            open_cache(&mut own.cache, alloc, p, who, space, t)?;
-            malloc_open(own, alloc, p, who, name, nb, space, t)
-        }
-    }
+    let Some(nb) = request_size(size) else {
+        return Ok(Reply::Null(Why::Big));
+    };
+    let got = plain_supply(&mut own.cache, alloc, p, who, nb, space, t)?;
+    Ok(answer(&mut own.names, name, got))
 }
 
-/// The newest chunk of its list in the cache, else one from main.
-fn malloc_open<P: Places, K: Kernel>(
+/// calloc of `n` members of a size, under a name that holds nothing (glibc's `__libc_calloc`): malloc of the product, past the
+/// cache. After `NoMemory` the names hold what they held; it never comes where the product is too big.
+pub fn calloc<P: Places, K: Kernel>(
     own: &mut Own,
     alloc: Global,
     p: &mut P,
     who: &Who,
     name: u32,
-    nb: Size,
+    n: u64,
+    size: u64,
     space: &mut Space<K>,
     t: &Tunables,
 ) -> Result<Reply, NoMemory>
     requires room { name < length own.old.names }
     requires empty { block_at own.old.names name ≡ None }
-    requires size { IsRequestSize nb }
     requires tuned { IsTuned t.now }
     requires served { IsServed P.ways t.now (in_own own.old) (standing p.old space.old) }
     ensures does { IfOk result (λ reply.
-        Does (setting P.ways (means P.Hold.fast P.Hold.dials K.port) P.Dial.dials) t.now who.now
-        (from_cache 0 name nb (newest_of_size nb own.old.cache) own.old)
+        Does (setting P.ways (means P.Hold.fast P.Hold.dials K.port) P.Dial.dials) t.now who.now (calloc_call t.now 0 name n size own.old)
         (standing p.old space.old) (reply, own.new) (standing p.new space.new)) }
-    ensures fits { IfOk result (λ _. FitsName nb name own.new.names) }
+    ensures big { padded_request (n * size) ≡ None → result ≡ Ok (Null Big) }
+    ensures fits { IfOk result (λ _. FitsName (chunk_size_of (n * size)) name own.new.names) }
     ensures refused { IfOk result (λ reply. reply ≡ Null Refused
         → Rose (space_refusals K.port space.old) (space_refusals K.port space.new)) }
     ensures carries { Carries P.ways (is_ok result) (in_own own.old) (standing p.old space.old)
         (in_own own.new) (standing p.new space.new) }
     ensures names { OnErr result (own.new.names ≡ own.old.names) }
 {
-    match take_newest(&mut own.cache, nb) {
-        None => malloc_from_main(own, alloc, p, who, name, nb, space, t),
-        Some(block) => {
-            let reply = Reply::Got {
-                addr: block.addr,
-                size: block.size,
-                from: Origin::Cached,
-            };
-            own.names.put(name, block);
-            Ok(reply)
-        }
+    let Some(nb) = product_size(n, size) else {
+        return Ok(Reply::Null(Why::Big));
+    };
+    let got = fresh_supply(&mut own.cache, alloc, p, who, nb, space, t)?;
+    Ok(answer(&mut own.names, name, got))
+}
+
+/// posix_memalign of a size, under a name that holds nothing (glibc's `__posix_memalign`): from an alignment of 32 on the user
+/// address of the block is a multiple of it. After `NoMemory` the names hold what they held; it never comes where the size or
+/// the alignment is refused.
+pub fn posix_memalign<P: Places, K: Kernel>(
+    own: &mut Own,
+    alloc: Global,
+    p: &mut P,
+    who: &Who,
+    name: u32,
+    align: u64,
+    size: u64,
+    space: &mut Space<K>,
+    t: &Tunables,
+) -> Result<Reply, NoMemory>
+    requires room { name < length own.old.names }
+    requires empty { block_at own.old.names name ≡ None }
+    requires tuned { IsTuned t.now }
+    requires served { IsServed P.ways t.now (in_own own.old) (standing p.old space.old) }
+    ensures does { IfOk result (λ reply.
+        Does (setting P.ways (means P.Hold.fast P.Hold.dials K.port) P.Dial.dials) t.now who.now (posix_memalign_call t.now 0 name align size own.old)
+        (standing p.old space.old) (reply, own.new) (standing p.new space.new)) }
+    ensures big { padded_request size ≡ None → result ≡ Ok (Null Big) }
+    ensures fits { IfOk result (λ _. FitsName (chunk_size_of size) name own.new.names) }
+    ensures align { IsSome (padded_request size) → is_memalign align ≡ false → result ≡ Ok (Null Align) }
+    ensures lead { IsSome (padded_request size) → is_memalign align ≡ true → 16 < align
+        → has_lead_in_range align (chunk_size_of size) ≡ false → result ≡ Ok (Null Big) }
+    ensures aligned { 16 < align → IfOk result (λ _. IsAlignedName align name own.new.names) }
+    ensures refused { IfOk result (λ reply. reply ≡ Null Refused
+        → Rose (space_refusals K.port space.old) (space_refusals K.port space.new)) }
+    ensures carries { Carries P.ways (is_ok result) (in_own own.old) (standing p.old space.old)
+        (in_own own.new) (standing p.new space.new) }
+    ensures names { OnErr result (own.new.names ≡ own.old.names) }
+{
+    let Some(nb) = request_size(size) else {
+        return Ok(Reply::Null(Why::Big));
+    };
+    if !is_memalign(align) {
+        return Ok(Reply::Null(Why::Align));
     }
+    if align <= LEAST_ALIGNMENT {
+        let got = plain_supply(&mut own.cache, alloc, p, who, nb, space, t)?;
+        return Ok(answer(&mut own.names, name, got));
+    }
+    if !has_lead_in_range(align, nb) {
+        return Ok(Reply::Null(Why::Big));
+    }
+    let got = aligned_supply(&mut own.cache, alloc, p, who, align, nb, space, t)?;
+    Ok(answer(&mut own.names, name, got))
 }

@@ -16,8 +16,10 @@ pub enum Origin {
 /// Why a call has no block (this project's own).
 #[derive(Clone, Copy, Debug, PartialEq, Eq)]
 pub enum Why {
-    /// The size is past `MAX_REQUEST`.
+    /// The size, the product, or the size with room for a lead is past `MAX_REQUEST`.
     Big,
+    /// The alignment isn't a power of two that is a multiple of 8.
+    Align,
     /// The kernel refused what the search needed.
     Refused,
 }
@@ -38,13 +40,19 @@ pub enum To {
 /// What a call answers: addresses are those of chunks, sizes those of chunks in bytes (this project's own).
 #[derive(Clone, Copy, Debug, PartialEq, Eq)]
 pub enum Reply {
-    /// A block, under the name.
+    /// A block, under the name; of realloc, one that is elsewhere.
     Got {
         addr: Addr,
         size: Size,
         from: Origin,
     },
-    /// No block.
+    /// The block that the name has, where it was, with this size.
+    Kept {
+        addr: Addr,
+        size: Size,
+        from: Origin,
+    },
+    /// No block; the name holds what it held.
     Null(Why),
     /// The name holds nothing any more.
     Freed(To),

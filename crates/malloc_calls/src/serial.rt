@@ -1,12 +1,12 @@
 //! The places of one order of calls.
 
-ghost use Rattle.std.specs.Prelude.{◌≡◌, length, map, IfSome, IfOk};
+ghost use Rattle.std.specs.Prelude.{◌≡◌, length, map, option_map, Some, IfSome, IfOk};
 ghost use Rattle.chunk_tags.specs.Tunables.{IsTuned};
 ghost use Rattle.malloc_calls.specs.SerialWays.{IsKeptMain, IsIdle, IsFirst, EndsAs};
 
 use crate::both::Both;
 use crate::places::Places;
-use arena_core::Arena;
+use arena_core::{Arena, Entry};
 use arena_ground::Ground;
 use chunk_tags::{Addr, Block, NoMemory, Tunables, fast_index};
 use fast_bins::{FastPort, PlainFast};
@@ -81,6 +81,14 @@ impl Serial {
         if let Some(port) = &self.port {
             port.bins.laws();
         }
+    }
+
+    /// The journal of main, which isn't lent.
+    pub fn journal(&self) -> &[Entry]
+        requires { IsIdle self.now }
+        ensures { option_map (λ main. main.journal) self.now.main ≡ Some result.now }
+    {
+        self.main.as_ref().unwrap().journal.as_slice()
     }
 
     /// What it has at the end.

@@ -1,6 +1,6 @@
-//! A thread, and what of its calls its cache answers.
+//! A thread, and its calls.
 
-ghost use Rattle.std.specs.Prelude.{◌≡◌, ◌-◌, ◌^◌, ◌<◌, ◌≤◌, ◌⊎◌, None, Some, Ok, IsTrue, IfSome, IfOk, OnOk, OnErr, is_ok, option_copied, length};
+ghost use Rattle.std.specs.Prelude.{◌≡◌, ℕ, true, false, ◌*◌, ◌-◌, ◌^◌, ◌<◌, ◌≤◌, ◌⊎◌, IsSome, None, Some, Ok, IsTrue, IfSome, IfOk, OnOk, OnErr, is_ok, option_copied, length};
 ghost use Rattle.std.specs.Option.{option_map};
 ghost use Rattle.chunk_tags.specs.Sizes.{chunk_size_of, padded_request};
 ghost use Rattle.chunk_tags.specs.declared.block.Block.{Block as Piece};
@@ -8,10 +8,14 @@ ghost use Rattle.chunk_tags.specs.Tunables.{IsTuned};
 ghost use Rattle.address_space.specs.Ports.{Rose};
 ghost use Rattle.address_space.specs.Spaces.{space_refusals, map_place};
 ghost use Rattle.consolidate_trim.specs.Outside.{means};
-ghost use Rattle.malloc_calls.specs.Calls.{malloc_call, free_call, FitsName};
+ghost use Rattle.malloc_calls.specs.Calls.{FitsName};
+ghost use Rattle.malloc_calls.specs.Mallocs.{malloc_call, calloc_call, posix_memalign_call, is_memalign, IsAlignedName};
+ghost use Rattle.arena_core.specs.Replay.{has_lead_in_range};
+ghost use Rattle.malloc_calls.specs.Frees.{free_call};
+ghost use Rattle.malloc_calls.specs.Reallocs.{realloc_call, IfAnswered};
 ghost use Rattle.malloc_calls.specs.declared.reply.Reply.TheVariants.{Freed, NotYours, Null};
 ghost use Rattle.malloc_calls.specs.declared.reply.To.TheVariants.{Unmapped};
-ghost use Rattle.malloc_calls.specs.declared.reply.Why.TheVariants.{Big, Refused};
+ghost use Rattle.malloc_calls.specs.declared.reply.Why.TheVariants.{Big, Align, Refused};
 ghost use Rattle.malloc_calls.specs.Going.{Does};
 ghost use Rattle.malloc_calls.specs.Places.{setting, IsServed, Carries, standing, in_own};
 ghost use Rattle.malloc_calls.specs.Names.{block_at, with_places_to, with_block, without_block, IsHeld, IsTable};
@@ -19,9 +23,10 @@ ghost use Rattle.malloc_calls.specs.Own.{new_thread, number_of, who_of, own_of, 
 
 use crate::cached::CachedFree;
 use crate::free::free;
-use crate::malloc::malloc;
+use crate::malloc::{calloc, malloc, posix_memalign};
 use crate::own::Own;
 use crate::places::Places;
+use crate::realloc::realloc;
 use crate::reply::Reply;
 use address_space::{Kernel, Space};
 use arena_core::Who;
@@ -176,6 +181,164 @@ impl<K: Kernel> Thread<K> {
     {
         let who = self.who(line);
         malloc(
+            &mut self.own,
+            alloc,
+            p,
+            &who,
+            name,
+            size,
+            &mut self.space,
+            t,
+        )
+    }
+
+    /// calloc of `n` members of a size, under a name that holds nothing, in a line of the trace (glibc's `__libc_calloc`): malloc
+    /// of the product, past the cache. After `NoMemory` the names hold what they held; it never comes where the product is too
+    /// big.
+    pub fn calloc<P: Places>(
+        &mut self,
+        alloc: Global,
+        p: &mut P,
+        line: u64,
+        name: u32,
+        n: u64,
+        size: u64,
+        t: &Tunables,
+    ) -> Result<Reply, NoMemory>
+        requires room { name < length (names_of self.old) }
+        requires empty { block_at (names_of self.old) name ≡ None }
+        requires tuned { IsTuned t.now }
+        requires served { IsServed P.ways t.now (in_own (own_of self.old))
+            (standing p.old (space_of self.old)) }
+        ensures does { IfOk result (λ reply.
+            Does (setting P.ways (means P.Hold.fast P.Hold.dials K.port) P.Dial.dials) t.now
+            (who_of line self.old) (calloc_call t.now 0 name n size (own_of self.old))
+            (standing p.old (space_of self.old))
+            (reply, own_of self.new) (standing p.new (space_of self.new))) }
+        ensures big { padded_request (n * size) ≡ None → result ≡ Ok (Null Big) }
+        ensures fits { IfOk result (λ _. FitsName (chunk_size_of (n * size)) name (names_of self.new)) }
+
+        // No block is answered only where the kernel refused an ask of this call.
+        ensures refused { IfOk result (λ reply. reply ≡ Null Refused
+            → Rose (space_refusals K.port (space_of self.old))
+            (space_refusals K.port (space_of self.new))) }
+        ensures carries { Carries P.ways (is_ok result)
+            (in_own (own_of self.old)) (standing p.old (space_of self.old))
+            (in_own (own_of self.new)) (standing p.new (space_of self.new)) }
+        ensures names { OnErr result (names_of self.new ≡ names_of self.old) }
+        ensures number { number_of self.new ≡ number_of self.old }
+    {
+        let who = self.who(line);
+        calloc(
+            &mut self.own,
+            alloc,
+            p,
+            &who,
+            name,
+            n,
+            size,
+            &mut self.space,
+            t,
+        )
+    }
+
+    /// posix_memalign of a size, under a name that holds nothing, in a line of the trace (glibc's `__posix_memalign`): from an
+    /// alignment of 32 on the user address of the block is a multiple of it. After `NoMemory` the names hold what they held; it
+    /// never comes where the size or the alignment is refused.
+    pub fn posix_memalign<P: Places>(
+        &mut self,
+        alloc: Global,
+        p: &mut P,
+        line: u64,
+        name: u32,
+        align: u64,
+        size: u64,
+        t: &Tunables,
+    ) -> Result<Reply, NoMemory>
+        requires room { name < length (names_of self.old) }
+        requires empty { block_at (names_of self.old) name ≡ None }
+        requires tuned { IsTuned t.now }
+        requires served { IsServed P.ways t.now (in_own (own_of self.old))
+            (standing p.old (space_of self.old)) }
+        ensures does { IfOk result (λ reply.
+            Does (setting P.ways (means P.Hold.fast P.Hold.dials K.port) P.Dial.dials) t.now
+            (who_of line self.old) (posix_memalign_call t.now 0 name align size (own_of self.old))
+            (standing p.old (space_of self.old))
+            (reply, own_of self.new) (standing p.new (space_of self.new))) }
+        ensures big { padded_request size ≡ None → result ≡ Ok (Null Big) }
+        ensures fits { IfOk result (λ _. FitsName (chunk_size_of size) name (names_of self.new)) }
+        ensures align { IsSome (padded_request size) → is_memalign align ≡ false
+            → result ≡ Ok (Null Align) }
+        ensures lead { IsSome (padded_request size) → is_memalign align ≡ true → 16 < align
+            → has_lead_in_range align (chunk_size_of size) ≡ false → result ≡ Ok (Null Big) }
+        ensures aligned { 16 < align → IfOk result (λ _.
+            IsAlignedName align name (names_of self.new)) }
+
+        // No block is answered only where the kernel refused an ask of this call.
+        ensures refused { IfOk result (λ reply. reply ≡ Null Refused
+            → Rose (space_refusals K.port (space_of self.old))
+            (space_refusals K.port (space_of self.new))) }
+        ensures carries { Carries P.ways (is_ok result)
+            (in_own (own_of self.old)) (standing p.old (space_of self.old))
+            (in_own (own_of self.new)) (standing p.new (space_of self.new)) }
+        ensures names { OnErr result (names_of self.new ≡ names_of self.old) }
+        ensures number { number_of self.new ≡ number_of self.old }
+    {
+        let who = self.who(line);
+        posix_memalign(
+            &mut self.own,
+            alloc,
+            p,
+            &who,
+            name,
+            align,
+            size,
+            &mut self.space,
+            t,
+        )
+    }
+
+    /// realloc of a name's block, in a line of the trace (glibc's `__libc_realloc`); to 0 bytes it is freed. `NotYours` exactly
+    /// where the name holds nothing. After `NoMemory` the name holds its block, or the one that was got for it, or nothing where
+    /// it was freed; it never comes where the size is too big.
+    pub fn realloc<P: Places>(
+        &mut self,
+        alloc: Global,
+        p: &mut P,
+        line: u64,
+        name: u32,
+        size: u64,
+        t: &Tunables,
+    ) -> Result<Reply, NoMemory>
+        requires tuned { IsTuned t.now }
+        requires served { IsServed P.ways t.now (in_own (own_of self.old))
+            (standing p.old (space_of self.old)) }
+        ensures does { IfOk result (λ reply.
+            Does (setting P.ways (means P.Hold.fast P.Hold.dials K.port) P.Dial.dials) t.now
+            (who_of line self.old) (realloc_call t.now 0 name size (own_of self.old))
+            (standing p.old (space_of self.old))
+            (reply, own_of self.new) (standing p.new (space_of self.new))) }
+        ensures none { block_at (names_of self.old) name ≡ None → result ≡ Ok NotYours }
+        ensures big { IsSome (block_at (names_of self.old) name)
+            → padded_request size ≡ None → result ≡ Ok (Null Big) }
+        ensures fits { IfOk result (λ reply.
+            IfAnswered reply (FitsName (chunk_size_of size) name (names_of self.new))) }
+
+        // No block is answered only where the kernel refused an ask of this call.
+        ensures refused { IfOk result (λ reply. reply ≡ Null Refused
+            → Rose (space_refusals K.port (space_of self.old))
+            (space_refusals K.port (space_of self.new))) }
+        ensures carries { Carries P.ways (is_ok result)
+            (in_own (own_of self.old)) (standing p.old (space_of self.old))
+            (in_own (own_of self.new)) (standing p.new (space_of self.new)) }
+        ensures others { (n : ℕ) → (n ≡ name → ⊥)
+            → block_at (names_of self.new) n ≡ block_at (names_of self.old) n }
+        ensures back { (size ≡ 0 → ⊥)
+            → OnErr result (IsSome (block_at (names_of self.new) name)) }
+        ensures number { number_of self.new ≡ number_of self.old }
+    {
+        let who = self.who(line);
+        realloc(
             &mut self.own,
             alloc,
             p,

@@ -1,10 +1,11 @@
 use Rattle.std.proofs.Common.{◌≡◌, ◌∙◌, Some, refl, ap, sym, arith}
 use Rattle.chunk_tags.specs.declared.block.Block.{Block}
 use Rattle.malloc_calls.specs.Names.{block_at}
-use Rattle.malloc_calls.specs.Places.{in_own, in_cache, both_of}
+use Rattle.malloc_calls.specs.Places.{in_own, in_cache}
 use Rattle.malloc_calls.proofs.Going.{does_here}
-use Rattle.malloc_calls.proofs.Calling.{free_does, free_unmaps, carries_cache, carries_given, own_unnamed, names_after}
+use Rattle.malloc_calls.proofs.Calling.{carries_cache, carries_given, own_unnamed}
 use Rattle.malloc_calls.proofs.Carrying.{carries_err, carries_here, carries_then, carries_as, served_after, served_fewer}
+use Rattle.malloc_calls.proofs.Releases.{free_does, free_unmaps}
 use Rattle.malloc_calls.proofs.free.free.Goals as goal
 
 pub returns-in_default-clause-does : goal.returns-in_default-clause-does
@@ -23,25 +24,14 @@ returns-in_err-open_cache-in-Some-arena-clause-carries g c =
 
 pub free_chunk-requires-clause-served : goal.free_chunk-requires-clause-served
 free_chunk-requires-clause-served g c = λ k l.
-    let b = c.unwrap-block-in-Some-arena.result in
-    let at : block_at c.args.own.now.names c.args.name ≡ Some b = cc in
-    let left = c.take-in-Some-arena.new.self in
-    let cache = c.open_cache.new.cache in
-    served_fewer g.met.P.Places.laws.fewer (both_of (λ weigh. weigh b) (in_own (record { cache = cache; names = left })))
-    (λ w. omega (arith, own_unnamed (record { cache = cache; names = c.args.own.now.names }) c.args.name b cache left at refl c.take-in-Some-arena.ensures.rest w))
-    (served_after g.met.P.Places.laws.same c.requires.served
-    (carries_cache g.met.P.Places.laws.same c.args.own.now.cache cache c.args.own.now.names c.in_ok-open_cache-in-Some-arena.ensures.carries))
+    served_after g.met.P.Places.laws.same c.requires.served
+    (carries_cache g.met.P.Places.laws.same c.args.own.now.cache c.open_cache.new.cache c.args.own.now.names c.in_ok-open_cache-in-Some-arena.ensures.carries)
 
 pub returns-in_ok-open_cache-in-Some-arena-clause-carries : goal.returns-in_ok-open_cache-in-Some-arena-clause-carries
 returns-in_ok-open_cache-in-Some-arena-clause-carries g c =
-    let b = c.unwrap-block-in-Some-arena.result in
-    let at : block_at c.args.own.now.names c.args.name ≡ Some b = cc in
-    let left = c.take-in-Some-arena.new.self in
-    let cache = c.open_cache.new.cache in
-    carries_then (carries_cache g.met.P.Places.laws.same c.args.own.now.cache cache c.args.own.now.names c.in_ok-open_cache-in-Some-arena.ensures.carries)
-    (carries_as g.met.P.Places.laws.same (in_own (record { cache = cache; names = c.args.own.now.names })) _
-    (λ w. own_unnamed (record { cache = cache; names = c.args.own.now.names }) c.args.name b cache left at refl c.take-in-Some-arena.ensures.rest w) (λ w. refl)
-    c.free_chunk.ensures.carries)
+    carries_then
+    (carries_cache g.met.P.Places.laws.same c.args.own.now.cache c.open_cache.new.cache c.args.own.now.names c.in_ok-open_cache-in-Some-arena.ensures.carries)
+    c.free_chunk.ensures.carries
 
 pub free_mapped-requires-clause-served : goal.free_mapped-requires-clause-served
 free_mapped-requires-clause-served g c = λ k l.
@@ -62,20 +52,10 @@ returns-in-None-clause-carries g c =
     let own = record c.args.own.now { names = c.take.new.self } in
     carries_as g.met.P.Places.laws.same (in_own c.args.own.now) (in_own own)
     (λ w. own_unnamed c.args.own.now c.args.name c.unwrap-block.result c.args.own.now.cache c.take.new.self at refl c.take.ensures.rest w) (λ w. refl)
-    (carries_given g.met.P.Places.laws.same c.unwrap-block.result own c.free_mapped.ensures.frees.carries)
+    (carries_given g.met.P.Places.laws.same c.unwrap-block.result (in_own own) c.free_mapped.ensures.frees.carries)
 
 pub returns-in_ok-open_cache-in-Some-arena-clause-does : goal.returns-in_ok-open_cache-in-Some-arena-clause-does
 returns-in_ok-open_cache-in-Some-arena-clause-does g c =
-    let b = c.unwrap-block-in-Some-arena.result in
-    let at : block_at c.args.own.now.names c.args.name ≡ Some b = cc in
-    let same : b ≡ c.in-Some.named.now = cc c.in-Some.ensures.block in
-    free_does _ _ _ _ _ _ c.in-Some-arena.a c.args.name b c.args.own.now c.open_cache.new.cache c.take-in-Some-arena.new.self c.free_chunk.result
-    c.free_chunk.new.own at (ap (λ (x : Block). x.arena) same ∙ c.in-Some-arena.is) c.take-in-Some-arena.ensures.rest
-    c.in_ok-open_cache-in-Some-arena.ensures.does c.free_chunk.ensures.does
-
-pub returns-in_ok-open_cache-in-Some-arena-clause-names : goal.returns-in_ok-open_cache-in-Some-arena-clause-names
-returns-in_ok-open_cache-in-Some-arena-clause-names g c =
-    let b = c.unwrap-block-in-Some-arena.result in
-    let at : block_at c.args.own.now.names c.args.name ≡ Some b = cc in
-    names_after c.free_chunk.result c.args.name b c.args.own.now.names c.take-in-Some-arena.new.self c.free_chunk.new.own.names at
-    c.take-in-Some-arena.ensures.rest c.free_chunk.ensures.names
+    let at : block_at c.args.own.now.names c.args.name ≡ Some c.in-Some.named.now = sym c.in-Some.ensures.block in
+    free_does _ _ _ _ _ _ c.in-Some-arena.a c.args.name c.in-Some.named.now c.args.own.now c.open_cache.new.cache c.free_chunk.result
+    c.free_chunk.new.own at c.in-Some-arena.is c.in_ok-open_cache-in-Some-arena.ensures.does c.free_chunk.ensures.does

@@ -1,22 +1,40 @@
-use Rattle.std.proofs.Common.{refl, sym, arith}
-use Rattle.malloc_calls.specs.Places.{in_own, both_of}
-use Rattle.malloc_calls.proofs.Calling.{to_cache_cached, to_cache_past}
-use Rattle.malloc_calls.proofs.Carrying.{carries_here, carries_as}
-use Rattle.malloc_calls.proofs.Weights.{in_cache-put}
+use Rattle.std.proofs.Common.{◌≡◌, Some, refl, arith}
+use Rattle.malloc_calls.specs.Names.{IsHeld, block_at}
+use Rattle.malloc_calls.specs.Places.{both_of, in_cache}
+use Rattle.malloc_calls.proofs.Calling.{own_unnamed, carries_unnamed}
+use Rattle.malloc_calls.proofs.Carrying.{served_fewer}
+use Rattle.malloc_calls.proofs.Releases.{freed_to, back_carries, back_names, back_held, held_some}
 use Rattle.malloc_calls.proofs.free.free_chunk.Goals as goal
 
+pub release-requires-clause-served : goal.release-requires-clause-served
+release-requires-clause-served g c = λ k l.
+    let b = c.unwrap-block.result in
+    let at : block_at c.args.own.now.names c.args.name ≡ Some b = cc in
+    served_fewer g.met.P.Places.laws.fewer (both_of (λ weigh. weigh b) (in_cache c.args.own.now.cache))
+    (λ w. omega (arith, own_unnamed c.args.own.now c.args.name b c.args.own.now.cache c.take.new.self at refl c.take.ensures.rest w)) c.requires.served
+
+pub put_back-requires-clause-held : goal.put_back-requires-clause-held
+put_back-requires-clause-held g c = back_held c.unwrap-block.result c.in-Err.short.back (held_some IsHeld c.take.ensures.held c.unwrap-block.ensures) c.in-Err.ensures.short.same
+
 pub returns-in-Ok-clause-does : goal.returns-in-Ok-clause-does
-returns-in-Ok-clause-does g c =
-    to_cache_cached c.args.a c.args.block c.args.own.now c.put.new.self (sym c.in-Ok.ensures.taken) c.in-Ok.ensures.ok
+returns-in-Ok-clause-does g c = λ b at.
+    let same : c.unwrap-block.result ≡ b = cc in
+    freed_to c.args.a c.args.name b c.unwrap-block.result c.args.own.now c.take.new.self c.in-Ok.to c.release.new.cache same c.take.ensures.rest c.in-Ok.ensures.releases
 
 pub returns-in-Ok-clause-carries : goal.returns-in-Ok-clause-carries
 returns-in-Ok-clause-carries g c =
-    rw c.in-Ok.ensures.ok
-    (carries_as g.met.P.Places.laws.same (both_of (λ weigh. weigh c.args.block) (in_own c.args.own.now)) _ (λ w. refl)
-    (λ w. omega (arith, in_cache-put c.args.own.now.cache c.args.block (sym c.in-Ok.ensures.taken) (rw c.in-Ok.ensures.ok at c.in-Ok.ensures.sound) w))
-    (carries_here g.P.Places.ways _ (both_of (λ weigh. weigh c.args.block) (in_own c.args.own.now)) _))
+    let at : block_at c.args.own.now.names c.args.name ≡ Some c.unwrap-block.result = cc in
+    carries_unnamed g.met.P.Places.laws.same c.args.name c.unwrap-block.result c.args.own.now c.release.new.cache c.take.new.self at c.take.ensures.rest
+    c.in-Ok.ensures.releases.carries
 
-pub returns-in-Err-clause-does : goal.returns-in-Err-clause-does
-returns-in-Err-clause-does g c =
-    to_cache_past _ _ _ _ _ c.args.a c.args.block c.in-Err.back c.args.own.now c.put.new.self c.free_past_cache.result c.free_past_cache.new.own
-    (sym c.in-Err.ensures.taken) c.in-Err.ensures.unchanged c.in-Err.ensures.err c.free_past_cache.ensures.does
+pub returns-in-Err-clause-carries : goal.returns-in-Err-clause-carries
+returns-in-Err-clause-carries g c =
+    let at : block_at c.args.own.now.names c.args.name ≡ Some c.unwrap-block.result = cc in
+    back_carries c.args.name c.unwrap-block.result c.args.own.now c.release.new.cache c.in-Err.short.back c.take.new.self c.put_back.new.names g.met.P.Places.laws.same at
+    c.take.ensures.rest c.put_back.ensures c.in-Err.ensures.short.carries
+
+pub returns-in-Err-clause-names : goal.returns-in-Err-clause-names
+returns-in-Err-clause-names g c =
+    let at : block_at c.args.own.now.names c.args.name ≡ Some c.unwrap-block.result = cc in
+    back_names c.args.name c.unwrap-block.result c.in-Err.short.back c.args.own.now.names c.take.new.self c.put_back.new.names at c.take.ensures.rest
+    c.in-Err.ensures.short.same c.put_back.ensures

@@ -1,5 +1,5 @@
 use Rattle.malloc_calls.proofs.Carrying.{unseen_then, unseen_keeps}
-use Rattle.malloc_calls.proofs.free.push_fast.Goals as goal
+use Rattle.malloc_calls.proofs.releasing.push_fast.Goals as goal
 
 pub push-requires-clause-served : goal.push-requires-clause-served
 push-requires-clause-served g c = unseen_keeps g.met.P.Places.laws.same c.make_room.ensures.unseen c.requires.served

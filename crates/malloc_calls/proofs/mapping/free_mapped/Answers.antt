@@ -1,14 +1,11 @@
-use Rattle.std.proofs.Common.{arith}
 use Rattle.consolidate_trim.specs.Outside.{means}
-use Rattle.malloc_calls.specs.Places.{setting, standing, both_of}
-use Rattle.malloc_calls.proofs.Unmapped.{frees_mapped}
-use Rattle.malloc_calls.proofs.holding.free_mapped.Goals as goal
+use Rattle.malloc_calls.specs.Places.{setting, standing}
+use Rattle.malloc_calls.proofs.Unmapped.{frees_mapped, may_unmap}
+use Rattle.malloc_calls.proofs.mapping.free_mapped.Goals as goal
 
 pub unmap_freed-requires-clause-counted : goal.unmap_freed-requires-clause-counted
 unmap_freed-requires-clause-counted g c = λ k l.
-    let laws = g.met.P.Places.laws in
-    laws.unmaps c.args.p.now c.dial_out-dials.new.self c.dial_out-dials.result c.args.b (λ _. 0) c.dial_out-dials.ensures.lent
-    (laws.same _ c.args.p.now (λ weigh. weigh c.args.b) (both_of (λ weigh. weigh c.args.b) (λ _. 0)) (λ w. omega arith) c.requires.served.served) c.requires.mapped.arena
+    may_unmap g.met.P.Places.laws c.args.b (standing c.args.p.now c.args.space.now) c.dial_out-dials.new.self c.dial_out-dials.result c.requires.mapped c.dial_out-dials.ensures.lent c.requires.served
 
 pub returns : goal.returns
 returns g c = record {

@@ -1,0 +1,213 @@
+-- Laws of a block that is got for a request, and of a name that gets it.
+use Rattle.std.proofs.Common.{◌≡◌, ℕ, zero, suc, ◌+◌, ◌<◌, ◌≤◌, Bool, true, false, cond, List, [], ◌∷◌, Option, Some, None, length, refl, sym, ◌∙◌, subst, arith, ◌%◌, ◌&&◌}
+use Rattle.std.specs.Prelude.{Result, Ok, Err, IfOk, OnErr, IsSome, IfSome, option_map, nat_le}
+use Rattle.chunk_tags.specs.Sizes.{padded_request, chunk_size_of}
+use Rattle.chunk_tags.specs.declared.block.Block.{Block}
+use Rattle.chunk_tags.specs.declared.tunables.Tunables.{Tunables}
+use Rattle.address_space.specs.Ports.{Rose}
+use Rattle.address_space.specs.Spaces.{space_refusals}
+use Rattle.thread_cache.specs.Caches.{CacheValue}
+use Rattle.arena_core.specs.Arenas.{need_of}
+use Rattle.arena_core.specs.declared.journal.Act.{Act}
+use Rattle.arena_core.specs.declared.journal.Act.TheVariants as acts
+use Rattle.arena_core.specs.declared.journal.Who.{Who}
+use Rattle.std.proofs.lemmas.Bool.{eqb-true, leb-false}
+use Rattle.std.specs.Int.{is_power_of_two}
+use Rattle.arena_rules.specs.Align.{IsAlignment}
+use Rattle.malloc_calls.specs.Mallocs.{is_memalign}
+use Rattle.malloc_calls.specs.Names.{IsHeld, block_at, with_block}
+use Rattle.malloc_calls.specs.Own.{newest_of_size, without_newest_of}
+use Rattle.malloc_calls.specs.Calls.{Call, Supplied, then_call, opening, taken_of, origin_of, supply_of, from_arena, from_cache, named, reply_of, names_with, answer_with, FitsName}
+use Rattle.malloc_calls.specs.declared.reply.Reply.{Reply}
+use Rattle.malloc_calls.specs.declared.reply.Reply.TheVariants.{Null}
+use Rattle.malloc_calls.specs.declared.reply.Why.TheVariants.{Refused}
+use Rattle.malloc_calls.specs.declared.reply.Origin.TheVariants.{Cached}
+use Rattle.malloc_calls.specs.declared.own.Own.{Own}
+use Rattle.malloc_calls.specs.declared.supplying.Supply.{Supply}
+use Rattle.malloc_calls.specs.Going.{Does}
+use Rattle.malloc_calls.specs.Holding.{Takes}
+use Rattle.malloc_calls.specs.Places.{PlaceWays, Setting, Standing, Carries, Hands, weight_of, in_names, in_cache, in_own}
+use Rattle.malloc_calls.specs.Supplying.{Supplies, block_of}
+use Rattle.malloc_calls.proofs.Going.{does_here, does_last, does_then}
+use Rattle.malloc_calls.proofs.Carrying.{SameLaw, carries_here, carries_as, carries_then, carries_beside}
+use Rattle.malloc_calls.proofs.Weights.{in_names-with, in_cache-taken}
+
+-- ---- a block of a hold
+
+abbrev found_in : ℕ → Option Block → Option Supply
+found_in place block = option_map (λ b. supply_of b (origin_of place b)) block
+
+block_found : (place : ℕ) (block : Option Block) → block_of (found_in place block) ≡ block
+block_found place None = refl
+block_found place (Some b) = refl
+
+held_found : (place : ℕ) (block : Option Block) → IfSome block IsHeld → IfSome (found_in place block) (λ g. IsHeld g.block)
+held_found place None h = h
+held_found place (Some b) h = h
+
+fits_found : (nb place : ℕ) (block : Option Block) → IfSome block (λ b. need_of b.arena nb ≤ b.size) →
+    IfSome (found_in place block) (λ g. need_of g.block.arena nb ≤ g.block.size)
+fits_found nb place None h = h
+fits_found nb place (Some b) h = h
+
+none_found : (place : ℕ) (block : Option Block) → found_in place block ≡ None → block ≡ None
+none_found place None e = refl
+none_found place (Some b) e = absurd cc
+
+pub aligned_found : (place : ℕ) (block : Option Block) (X : Block → Type 0) → IfSome block X → IfSome (found_in place block) (λ g. X g.block)
+aligned_found place None X h = h
+aligned_found place (Some b) X h = h
+
+does_found : {P H D K : Type 0} {s : Setting P H D K} {t : Tunables} {who : Who} {a nb : ℕ} {act : Act} {cache left : CacheValue} {o z : Standing P K}
+    {place : ℕ} (block : Option Block) → Takes s t who a act nb cache o place block left z →
+    Does s t who (from_arena a act cache) o (found_in place block, left) z
+does_found {a = a} {act = act} block h =
+    rw h.found (does_last (λ e. (found_in e.place (taken_of a act e.ended), e.cache)) h.does)
+
+pub supplied_by : {P H D K : Type 0} {s : Setting P H D K} {t : Tunables} {who : Who} {a nb : ℕ} {act : Act} {cache left : CacheValue} {o z : Standing P K}
+    {place : ℕ} (block : Option Block) (got : Option Supply) → got ≡ found_in place block → Takes s t who a act nb cache o place block left z →
+    Supplies s t who (from_arena a act cache) nb cache o got left z
+supplied_by {nb = nb} {left = left} {place = place} block got e h = rw e (record {
+  does = does_found block h;
+  held = held_found place block h.held;
+  fits = fits_found nb place block h.fits;
+  refused = λ none. h.refused (none_found place block none);
+  later = h.later;
+  carries = rw (block_found place block) h.carries;
+})
+
+-- ---- a block of the cache
+
+pub supplies_past : {P H D K E : Type 0} (s : Setting P H D K) (t : Tunables) (who : Who) (a nb : ℕ) (o z : Standing P K) (cache now left : CacheValue)
+    (newest : Option Block) (r : Result (Option Supply) E) → newest ≡ None → now ≡ cache →
+    IfOk r (λ got. Supplies s t who (from_arena a (acts.Take nb) now) nb now o got left z) →
+    IfOk r (λ got. Supplies s t who (from_cache a nb newest cache) nb cache o got left z)
+supplies_past s t who a nb o z cache now left newest r none same d =
+    rw none (subst (λ (c : CacheValue). IfOk r (λ got. Supplies s t who (from_arena a (acts.Take nb) c) nb c o got left z)) same d)
+
+enough_cached : (nb : ℕ) (b : Block) → IsSome b.arena → b.size ≡ nb → need_of b.arena nb ≤ b.size
+enough_cached nb b some size =
+    let cases : (o : Option ℕ) → IsSome o → need_of o nb ≤ b.size = elim [
+      | None ↦ λ h. absurd cc
+      | Some n ↦ λ h. omega (arith, size)
+    ] in
+    cases b.arena some
+
+pub supplies_cached : {P H D K : Type 0} (s : Setting P H D K) (t : Tunables) (who : Who) (a nb : ℕ) (o : Standing P K) (cache left : CacheValue)
+    (newest : Option Block) (b : Block) → SameLaw s.ways → newest ≡ newest_of_size nb cache → newest ≡ Some b → left ≡ without_newest_of nb cache →
+    IsHeld b → b.size ≡ nb → IsSome b.arena →
+    Supplies s t who (from_cache a nb newest cache) nb cache o (Some (supply_of b Cached)) left o
+supplies_cached s t who a nb o cache left newest b same is some rest held size arena = rw (some, rest) (record {
+  does = does_here _ o;
+  held = held;
+  fits = enough_cached nb b arena size;
+  refused = λ none. absurd cc;
+  later = omega arith;
+  carries = carries_as same (in_cache cache) _ (λ w. refl) (λ w. in_cache-taken nb cache b (sym is ∙ some) w) (carries_here s.ways true (in_cache cache) o);
+})
+
+-- ---- behind an opened cache
+
+pub rose_later : (before mid now : ℕ) → before ≤ mid → Rose mid now → Rose before now
+rose_later before mid now le h = omega (arith, le, h)
+
+pub supplies_opened : {P H D K E : Type 0} {s : Setting P H D K} {t : Tunables} {who : Who} {o p : Standing P K} (a nb : ℕ) (cache now left : CacheValue) (z : Standing P K)
+    (f : CacheValue → Call Supplied) (r : Result (Option Supply) E) → Does s t who (opening t a cache) o now p →
+    space_refusals s.means.kernel o.space ≤ space_refusals s.means.kernel p.space →
+    Carries s.ways true (in_cache cache) o (in_cache now) p →
+    IfOk r (λ got. Supplies s t who (f now) nb now p got left z) →
+    IfOk r (λ got. Supplies s t who (then_call (opening t a cache) f) nb cache o got left z)
+supplies_opened {s = s} {o = o} {p = p} a nb cache now left z f (Ok got) d later c h = record {
+  does = does_then f d h.does;
+  held = h.held;
+  fits = h.fits;
+  refused = λ none. rose_later _ (space_refusals s.means.kernel p.space) _ later (h.refused none);
+  later = omega (arith, later, h.later);
+  carries = carries_then c h.carries;
+}
+supplies_opened a nb cache now left z f (Err e) d later c h = tt
+
+pub short_opened : {P H D K A E : Type 0} {ways : PlaceWays P H D} {given between : Hands} {o p : Standing P K} (got : Hands) (z : Standing P K) (r : Result A E) →
+    Carries ways true given o between p → OnErr r (Carries ways false between p got z) → OnErr r (Carries ways false given o got z)
+short_opened got z (Ok x) c d = tt
+short_opened got z (Err e) c d = carries_then c d
+
+-- ---- a name gets it
+
+named_weight : (name : ℕ) (got : Option Supply) (names : List (Option Block)) (weigh : Block → ℕ) → name < length names → block_at names name ≡ None →
+    in_names (names_with name got names) weigh ≡ weight_of (block_of got) weigh + in_names names weigh
+named_weight name None names weigh below empty = omega arith
+named_weight name (Some g) names weigh below empty = in_names-with name g.block names weigh below empty
+
+pub named_does : {P H D K : Type 0} {s : Setting P H D K} {t : Tunables} {who : Who} {nb : ℕ} {c : Call Supplied} {left : CacheValue} {o z : Standing P K}
+    (name : ℕ) (own : Own) (got : Option Supply) (reply : Reply) (names : List (Option Block)) →
+    Supplies s t who c nb own.cache o got left z → reply ≡ reply_of got → names ≡ names_with name got own.names →
+    Does s t who (named name own c) o (reply, record { cache = left; names = names }) z
+named_does name own got reply names h e n = rw (e, n) (does_last (answer_with name own) h.does)
+
+pub named_carries : {P H D K : Type 0} {s : Setting P H D K} {t : Tunables} {who : Who} {nb : ℕ} {c : Call Supplied} {left : CacheValue} {o z : Standing P K}
+    (name : ℕ) (own : Own) (got : Option Supply) (names : List (Option Block)) → SameLaw s.ways → name < length own.names → block_at own.names name ≡ None →
+    Supplies s t who c nb own.cache o got left z → names ≡ names_with name got own.names →
+    Carries s.ways true (in_own own) o (in_own (record { cache = left; names = names })) z
+named_carries {left = left} name own got names same below empty h e =
+    carries_as same (in_own own) (in_own (record { cache = left; names = names })) (λ w. omega arith)
+    (λ w. rw e (omega (arith, named_weight name got own.names w below empty)))
+    (carries_beside same (in_names own.names) h.carries)
+
+-- nothing is answered only where nothing was got
+pub refused_got : {R : Type 0} (got : Option Supply) (reply : Reply) → reply ≡ reply_of got → (got ≡ None → R) → reply ≡ Null Refused → R
+refused_got None reply e none is = none refl
+refused_got (Some g) reply e none is = let no : reply_of (Some g) ≡ Null Refused = sym e ∙ is in absurd cc
+
+-- ---- what a name has is large enough
+
+-- the block that a name was given
+pub given_name : (names : List (Option Block)) (name : ℕ) (a b : Block) → block_at (with_block name a names) name ≡ Some b → a ≡ b
+given_name [] name a b e = absurd cc
+given_name (o ∷ os) zero a b e = cc
+given_name (o ∷ os) (suc name) a b e = given_name os name a b e
+
+pub nothing_named : (X : Block → Type 0) (name : ℕ) (names : List (Option Block)) → block_at names name ≡ None → (b : Block) → block_at names name ≡ Some b → X b
+nothing_named X name names empty b is = let no : None ≡ Some b = sym empty ∙ is in absurd cc
+
+-- what is true of the block that was got is true of the one that the name has
+pub got_named : (X : Block → Type 0) (name : ℕ) (got : Option Supply) (names now : List (Option Block)) → block_at names name ≡ None → now ≡ names_with name got names →
+    IfSome got (λ g. X g.block) → (b : Block) → block_at now name ≡ Some b → X b
+got_named X name None names now empty e h = rw e (nothing_named X name names empty)
+got_named X name (Some g) names now empty e h = rw e (λ b is. subst X (given_name names name g.block b is) h)
+
+pub padded_is : (size nb : ℕ) → padded_request size ≡ Some nb → nb ≡ chunk_size_of size
+padded_is size nb e =
+    let cases : (v : Bool) → cond v None (Some (chunk_size_of size)) ≡ Some nb → nb ≡ chunk_size_of size = elim [ true ↦ λ h. absurd cc | false ↦ λ h. cc ] in
+    cases _ e
+
+-- so where a request has this size
+pub fits_got : (size nb name : ℕ) (got : Option Supply) (names now : List (Option Block)) → padded_request size ≡ Some nb →
+    block_at names name ≡ None → now ≡ names_with name got names →
+    IfSome got (λ g. need_of g.block.arena nb ≤ g.block.size) → FitsName (chunk_size_of size) name now
+fits_got size nb name got names now padded empty e h =
+    subst (λ n. FitsName n name now) (padded_is size nb padded) (got_named (λ b. need_of b.arena nb ≤ b.size) name got names now empty e h)
+
+-- ---- alignments
+
+first_true : (x y : Bool) → (x && y) ≡ true → x ≡ true
+first_true true y h = refl
+first_true false y h = absurd cc
+
+second_true : (x y : Bool) → (x && y) ≡ true → y ≡ true
+second_true true y h = h
+second_true false y h = absurd cc
+
+-- a power of two that is a multiple of 8 and above 16 is at least 32
+pub is_alignment : (align : ℕ) → is_memalign align ≡ true → nat_le align 16 ≡ false → IsAlignment align
+unfolding lib.Count.ones
+is_alignment align takes high =
+    let power : is_power_of_two align ≡ true = first_true _ _ takes in
+    let eights : align % 8 ≡ 0 = eqb-true (align % 8) 0 (second_true _ _ takes) in
+    let below : 16 < align = leb-false align 16 high in
+    let is24 : align ≡ 24 → ⊥ = λ e. let yes : is_power_of_two 24 ≡ true = subst (λ n. is_power_of_two n ≡ true) e power in
+    let no : is_power_of_two 24 ≡ false = refl in
+    let both : true ≡ false = sym yes ∙ no in
+    absurd cc in
+    let least : 32 ≤ align = omega (arith, eights, below, is24) in
+    record { least = least; power = power }

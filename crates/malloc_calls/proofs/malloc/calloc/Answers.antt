@@ -1,0 +1,24 @@
+use Rattle.std.proofs.Common.{sym, ◌∙◌}
+use Rattle.malloc_calls.proofs.Calling.{carries_cache}
+use Rattle.malloc_calls.proofs.Carrying.{carries_err}
+use Rattle.malloc_calls.proofs.Going.{does_here}
+use Rattle.malloc_calls.proofs.Supplies.{named_does, named_carries}
+use Rattle.malloc_calls.proofs.malloc.calloc.Goals as goal
+
+pub returns-in_default-clause-does : goal.returns-in_default-clause-does
+returns-in_default-clause-does g c = rw (sym c.product_size.ensures ∙ c.in_default.is) (does_here _ _)
+
+pub returns-in_err-got-clause-carries : goal.returns-in_err-got-clause-carries
+returns-in_err-got-clause-carries g c =
+    carries_err c.from_residual.result c.from_residual.ensures.0
+    (carries_cache g.met.P.Places.laws.same c.args.own.now.cache c.fresh_supply.new.cache c.args.own.now.names c.in_err-got.ensures.short)
+
+pub returns-clause-does : goal.returns-clause-does
+returns-clause-does g c =
+    rw (sym c.product_size.ensures ∙ c.in-Some.is)
+    (named_does c.args.name c.args.own.now c.in_ok-got.got c.answer.result c.answer.new.names c.in_ok-got.ensures.supplies c.answer.ensures.reply c.answer.ensures.names)
+
+pub returns-clause-carries : goal.returns-clause-carries
+returns-clause-carries g c =
+    named_carries c.args.name c.args.own.now c.in_ok-got.got c.answer.new.names g.met.P.Places.laws.same c.requires.room c.requires.empty
+    c.in_ok-got.ensures.supplies c.answer.ensures.names

@@ -1,0 +1,58 @@
+use Rattle.std.proofs.Common.{◌≡◌, true, false, sym, ◌∙◌, arith}
+use Rattle.std.proofs.lemmas.Bool.Decides.{nat_tests}
+use Rattle.std.specs.Prelude.{nat_le}
+use Rattle.malloc_calls.proofs.Calling.{carries_cache}
+use Rattle.malloc_calls.proofs.Carrying.{carries_err}
+use Rattle.malloc_calls.proofs.Going.{does_here}
+use Rattle.malloc_calls.proofs.Supplies.{named_does, named_carries, is_alignment}
+use Rattle.malloc_calls.proofs.malloc.posix_memalign.Goals as goal
+
+pub returns-in_default-clause-does : goal.returns-in_default-clause-does
+returns-in_default-clause-does g c = rw (sym c.request_size.ensures ∙ c.in_default.is) (does_here _ _)
+
+pub returns-then-not-is_memalign-clause-does : goal.returns-then-not-is_memalign-clause-does
+returns-then-not-is_memalign-clause-does g c =
+    rw (sym c.request_size.ensures ∙ c.in-Some.is, sym c.if-not-is_memalign.ensures) (does_here _ _)
+
+pub returns-in_err-got-clause-carries : goal.returns-in_err-got-clause-carries
+returns-in_err-got-clause-carries g c =
+    carries_err c.from_residual.result c.from_residual.ensures.0
+    (carries_cache g.met.P.Places.laws.same c.args.own.now.cache c.plain_supply.new.cache c.args.own.now.names c.in_err-got.ensures.short)
+
+pub returns-then-align-le-LEAST_ALIGNMENT-clause-does : goal.returns-then-align-le-LEAST_ALIGNMENT-clause-does
+returns-then-align-le-LEAST_ALIGNMENT-clause-does g c =
+    let low : nat_le c.args.align 16 ≡ true = grind (arith, nat_tests, c.if-align-le-LEAST_ALIGNMENT.true) in
+    rw (sym c.request_size.ensures ∙ c.in-Some.is, sym c.if-not-is_memalign.ensures, low)
+    (named_does c.args.name c.args.own.now c.in_ok-got.got c.answer.result c.answer.new.names c.in_ok-got.ensures.supplies c.answer.ensures.reply c.answer.ensures.names)
+
+pub returns-then-align-le-LEAST_ALIGNMENT-clause-carries : goal.returns-then-align-le-LEAST_ALIGNMENT-clause-carries
+returns-then-align-le-LEAST_ALIGNMENT-clause-carries g c =
+    named_carries c.args.name c.args.own.now c.in_ok-got.got c.answer.new.names g.met.P.Places.laws.same c.requires.room c.requires.empty
+    c.in_ok-got.ensures.supplies c.answer.ensures.names
+
+pub returns-then-not-has_lead_in_range-clause-does : goal.returns-then-not-has_lead_in_range-clause-does
+returns-then-not-has_lead_in_range-clause-does g c =
+    let high : nat_le c.args.align 16 ≡ false = grind (arith, nat_tests, c.if-align-le-LEAST_ALIGNMENT.false) in
+    rw (sym c.request_size.ensures ∙ c.in-Some.is, sym c.if-not-is_memalign.ensures, high, sym c.if-not-has_lead_in_range.ensures)
+    (does_here _ _)
+
+pub aligned_supply-requires-clause-align : goal.aligned_supply-requires-clause-align
+aligned_supply-requires-clause-align g c = λ k l.
+    let high : nat_le c.args.align 16 ≡ false = grind (arith, nat_tests, c.if-align-le-LEAST_ALIGNMENT.false) in
+    is_alignment c.args.align (sym c.if-not-is_memalign.ensures) high
+
+pub returns-in_err-got-2-clause-carries : goal.returns-in_err-got-2-clause-carries
+returns-in_err-got-2-clause-carries g c =
+    carries_err c.from_residual-in_err-got-2.result c.from_residual-in_err-got-2.ensures.0
+    (carries_cache g.met.P.Places.laws.same c.args.own.now.cache c.aligned_supply.new.cache c.args.own.now.names c.in_err-got-2.ensures.short)
+
+pub returns-clause-does : goal.returns-clause-does
+returns-clause-does g c =
+    let high : nat_le c.args.align 16 ≡ false = grind (arith, nat_tests, c.if-align-le-LEAST_ALIGNMENT.false) in
+    rw (sym c.request_size.ensures ∙ c.in-Some.is, sym c.if-not-is_memalign.ensures, high, sym c.if-not-has_lead_in_range.ensures)
+    (named_does c.args.name c.args.own.now c.in_ok-got-2.got c.answer-2.result c.answer-2.new.names c.in_ok-got-2.ensures.supplies c.answer-2.ensures.reply c.answer-2.ensures.names)
+
+pub returns-clause-carries : goal.returns-clause-carries
+returns-clause-carries g c =
+    named_carries c.args.name c.args.own.now c.in_ok-got-2.got c.answer-2.new.names g.met.P.Places.laws.same c.requires.room c.requires.empty
+    c.in_ok-got-2.ensures.supplies c.answer-2.ensures.names

@@ -1,0 +1,33 @@
+use Rattle.std.proofs.Common.{◌≡◌, Some, refl, arith}
+use Rattle.malloc_calls.specs.Names.{block_at}
+use Rattle.malloc_calls.specs.Places.{both_of, in_cache}
+use Rattle.malloc_calls.specs.Reallocs.{realloc_in}
+use Rattle.malloc_calls.proofs.Calling.{own_unnamed, carries_renamed}
+use Rattle.malloc_calls.proofs.Carrying.{served_fewer}
+use Rattle.malloc_calls.proofs.Resettlings.{settled_does}
+use Rattle.malloc_calls.proofs.realloc.realloc_name.Goals as goal
+
+pub realloc_block-requires-clause-served : goal.realloc_block-requires-clause-served
+realloc_block-requires-clause-served g c = λ k l.
+    let b = c.unwrap-block.result in
+    let at : block_at c.args.own.now.names c.args.name ≡ Some b = cc in
+    served_fewer g.met.P.Places.laws.fewer (both_of (λ weigh. weigh b) (in_cache c.args.own.now.cache))
+    (λ w. omega (arith, own_unnamed c.args.own.now c.args.name b c.args.own.now.cache c.take.new.self at refl c.take.ensures.rest w)) c.requires.served
+
+pub returns-in-Ok-clause-does : goal.returns-in-Ok-clause-does
+returns-in-Ok-clause-does g c = λ b at.
+    let same : c.unwrap-block.result ≡ b = cc in
+    settled_does (λ x. realloc_in c.args.t.now 0 c.args.nb x x.arena c.args.own.now.cache) c.args.name b c.unwrap-block.result c.args.own.now _ c.take.new.self
+    c.put.new.self same c.take.ensures.rest c.put.ensures c.in-Ok.ensures.resettles
+
+pub returns-in-Ok-clause-carries : goal.returns-in-Ok-clause-carries
+returns-in-Ok-clause-carries g c =
+    let at : block_at c.args.own.now.names c.args.name ≡ Some c.unwrap-block.result = cc in
+    carries_renamed g.met.P.Places.laws.same c.args.name c.unwrap-block.result c.in-Ok.field-0.block c.args.own.now c.realloc_block.new.cache c.take.new.self c.put.new.self
+    at c.take.ensures.rest c.put.ensures c.in-Ok.ensures.resettles.carries
+
+pub returns-in-Err-clause-carries : goal.returns-in-Err-clause-carries
+returns-in-Err-clause-carries g c =
+    let at : block_at c.args.own.now.names c.args.name ≡ Some c.unwrap-block.result = cc in
+    carries_renamed g.met.P.Places.laws.same c.args.name c.unwrap-block.result c.in-Err.block c.args.own.now c.realloc_block.new.cache c.take.new.self c.put-in-Err.new.self
+    at c.take.ensures.rest c.put-in-Err.ensures c.in-Err.ensures.short.carries

@@ -1,0 +1,36 @@
+-- The call that takes a name's block: glibc 2.31 malloc/malloc.c, __libc_free.
+use Rattle.std.specs.Prelude.{ℕ, Option, Some, None}
+use Rattle.chunk_tags.specs.declared.block.Block.{Block}
+use Rattle.chunk_tags.specs.declared.tunables.Tunables.{Tunables}
+use Rattle.malloc_calls.specs.Calls.{Call, Done, Frees, then_call, opening, releasing, with_cache}
+use Rattle.malloc_calls.specs.Names.{block_at, without_block}
+use Rattle.malloc_calls.specs.declared.own.Own.{Own}
+use Rattle.malloc_calls.specs.declared.reply.Reply.{Reply}
+use Rattle.malloc_calls.specs.declared.reply.Reply.TheVariants.{Freed, NotYours}
+use Rattle.malloc_calls.specs.declared.reply.To.TheVariants as sinks
+
+abbrev pub without_name : ℕ → Own → Own
+without_name name own = record own { names = without_block name own.names }
+
+-- a block of an arena leaves its name and is released
+abbrev pub free_to : Tunables → ℕ → ℕ → Block → Own → Call (Reply × Own)
+free_to t a name b own = then_call (releasing t a b own.cache) (λ r. Done (Freed r.0, with_cache r.1 (without_name name own)))
+
+-- a block is freed with its mapping, or the cache is opened where it is closed, and the block released
+abbrev pub free_of_block : Tunables → ℕ → ℕ → Block → Option ℕ → Own → Call (Reply × Own)
+free_of_block t home name b None own = Frees b (Done (Freed sinks.Unmapped, without_name name own))
+free_of_block t home name b (Some a) own = then_call (opening t home own.cache) (λ cache.
+    free_to t a name b (with_cache cache own))
+
+abbrev pub free_of_name : Tunables → ℕ → ℕ → Option Block → Own → Call (Reply × Own)
+free_of_name t home name None own = Done (NotYours, own)
+free_of_name t home name (Some b) own = free_of_block t home name b b.arena own
+
+abbrev pub free_call : Tunables → ℕ → ℕ → Own → Call (Reply × Own)
+free_call t home name own = free_of_name t home name (block_at own.names name) own
+
+-- the answers of a free
+abbrev pub IsFreed : Reply → Type 0
+IsFreed (Freed to) = Unit {0}
+IsFreed NotYours = Unit {0}
+IsFreed reply = ⊥

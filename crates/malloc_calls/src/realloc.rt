@@ -1,0 +1,402 @@
+//! realloc.
+
+ghost use Rattle.std.specs.Prelude.{◌≡◌, ℕ, Some, None, Ok, IsSome, IfOk, IfErr, OnErr, is_ok};
+ghost use Rattle.chunk_tags.specs.Sizes.{IsRequestSize, chunk_size_of, padded_request};
+ghost use Rattle.chunk_tags.specs.Tunables.{IsTuned};
+ghost use Rattle.address_space.specs.Ports.{Rose};
+ghost use Rattle.address_space.specs.Spaces.{space_refusals};
+ghost use Rattle.chunk_tags.specs.declared.block.Block.{Block as Piece};
+ghost use Rattle.consolidate_trim.specs.Outside.{means};
+ghost use Rattle.malloc_calls.specs.Names.{IsHeld, block_at};
+ghost use Rattle.malloc_calls.specs.Calls.{Done, then_call, plain_supply, FitsName};
+ghost use Rattle.malloc_calls.specs.Reallocs.{realloc_call, realloc_in, resize_in_arena, realloc_in_arena, realloc_in_mapping, moved_from_arena, moved_from_mapping, not_remapped, remapped, kept_block, got_block, refused_block, settled, IfAnswered};
+ghost use Rattle.malloc_calls.specs.Resettling.{Resettles};
+ghost use Rattle.malloc_calls.specs.Holding.{ResizesShort};
+ghost use Rattle.malloc_calls.specs.declared.reply.Reply.TheVariants.{NotYours, Null};
+ghost use Rattle.malloc_calls.specs.declared.reply.Why.TheVariants.{Big, Refused};
+ghost use Rattle.malloc_calls.specs.Going.{Does};
+ghost use Rattle.malloc_calls.specs.Places.{setting, IsServed, Carries, standing, both_of, in_cache, in_own};
+
+use crate::free::free;
+use crate::holding::{HeldResize, resize_held};
+use crate::mapping::{has_length, has_room, remap_mapped, unmap_mapped};
+use crate::opening::open_cache;
+use crate::own::Own;
+use crate::places::Places;
+use crate::releasing::release;
+use crate::reply::{Origin, Reply, Why};
+use crate::supplying::{origin, plain_supply};
+use address_space::{Kernel, Space};
+use arena_core::Who;
+use chunk_tags::{Addr, Block, NoMemory, Size, Tunables, request_size};
+use realloc_align::Resized;
+use std::alloc::Global;
+use thread_cache::Cache;
+
+/// What a realloc came to: the block that the name has then, and the answer.
+#[derive(Debug, Drop)]
+pub struct Reallocated {
+    pub block: Block,
+    pub reply: Reply,
+}
+
+/// A block that stays where it is.
+fn kept_block(from: Origin, block: Block) -> Reallocated
+    ensures { result ≡ kept_block from block }
+{
+    let reply = Reply::Kept {
+        addr: block.addr,
+        size: block.size,
+        from,
+    };
+    Reallocated { block, reply }
+}
+
+/// A block that is elsewhere.
+fn got_block(from: Origin, block: Block) -> Reallocated
+    ensures { result ≡ got_block from block }
+{
+    let reply = Reply::Got {
+        addr: block.addr,
+        size: block.size,
+        from,
+    };
+    Reallocated { block, reply }
+}
+
+/// A block that stays as it was, since nothing was got for it.
+fn refused_block(block: Block) -> Reallocated
+    ensures { result ≡ refused_block block }
+{
+    Reallocated {
+        block,
+        reply: Reply::Null(Why::Refused),
+    }
+}
+
+/// malloc in the place of a resize that was refused: the block of an arena is released for the one that is got.
+fn move_from_arena<P: Places, K: Kernel>(
+    cache: &mut Cache,
+    alloc: Global,
+    p: &mut P,
+    who: &Who,
+    a: u8,
+    block: Block,
+    nb: Size,
+    space: &mut Space<K>,
+    t: &Tunables,
+) -> Result<Reallocated, Block>
+    requires size { IsRequestSize nb }
+    requires held { IsHeld block }
+    requires arena { block.arena ≡ Some a }
+    requires tuned { IsTuned t.now }
+    requires served { IsServed P.ways t.now (both_of (λ weigh. weigh block) (in_cache cache.old)) (standing p.old space.old) }
+    ensures resettles { IfOk result (λ done.
+        Resettles (setting P.ways (means P.Hold.fast P.Hold.dials K.port) P.Dial.dials) t.now who.now
+        (then_call (plain_supply t.now 0 nb cache.old) (moved_from_arena t.now a block)) nb block
+        cache.old (standing p.old space.old) done cache.new (standing p.new space.new)) }
+    ensures short { IfErr result (λ back.
+        ResizesShort (setting P.ways (means P.Hold.fast P.Hold.dials K.port) P.Dial.dials) block
+        cache.old (standing p.old space.old) back cache.new (standing p.new space.new)) }
+{
+    let found = match plain_supply(cache, alloc, p, who, nb, space, t) {
+        Ok(found) => found,
+        Err(NoMemory) => return Err(block),
+    };
+    match found {
+        None => Ok(refused_block(block)),
+        Some(got) => match release(cache, alloc, p, who, a, block, space, t) {
+            Ok(_to) => Ok(got_block(got.from, got.block)),
+            Err(_lost) => Err(got.block),
+        },
+    }
+}
+
+/// malloc in the place of another length that was refused: the block's mapping goes back for the one that is got.
+fn move_from_mapping<P: Places, K: Kernel>(
+    cache: &mut Cache,
+    alloc: Global,
+    p: &mut P,
+    who: &Who,
+    block: Block,
+    nb: Size,
+    space: &mut Space<K>,
+    t: &Tunables,
+) -> Result<Reallocated, Block>
+    requires size { IsRequestSize nb }
+    requires held { IsHeld block }
+    requires arena { block.arena ≡ None }
+    requires tuned { IsTuned t.now }
+    requires served { IsServed P.ways t.now (both_of (λ weigh. weigh block) (in_cache cache.old)) (standing p.old space.old) }
+    ensures resettles { IfOk result (λ done.
+        Resettles (setting P.ways (means P.Hold.fast P.Hold.dials K.port) P.Dial.dials) t.now who.now
+        (then_call (plain_supply t.now 0 nb cache.old) (moved_from_mapping block)) nb block
+        cache.old (standing p.old space.old) done cache.new (standing p.new space.new)) }
+    ensures short { IfErr result (λ back.
+        ResizesShort (setting P.ways (means P.Hold.fast P.Hold.dials K.port) P.Dial.dials) block
+        cache.old (standing p.old space.old) back cache.new (standing p.new space.new)) }
+{
+    let found = match plain_supply(cache, alloc, p, who, nb, space, t) {
+        Ok(found) => found,
+        Err(NoMemory) => return Err(block),
+    };
+    match found {
+        None => Ok(refused_block(block)),
+        Some(got) => {
+            unmap_mapped(p, block, space);
+            Ok(got_block(got.from, got.block))
+        }
+    }
+}
+
+/// A block of an arena gets `nb` bytes under the lock of its arena, or malloc's block in its place. Where memory is short the
+/// block comes back where it is then, or the one that was got for it.
+fn resize_in_arena<P: Places, K: Kernel>(
+    cache: &mut Cache,
+    alloc: Global,
+    p: &mut P,
+    who: &Who,
+    a: u8,
+    block: Block,
+    nb: Size,
+    space: &mut Space<K>,
+    t: &Tunables,
+) -> Result<Reallocated, Block>
+    requires size { IsRequestSize nb }
+    requires held { IsHeld block }
+    requires arena { block.arena ≡ Some a }
+    requires tuned { IsTuned t.now }
+    requires served { IsServed P.ways t.now (both_of (λ weigh. weigh block) (in_cache cache.old)) (standing p.old space.old) }
+    ensures resettles { IfOk result (λ done.
+        Resettles (setting P.ways (means P.Hold.fast P.Hold.dials K.port) P.Dial.dials) t.now who.now
+        (resize_in_arena t.now 0 nb a block cache.old) nb block
+        cache.old (standing p.old space.old) done cache.new (standing p.new space.new)) }
+    ensures short { IfErr result (λ back.
+        ResizesShort (setting P.ways (means P.Hold.fast P.Hold.dials K.port) P.Dial.dials) block
+        cache.old (standing p.old space.old) back cache.new (standing p.new space.new)) }
+{
+    let HeldResize { hold, resized } = resize_held(alloc, p, a, who, block, nb, cache, space, t)?;
+    match resized {
+        Resized::Kept(block) => Ok(kept_block(origin(hold, &block), block)),
+        Resized::Moved(block) => Ok(got_block(origin(hold, &block), block)),
+        Resized::Refused(block) => { move_from_arena(cache, alloc, p, who, a, block, nb, space, t) }
+    }
+}
+
+/// A block of an arena gets `nb` bytes, and the cache is opened first where it is closed.
+fn realloc_in_arena<P: Places, K: Kernel>(
+    cache: &mut Cache,
+    alloc: Global,
+    p: &mut P,
+    who: &Who,
+    a: u8,
+    block: Block,
+    nb: Size,
+    space: &mut Space<K>,
+    t: &Tunables,
+) -> Result<Reallocated, Block>
+    requires size { IsRequestSize nb }
+    requires held { IsHeld block }
+    requires arena { block.arena ≡ Some a }
+    requires tuned { IsTuned t.now }
+    requires served { IsServed P.ways t.now (both_of (λ weigh. weigh block) (in_cache cache.old)) (standing p.old space.old) }
+    ensures resettles { IfOk result (λ done.
+        Resettles (setting P.ways (means P.Hold.fast P.Hold.dials K.port) P.Dial.dials) t.now who.now
+        (realloc_in_arena t.now 0 nb a block cache.old) nb block
+        cache.old (standing p.old space.old) done cache.new (standing p.new space.new)) }
+    ensures short { IfErr result (λ back.
+        ResizesShort (setting P.ways (means P.Hold.fast P.Hold.dials K.port) P.Dial.dials) block
+        cache.old (standing p.old space.old) back cache.new (standing p.new space.new)) }
+{
+    match open_cache(cache, alloc, p, who, space, t) {
+        Ok(()) => resize_in_arena(cache, alloc, p, who, a, block, nb, space, t),
+        Err(NoMemory) => Err(block),
+    }
+}
+
+/// A block whose mapping has another length, where it was at this address.
+fn remapped(before: Addr, block: Block) -> Reallocated
+    ensures { (b : Piece) → b.addr ≡ before → result ≡ remapped b block }
+{
+    if block.addr == before {
+        kept_block(Origin::Mapped, block)
+    } else {
+        got_block(Origin::Mapped, block)
+    }
+}
+
+/// A mapped block gets `nb` bytes: its mapping has the length already, or is asked for another, or malloc's block is got in
+/// its place. Where memory is short the block comes back.
+fn realloc_in_mapping<P: Places, K: Kernel>(
+    cache: &mut Cache,
+    alloc: Global,
+    p: &mut P,
+    who: &Who,
+    block: Block,
+    nb: Size,
+    space: &mut Space<K>,
+    t: &Tunables,
+) -> Result<Reallocated, Block>
+    requires size { IsRequestSize nb }
+    requires held { IsHeld block }
+    requires arena { block.arena ≡ None }
+    requires tuned { IsTuned t.now }
+    requires served { IsServed P.ways t.now (both_of (λ weigh. weigh block) (in_cache cache.old)) (standing p.old space.old) }
+    ensures resettles { IfOk result (λ done.
+        Resettles (setting P.ways (means P.Hold.fast P.Hold.dials K.port) P.Dial.dials) t.now who.now
+        (realloc_in_mapping t.now 0 nb block cache.old) nb block
+        cache.old (standing p.old space.old) done cache.new (standing p.new space.new)) }
+    ensures short { IfErr result (λ back.
+        ResizesShort (setting P.ways (means P.Hold.fast P.Hold.dials K.port) P.Dial.dials) block
+        cache.old (standing p.old space.old) back cache.new (standing p.new space.new)) }
+{
+    if has_length(&block, nb) {
+        return Ok(kept_block(Origin::Mapped, block));
+    }
+    let addr = block.addr;
+    match remap_mapped(p, block, nb, space) {
+        Ok(changed) => Ok(remapped(addr, changed)),
+        Err(block) => keep_or_move(cache, alloc, p, who, block, nb, space, t),
+    }
+}
+
+/// A mapped block whose other length was refused: it is kept where it has 8 bytes more than `nb`, else malloc's block is got
+/// in its place.
+fn keep_or_move<P: Places, K: Kernel>(
+    cache: &mut Cache,
+    alloc: Global,
+    p: &mut P,
+    who: &Who,
+    block: Block,
+    nb: Size,
+    space: &mut Space<K>,
+    t: &Tunables,
+) -> Result<Reallocated, Block>
+    requires size { IsRequestSize nb }
+    requires held { IsHeld block }
+    requires arena { block.arena ≡ None }
+    requires tuned { IsTuned t.now }
+    requires served { IsServed P.ways t.now (both_of (λ weigh. weigh block) (in_cache cache.old)) (standing p.old space.old) }
+    ensures resettles { IfOk result (λ done.
+        Resettles (setting P.ways (means P.Hold.fast P.Hold.dials K.port) P.Dial.dials) t.now who.now
+        (not_remapped t.now 0 nb block cache.old) nb block
+        cache.old (standing p.old space.old) done cache.new (standing p.new space.new)) }
+    ensures short { IfErr result (λ back.
+        ResizesShort (setting P.ways (means P.Hold.fast P.Hold.dials K.port) P.Dial.dials) block
+        cache.old (standing p.old space.old) back cache.new (standing p.new space.new)) }
+{
+    if has_room(&block, nb) {
+        Ok(kept_block(Origin::Mapped, block))
+    } else {
+        move_from_mapping(cache, alloc, p, who, block, nb, space, t)
+    }
+}
+
+/// A block gets `nb` bytes where it is, or elsewhere.
+fn realloc_block<P: Places, K: Kernel>(
+    cache: &mut Cache,
+    alloc: Global,
+    p: &mut P,
+    who: &Who,
+    block: Block,
+    nb: Size,
+    space: &mut Space<K>,
+    t: &Tunables,
+) -> Result<Reallocated, Block>
+    requires size { IsRequestSize nb }
+    requires held { IsHeld block }
+    requires tuned { IsTuned t.now }
+    requires served { IsServed P.ways t.now (both_of (λ weigh. weigh block) (in_cache cache.old)) (standing p.old space.old) }
+    ensures resettles { IfOk result (λ done.
+        Resettles (setting P.ways (means P.Hold.fast P.Hold.dials K.port) P.Dial.dials) t.now who.now
+        (realloc_in t.now 0 nb block block.arena cache.old) nb block
+        cache.old (standing p.old space.old) done cache.new (standing p.new space.new)) }
+    ensures short { IfErr result (λ back.
+        ResizesShort (setting P.ways (means P.Hold.fast P.Hold.dials K.port) P.Dial.dials) block
+        cache.old (standing p.old space.old) back cache.new (standing p.new space.new)) }
+{
+    match block.arena {
+        None => realloc_in_mapping(cache, alloc, p, who, block, nb, space, t),
+        Some(a) => realloc_in_arena(cache, alloc, p, who, a, block, nb, space, t),
+    }
+}
+
+/// realloc of a name's block to a size that is neither 0 nor too big.
+fn realloc_name<P: Places, K: Kernel>(
+    own: &mut Own,
+    alloc: Global,
+    p: &mut P,
+    who: &Who,
+    name: u32,
+    nb: Size,
+    space: &mut Space<K>,
+    t: &Tunables,
+) -> Result<Reply, NoMemory>
+    requires size { IsRequestSize nb }
+    requires some { IsSome (block_at own.old.names name) }
+    requires tuned { IsTuned t.now }
+    requires served { IsServed P.ways t.now (in_own own.old) (standing p.old space.old) }
+    ensures does { IfOk result (λ reply. (b : Piece) → block_at own.old.names name ≡ Some b →
+        Does (setting P.ways (means P.Hold.fast P.Hold.dials K.port) P.Dial.dials) t.now who.now
+        (then_call (realloc_in t.now 0 nb b b.arena own.old.cache) (λ r. Done (settled name own.old r)))
+        (standing p.old space.old) (reply, own.new) (standing p.new space.new)) }
+    ensures fits { IfOk result (λ reply. IfAnswered reply (FitsName nb name own.new.names)) }
+    ensures refused { IfOk result (λ reply. reply ≡ Null Refused
+        → Rose (space_refusals K.port space.old) (space_refusals K.port space.new)) }
+    ensures carries { Carries P.ways (is_ok result) (in_own own.old) (standing p.old space.old)
+        (in_own own.new) (standing p.new space.new) }
+    ensures others { (n : ℕ) → (n ≡ name → ⊥) → block_at own.new.names n ≡ block_at own.old.names n }
+    ensures back { OnErr result (IsSome (block_at own.new.names name)) }
+{
+    let block = own.names.take(name).unwrap();
+    match realloc_block(&mut own.cache, alloc, p, who, block, nb, space, t) {
+        Ok(Reallocated { block, reply }) => {
+            own.names.put(name, block);
+            Ok(reply)
+        }
+        Err(block) => {
+            own.names.put(name, block);
+            Err(NoMemory)
+        }
+    }
+}
+
+/// realloc of a name's block (glibc's `__libc_realloc`); to 0 bytes it is freed. `NotYours` exactly where the name holds
+/// nothing. After `NoMemory` the name holds its block, or the one that was got for it, or nothing where it was freed; it never
+/// comes where the size is too big.
+pub fn realloc<P: Places, K: Kernel>(
+    own: &mut Own,
+    alloc: Global,
+    p: &mut P,
+    who: &Who,
+    name: u32,
+    size: u64,
+    space: &mut Space<K>,
+    t: &Tunables,
+) -> Result<Reply, NoMemory>
+    requires tuned { IsTuned t.now }
+    requires served { IsServed P.ways t.now (in_own own.old) (standing p.old space.old) }
+    ensures does { IfOk result (λ reply.
+        Does (setting P.ways (means P.Hold.fast P.Hold.dials K.port) P.Dial.dials) t.now who.now (realloc_call t.now 0 name size own.old)
+        (standing p.old space.old) (reply, own.new) (standing p.new space.new)) }
+    ensures none { block_at own.old.names name ≡ None → result ≡ Ok NotYours }
+    ensures big { IsSome (block_at own.old.names name) → padded_request size ≡ None → result ≡ Ok (Null Big) }
+    ensures fits { IfOk result (λ reply. IfAnswered reply (FitsName (chunk_size_of size) name own.new.names)) }
+    ensures refused { IfOk result (λ reply. reply ≡ Null Refused
+        → Rose (space_refusals K.port space.old) (space_refusals K.port space.new)) }
+    ensures carries { Carries P.ways (is_ok result) (in_own own.old) (standing p.old space.old)
+        (in_own own.new) (standing p.new space.new) }
+    ensures others { (n : ℕ) → (n ≡ name → ⊥) → block_at own.new.names n ≡ block_at own.old.names n }
+    ensures back { (size ≡ 0 → ⊥) → OnErr result (IsSome (block_at own.new.names name)) }
+{
+    let Some(_named) = own.names.get(name) else {
+        return Ok(Reply::NotYours);
+    };
+    if size == 0 {
+        return free(own, alloc, p, who, name, space, t);
+    }
+    match request_size(size) {
+        None => Ok(Reply::Null(Why::Big)),
+        Some(nb) => realloc_name(own, alloc, p, who, name, nb, space, t),
+    }
+}
