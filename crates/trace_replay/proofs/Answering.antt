@@ -1,6 +1,6 @@
 -- A line's reply, or how the run ends without one.
 use Rattle.std.proofs.Common.{◌≡◌, ℕ, ◌≤◌, Result, Ok, Err, refl, ap}
-use Rattle.std.specs.Prelude.{OnOk, IfErr}
+use Rattle.std.specs.Prelude.{OnOk, IfOk, IfErr}
 use Rattle.malloc_calls.specs.declared.reply.Reply.{Reply}
 use Rattle.trace_text.specs.declared.trace.Line.{Line}
 use Rattle.trace_replay.specs.declared.halt.Halt.{Halt}
@@ -27,3 +27,7 @@ reply_kind n (Err NoMemory) behind = tt
 pub reply_on_ok : (P : Type 0) (n : ℕ) (r : Result Reply Halt) → OnOk r P → OnOk (reply_or_exit n r) P
 reply_on_ok P n (Ok reply) p = p
 reply_on_ok P n (Err halt) p = tt
+
+pub reply_if_ok : (P : Reply → Type 0) (n : ℕ) (r : Result Reply Halt) → IfOk r P → IfOk (reply_or_exit n r) P
+reply_if_ok P n (Ok reply) p = p
+reply_if_ok P n (Err halt) p = tt

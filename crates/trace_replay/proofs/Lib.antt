@@ -9,6 +9,7 @@ mod Finding
 mod Mappings
 mod Tiles
 mod Serving
+mod Stepping
 mod ReplayLoop
 mod Reports
 mod Words

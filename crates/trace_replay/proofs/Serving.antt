@@ -166,6 +166,28 @@ pub window_next : {K : Type 0} (well : Bool) (given got : Own) (old new : Standi
     Carries (serial_ways (λ (s : SerialState). s)) well (in_own given) old (in_own got) new → IsInWindow given old.space → IsInWindow got new.space
 window_next well given got old new c within = λ n. omega (arith, c.mapped n, within n)
 
+-- what is so of a thread and its places between two calls
+pub record IsBetween {K : Type 0} (t : Tunables) (th : Thread K) (st : SerialState) : Type 0 where
+  pub served : IsServed (serial_ways (λ (s : SerialState). s)) t (in_own (own_of th)) (standing st (space_of th))
+  pub exact : Serves true st (in_own (own_of th))
+  pub window : IsInWindow (own_of th) (space_of th)
+
+-- it is so behind a call of the thread with a place for a name
+pub between_next : {K : Type 0} (t : Tunables) (name : ℕ) (th readied_th new : Thread K) (st next : SerialState) (well : Bool) → readied_th ≡ with_names (with_places_to name (names_of th)) th → well ≡ true →
+    Carries (serial_ways (λ (s : SerialState). s)) well (in_own (own_of readied_th)) (standing st (space_of readied_th)) (in_own (own_of new)) (standing next (space_of new)) →
+    IsBetween t th st → IsBetween t new next
+between_next {K} t name th readied_th new st next well is ok carries b =
+    let given : Hands = in_own (own_of readied_th) in
+    let got : Hands = in_own (own_of new) in
+    let old : Standing SerialState K = standing st (space_of readied_th) in
+    let now : Standing SerialState K = standing next (space_of new) in
+    let Exact : Thread K → Type 0 = λ x. Serves true st (in_own (own_of x)) in
+    record {
+      served = served_next well t given got old now carries (served_there t th readied_th st name is b.served);
+      exact = serves_after well true given got old now (λ e. ok) carries (subst Exact (sym is) (exact_readied name st (own_of th) b.exact));
+      window = window_next well (own_of readied_th) (own_of new) old now carries (window_there th readied_th name is b.window);
+    }
+
 -- ---- at the end
 
 some_same : {A : Type 0} {o : Option A} (x y : A) → o ≡ Some x → o ≡ Some y → x ≡ y
@@ -231,3 +253,12 @@ if_ok₂ P R Q (Err e) f h k = tt
 pub on_ok : {A E : Type 0} (X : Type 0) (r : Result A E) → (is_ok r ≡ true → X) → OnOk r X
 on_ok X (Ok x) f = f refl
 on_ok X (Err e) f = tt
+
+pub if_ok₃ : {A E : Type 0} (P R S Q : A → Type 0) (r : Result A E) → ((x : A) → P x → R x → S x → Q x) → IfOk r P → IfOk r R → IfOk r S → IfOk r Q
+if_ok₃ P R S Q (Ok x) f h k l = f x h k l
+if_ok₃ P R S Q (Err e) f h k l = tt
+
+-- a condition of what is true of a result, behind it
+pub ok_later : {A E : Type 0} (X Y : Type 0) (r : Result A E) → (X → IfOk r (λ x. Y)) → IfOk r (λ x. X → Y)
+ok_later X Y (Ok x) f = f
+ok_later X Y (Err e) f = tt

@@ -9,7 +9,10 @@ use Rattle.fast_bins.specs.PlainBins.{FastState, empty_state, state_of}
 use Rattle.mapped_chunks.specs.declared.plain.DialState.{DialState}
 use Rattle.malloc_calls.specs.declared.own.Own.{Own}
 use Rattle.malloc_calls.specs.declared.reply.Reply.{Reply}
-use Rattle.malloc_calls.specs.Calls.{Call, malloc_call, free_call}
+use Rattle.malloc_calls.specs.Calls.{Call}
+use Rattle.malloc_calls.specs.Mallocs.{malloc_call, calloc_call, posix_memalign_call}
+use Rattle.malloc_calls.specs.Reallocs.{realloc_call}
+use Rattle.malloc_calls.specs.Frees.{free_call}
 use Rattle.malloc_calls.specs.Own.{own_of, names_of, space_of}
 use Rattle.malloc_calls.specs.Places.{KeptArena, with_journal, in_own, IsServed, standing}
 use Rattle.malloc_calls.specs.SerialWays.{SerialState, SerialWorld, Serves, first_words, serial_ways, played_call}
@@ -50,10 +53,18 @@ Tells port p = IsTrue (tells port p)
 abbrev pub names_in : {K : Type 0} {g : _} → Process K g → List (Option Block)
 names_in p = names_of p.thread
 
--- what the rules give from its world: malloc and free under a name, the call of a line, the line, the answer to it, and
--- a run
+-- what the rules give from its world: a call under a name, the call of a line, the line, the answer to it, and a run
 abbrev pub malloc_in : {K : Type 0} {g : _} → ℕ → ℕ → Process K g → Call (Reply × Own)
 malloc_in name size p = malloc_call p.t 0 name size (with_place name (own_of p.thread))
+
+abbrev pub calloc_in : {K : Type 0} {g : _} → ℕ → ℕ → ℕ → Process K g → Call (Reply × Own)
+calloc_in name n size p = calloc_call p.t 0 name n size (with_place name (own_of p.thread))
+
+abbrev pub memalign_in : {K : Type 0} {g : _} → ℕ → ℕ → ℕ → Process K g → Call (Reply × Own)
+memalign_in name align size p = posix_memalign_call p.t 0 name align size (with_place name (own_of p.thread))
+
+abbrev pub realloc_in : {K : Type 0} {g : _} → ℕ → ℕ → Process K g → Call (Reply × Own)
+realloc_in name size p = realloc_call p.t 0 name size (with_place name (own_of p.thread))
 
 abbrev pub free_in : {K : Type 0} {g : _} → ℕ → Process K g → Call (Reply × Own)
 free_in name p = free_call p.t 0 name (with_place name (own_of p.thread))

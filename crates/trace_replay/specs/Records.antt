@@ -1,8 +1,8 @@
 -- What a reply is in a report (this project's own).
-use Rattle.std.specs.Prelude.{ℕ, false, List}
+use Rattle.std.specs.Prelude.{ℕ, Bool, true, false, List, Option, Some, None, if◌then◌else◌}
 use Rattle.std.specs.List.{flat_map}
 use Rattle.malloc_calls.specs.declared.reply.Reply.{Reply}
-use Rattle.malloc_calls.specs.declared.reply.Reply.TheVariants.{Got, Null, Freed, NotYours}
+use Rattle.malloc_calls.specs.declared.reply.Reply.TheVariants.{Got, Kept, Null, Freed, NotYours}
 use Rattle.malloc_calls.specs.declared.reply.Origin.{Origin}
 use Rattle.malloc_calls.specs.declared.reply.Origin.TheVariants as origins
 use Rattle.malloc_calls.specs.declared.reply.To.{To}
@@ -16,6 +16,8 @@ use Rattle.stats_text.specs.declared.records.Source3.TheVariants as sources
 use Rattle.stats_text.specs.declared.records.Sink3.{Sink3}
 use Rattle.stats_text.specs.declared.records.Sink3.TheVariants as sinks
 use Rattle.stats_text.specs.Records.{record_text}
+use Rattle.trace_text.specs.declared.trace.Call.{Call}
+use Rattle.trace_text.specs.declared.trace.Call.TheVariants as calls
 use Rattle.trace_text.specs.declared.trace.Line.{Line}
 use Rattle.trace_text.specs.Spelling.{spelling_of}
 
@@ -35,18 +37,35 @@ sink_of tos.Unmapped = sinks.Unmapped
 -- the number of a cause in a report
 abbrev pub null_of : Why → ℕ
 null_of whys.Big = 0
+null_of whys.Align = 1
 null_of whys.Refused = 2
 
--- the answer of a reply; a name that holds nothing was skipped
-abbrev pub outcome_of : Reply → Outcome
-outcome_of (Got addr size from) = outcomes.Got addr size (source_of from)
-outcome_of (Null why) = outcomes.Null (null_of why)
-outcome_of (Freed to) = outcomes.Freed (sink_of to) false
-outcome_of NotYours = outcomes.Skip
+-- the hold that left a block where it was; there is none for a mapping
+abbrev pub hold_of : Origin → Option ℕ
+hold_of origins.Cached = None
+hold_of (origins.Arena a hold) = Some hold
+hold_of origins.Mapped = None
+
+-- whether a call is realloc
+abbrev pub is_realloc : Call → Bool
+is_realloc (calls.Realloc name size) = true
+is_realloc _ = false
+
+-- a block that is got by realloc has moved
+abbrev pub got_outcome : Bool → ℕ → ℕ → Source3 → Outcome
+got_outcome realloc addr size from = if realloc then outcomes.Moved addr size from else outcomes.Got addr size from
+
+-- the answer of a reply to a call; a name that holds nothing was skipped
+abbrev pub outcome_of : Call → Reply → Outcome
+outcome_of call (Got addr size from) = got_outcome (is_realloc call) addr size (source_of from)
+outcome_of call (Kept addr size from) = outcomes.Kept addr size (hold_of from)
+outcome_of call (Null why) = outcomes.Null (null_of why)
+outcome_of call (Freed to) = outcomes.Freed (sink_of to) (is_realloc call)
+outcome_of call NotYours = outcomes.Skip
 
 -- the record of a line, and those of many
 abbrev pub record_of : Line × Reply → List ℕ
-record_of r = record_text (spelling_of r.0) (outcome_of r.1) false
+record_of r = record_text (spelling_of r.0) (outcome_of r.0.call r.1) false
 
 unfoldable pub records_of : List (Line × Reply) → List ℕ
 records_of replies = flat_map record_of replies

@@ -18,10 +18,10 @@ abbrev pub AnswersAs : {A B : Type 0} → (A → B → Type 0) → Result A Exit
 AnswersAs {A} {B} Shows (Ok a) rules = (b : B) × (rules ≡ Ok b) × Shows a b
 AnswersAs Shows (Err exit) rules = RefusesAs exit rules
 
--- one line: its record stands behind what was written
-pub record AppendsRecord {K : Type 0} (before now : List ℕ) (line : Line) (w : World K) (answer : Reply × World K) : Type 0 where
-  pub text : now ≡ before ++ record_of (line, answer.0)
-  pub world : answer.1 ≡ w
+-- one line, whose answer is a reply and a world: its record stands behind what was written
+pub record AppendsRecord {K : Type 0} (before now : List ℕ) (line : Line) (reply : Reply) (w : World K) (answer : Reply × World K) : Type 0 where
+  pub text : now ≡ before ++ record_of (line, reply)
+  pub answered : answer ≡ (reply, w)
 
 -- the records of a run stand behind what was written
 pub record AppendsRecords {K : Type 0} (before now : List ℕ) (w : World K) (run : Run K) : Type 0 where

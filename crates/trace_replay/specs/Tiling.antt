@@ -1,7 +1,7 @@
 -- What is true of the world behind each line of a run: main is sound and fills its ranges, each used chunk stands in one
 -- place, the mapped chunks are those that are counted and lie apart, no tile of main and no mapped chunk that has a name is
 -- left out of the report, and the blocks fit (this project's own).
-use Rattle.std.specs.Prelude.{◌≡◌, ℕ, ◌+◌, ◌%◌, ◌≤◌, ◌==◌, List, Contains, map, fold, take, slice_get, Option, Some, None, Result, Ok, sum_by, if◌then◌else◌}
+use Rattle.std.specs.Prelude.{◌≡◌, ℕ, ◌+◌, ◌*◌, ◌%◌, ◌≤◌, ◌==◌, nat_le, List, Contains, map, fold, take, slice_get, Option, Some, None, Result, Ok, sum_by, if◌then◌else◌}
 use Rattle.chunk_tags.specs.BinOrder.{times_in}
 use Rattle.chunk_tags.specs.Pages.{user_address}
 use Rattle.chunk_tags.specs.Sizes.{chunk_size_of}
@@ -17,10 +17,12 @@ use Rattle.arena_rules.specs.PlainArena.{IsSound, times_used}
 use Rattle.arena_rules.specs.MainPlaces.{times_covered, IsMainPlaced}
 use Rattle.arena_core.specs.Arenas.{need_of}
 use Rattle.malloc_calls.specs.declared.own.Own.{Own}
+use Rattle.malloc_calls.specs.declared.reply.Reply.{Reply}
+use Rattle.malloc_calls.specs.declared.reply.Reply.TheVariants.{Null}
 use Rattle.malloc_calls.specs.Places.{weight_of, in_names, in_own, as_chunk_of, as_mapped, as_mapped_bytes, as_mapped_byte, given_byte}
 use Rattle.malloc_calls.specs.Names.{block_at}
 use Rattle.trace_text.specs.declared.trace.Call.{Call}
-use Rattle.trace_text.specs.declared.trace.Call.TheVariants.{Malloc}
+use Rattle.trace_text.specs.declared.trace.Call.TheVariants.{Malloc, Calloc, Realloc, Align}
 use Rattle.stats_text.specs.declared.views.Place.TheVariants.{Live}
 use Rattle.stats_text.specs.declared.views.TileView.{TileView}
 use Rattle.stats_text.specs.Totals.{in_use_of, in_use_bytes_of}
@@ -78,30 +80,56 @@ pub record IsTiled {K : Type 0} (w : World K) : Type 0 where
       Contains (mapped_of w) (tile_at b.addr b.size b.lead (Live 0 name))
   pub in_use : in_use_of (main_of w) ≡ in_use_bytes_of (main_of w).tiles
 
--- the size that a call asks for under a name, else the one that was asked for before
-abbrev pub asked_next : ℕ → Call → Option ℕ → Option ℕ
-asked_next name (Malloc made size) was = if made == name then Some size else was
-asked_next name call was = was
+-- What is asked for under a name: so many bytes, and a user address that is a multiple of a number. That is 1 where no more
+-- is asked than what each block has, `aligned` above.
+pub record Wanted : Type 0 where
+  pub size : ℕ
+  pub align : ℕ
 
--- the size that thread 0 last asked for under a name
-unfoldable pub asked_size : List Line → ℕ → Option ℕ
-asked_size lines name = fold (λ was line. if line.thread == 0 then asked_next name line.call was else was) None lines
+-- a size alone; and a size with an alignment, which asks for more where it is above 16
+abbrev pub bytes_wanted : ℕ → Wanted
+bytes_wanted size = record { size = size; align = 1 }
 
--- a block is large enough for the size that was asked for: a mapped one has 8 bytes more than its chunk
-abbrev pub IsFit : Option ℕ → Block → Type 0
+abbrev pub aligned_wanted : ℕ → ℕ → Wanted
+aligned_wanted align size = record { size = size; align = if nat_le align 16 then 1 else align }
+
+-- what stands behind realloc to a size: the size, but where no block was answered what stood before
+abbrev pub wanted_anew : ℕ → Reply → Option Wanted → Option Wanted
+wanted_anew size (Null why) was = was
+wanted_anew size reply was = Some (bytes_wanted size)
+
+-- what stands under a name behind a call that was answered so
+abbrev pub wanted_next : ℕ → Call → Reply → Option Wanted → Option Wanted
+wanted_next name (Malloc made size) reply was = if made == name then Some (bytes_wanted size) else was
+wanted_next name (Calloc made n size) reply was = if made == name then Some (bytes_wanted (n * size)) else was
+wanted_next name (Align made align size) reply was = if made == name then Some (aligned_wanted align size) else was
+wanted_next name (Realloc made size) reply was = if made == name then wanted_anew size reply was else was
+wanted_next name call reply was = was
+
+-- what thread 0 last asked for under a name, by the replies to its lines
+unfoldable pub wanted_under : List (Line × Reply) → ℕ → Option Wanted
+wanted_under replies name = fold (λ was r. if r.0.thread == 0 then wanted_next name r.0.call r.1 was else was) None replies
+
+-- a block is what was asked for: it is large enough, where a mapped one needs 8 bytes more, and its user's address is such a
+-- multiple
+pub record IsEnough (w : Wanted) (b : Block) : Type 0 where
+  pub size : need_of b.arena (chunk_size_of w.size) ≤ b.size
+  pub place : user_address b.addr % w.align ≡ 0
+
+abbrev pub IsFit : Option Wanted → Block → Type 0
 IsFit None b = ⊥
-IsFit (Some request) b = need_of b.arena (chunk_size_of request) ≤ b.size
+IsFit (Some w) b = IsEnough w b
 
--- each block that has a name is large enough for what was last asked for under it
-abbrev pub FitsWithin : List Line → List (Option Block) → Type 0
-FitsWithin lines names = (name : ℕ) (b : Block) → block_at names name ≡ Some b → IsFit (asked_size lines name) b
+-- each block that has a name is what was last asked for under it
+abbrev pub FitsWithin : List (Line × Reply) → List (Option Block) → Type 0
+FitsWithin replies names = (name : ℕ) (b : Block) → block_at names name ≡ Some b → IsFit (wanted_under replies name) b
 
 -- lines give a run from a world on, which ends in a world that is such, and whose blocks fit
 pub record TilesAfter {K : Type 0} (port : Port K) (t : Tunables) (lines : List Line) (first : World K) : Type 0 where
   pub run : Run K
   pub gives : run_of port t lines first ≡ Ok run
   pub tiled : IsTiled run.world
-  pub fit : FitsWithin lines run.world.own.names
+  pub fit : FitsWithin run.replies run.world.own.names
 
 -- so do the first lines of a run, however many: it is such behind each line, and before the first
 pub record GivesTiles {K : Type 0} (port : Port K) (t : Tunables) (lines : List Line) (kernel : K) : Type 0 where

@@ -8,6 +8,7 @@ ghost use Rattle.trace_replay.specs.SerialText.{verdict};
 ghost use Rattle.trace_text.specs.declared.fault.BadWhy.TheVariants.{Cut, Held, NotHeld};
 
 use crate::exit::Exit;
+use crate::resizes::*;
 use crate::rows::{LAST_REMAINDER, LAST_REMAINDER_REPORT};
 use crate::texts::*;
 use address_space::{Always, Kernel};
@@ -22,6 +23,9 @@ fn traces_have_reports()
     ensures too_big { verdict ⟦<Always as Kernel>⟧.port (record {} ∷ []) (asked_by (codes "ptmreplay" ∷ [])) TOO_BIG.now ≡ Ok TOO_BIG_REPORT.now }
     ensures lists { verdict ⟦<Always as Kernel>⟧.port (record {} ∷ []) (asked_by (codes "ptmreplay" ∷ [])) LISTS.now ≡ Ok LISTS_REPORT.now }
     ensures last_remainder { verdict ⟦<Always as Kernel>⟧.port (record {} ∷ []) (asked_by (codes "ptmreplay" ∷ [])) LAST_REMAINDER.now ≡ Ok LAST_REMAINDER_REPORT.now }
+    ensures resized { verdict ⟦<Always as Kernel>⟧.port (record {} ∷ []) (asked_by (codes "ptmreplay" ∷ [])) RESIZED.now ≡ Ok RESIZED_REPORT.now }
+    ensures aligned { verdict ⟦<Always as Kernel>⟧.port (record {} ∷ []) (asked_by (codes "ptmreplay" ∷ [])) ALIGNED.now ≡ Ok ALIGNED_REPORT.now }
+    ensures nothing_got { verdict ⟦<Always as Kernel>⟧.port (record {} ∷ []) (asked_by (codes "ptmreplay" ∷ [])) NOTHING_GOT.now ≡ Ok NOTHING_GOT_REPORT.now }
 {}
 
 /// What is refused, and as what.
@@ -31,14 +35,15 @@ fn others_are_refused()
     ensures cut { verdict ⟦<Always as Kernel>⟧.port (record {} ∷ []) (asked_by (codes "ptmreplay" ∷ [])) (codes "ptmtrace 1") ≡ Err (Exit.BadTrace 1 Cut) }
     ensures held { verdict ⟦<Always as Kernel>⟧.port (record {} ∷ []) (asked_by (codes "ptmreplay" ∷ [])) (codes "ptmtrace 1\n0 m 1 24\n0 m 1 24\n") ≡ Err (Exit.BadTrace 3 Held) }
     // a fault goes before what isn't built, also behind it
-    ensures fault_first { verdict ⟦<Always as Kernel>⟧.port (record {} ∷ []) (asked_by (codes "ptmreplay" ∷ [])) (codes "ptmtrace 1\n0 c 1 1 24\n0 f 2\n") ≡ Err (Exit.BadTrace 3 NotHeld) }
+    ensures fault_first { verdict ⟦<Always as Kernel>⟧.port (record {} ∷ []) (asked_by (codes "ptmreplay" ∷ [])) (codes "ptmtrace 1\n0 m 1 24\n0 p 1 7\n0 f 2\n") ≡ Err (Exit.BadTrace 4 NotHeld) }
     ensures too_long { (bytes : List ℕ) → length bytes ≡ 67108865 → verdict ⟦<Always as Kernel>⟧.port (record {} ∷ []) (asked_by (codes "ptmreplay" ∷ [])) bytes ≡ Err Exit.TooLong }
     ensures word { verdict ⟦<Always as Kernel>⟧.port (record {} ∷ []) (asked_by (codes "ptmreplay" ∷ codes "--summary" ∷ [])) (codes "ptmtrace 1\n") ≡ Err (Exit.NotBuilt 0) }
     ensures fault_before_word { verdict ⟦<Always as Kernel>⟧.port (record {} ∷ []) (asked_by (codes "ptmreplay" ∷ codes "--summary" ∷ [])) (codes "ptmtrace 1\n0 f 1\n") ≡ Err (Exit.BadTrace 2 NotHeld) }
     ensures other_thread { verdict ⟦<Always as Kernel>⟧.port (record {} ∷ []) (asked_by (codes "ptmreplay" ∷ [])) (codes "ptmtrace 1\n1 m 1 24\n") ≡ Err (Exit.NotBuilt 2) }
-    ensures other_command { verdict ⟦<Always as Kernel>⟧.port (record {} ∷ []) (asked_by (codes "ptmreplay" ∷ [])) (codes "ptmtrace 1\n0 m 1 24\n0 r 1 24\n") ≡ Err (Exit.NotBuilt 3) }
+    ensures other_command { verdict ⟦<Always as Kernel>⟧.port (record {} ∷ []) (asked_by (codes "ptmreplay" ∷ [])) (codes "ptmtrace 1\n0 m 1 24\n0 p 1 7\n") ≡ Err (Exit.NotBuilt 3) }
     // no mapping, break or piece is as long
     ensures refused { verdict ⟦<Always as Kernel>⟧.port (record {} ∷ []) (asked_by (codes "ptmreplay" ∷ [])) (codes "ptmtrace 1\n0 m 1 9223372036854775807\n") ≡ Err (Exit.NotBuilt 2) }
+    ensures refused_resize { verdict ⟦<Always as Kernel>⟧.port (record {} ∷ []) (asked_by (codes "ptmreplay" ∷ [])) (codes "ptmtrace 1\n0 m 1 24\n0 r 1 9223372036854775799\n") ≡ Err (Exit.NotBuilt 3) }
 {}
 
 /// The first growth asks for 135,168 bytes, once.

@@ -4,6 +4,7 @@ ghost use Rattle.std.specs.Prelude.{◌≡◌, None, IfOk, vec_len};
 ghost use Rattle.byte_edge.specs.Streams.{Supply, Store};
 
 use super::*;
+use crate::resizes::{CACHED_IN_THE_END, REFUSED_GROWTH, REFUSED_SHRINKING, REMAPPED};
 use crate::rows::{FENCED_PIECE, FENCED_PIECE_REPORT};
 use crate::tests::{ample, run_over};
 use crate::texts::{TWO_BLOCKS, TWO_LINES};
@@ -235,17 +236,61 @@ fn refusing_ports(alloc: Global, asks: Vec<u64>) -> Result<Vec<Budget>, NoMemory
     Ok(ports)
 }
 
+/// Runs a trace over such ports.
+fn run_refusing(
+    alloc: Global,
+    trace: &[u8],
+    asks: Vec<u64>,
+    sink: &mut MemSink,
+) -> Result<Exit, NoMemory> {
+    let ports = refusing_ports(alloc, asks)?;
+    let mut source = SureSource::new(Vec::from_slice(alloc, trace)?);
+    Ok(run(alloc, &[], &mut source, sink, ports, &Open))
+}
+
 #[test]
 fn a_refused_break_leads_to_a_piece(rt: HostRuntime) -> Result<(), Fail> {
     let alloc = rt.alloc();
-    let ports = refusing_ports(alloc, only(alloc, 2)?)?;
-    let mut source = SureSource::new(Vec::from_slice(alloc, FENCED_PIECE)?);
     let mut sink = ample(alloc)?;
     assert_eq!(rt;
-        run(alloc, &[], &mut source, &mut sink, ports, &Open),
+        run_refusing(alloc, FENCED_PIECE, only(alloc, 2)?, &mut sink)?,
         Exit::Done
     );
     assert_eq!(rt; sink.bytes(), FENCED_PIECE_REPORT);
+    Ok(())
+}
+
+#[test]
+fn a_refused_length_is_made_up_for(rt: HostRuntime) -> Result<(), Fail> {
+    let alloc = rt.alloc();
+    for (ask, report) in [(3, REFUSED_GROWTH), (4, REFUSED_SHRINKING)] {
+        let mut sink = ample(alloc)?;
+        assert_eq!(rt;
+            run_refusing(alloc, REMAPPED, only(alloc, ask)?, &mut sink)?,
+            Exit::Done,
+            "ask {ask}"
+        );
+        assert_eq!(rt; sink.bytes(), report, "ask {ask}");
+    }
+    Ok(())
+}
+
+/// Its resize was refused, though the cache has a chunk for malloc in its place; and an aligned search was.
+#[test]
+fn a_refused_realloc_or_alignment_is_not_built(rt: HostRuntime) -> Result<(), Fail> {
+    let alloc = rt.alloc();
+    for (trace, first, last, line) in [
+        (CACHED_IN_THE_END, 2, 3, 6),
+        (b"ptmtrace 1\n0 a 1 64 100\n".as_slice(), 1, 2, 2),
+    ] {
+        let asks = (first..=last).collect(alloc)?;
+        let mut sink = ample(alloc)?;
+        assert_eq!(rt;
+            run_refusing(alloc, trace, asks, &mut sink)?,
+            Exit::NotBuilt { line }
+        );
+        assert_eq!(rt; sink.bytes().len(), 0);
+    }
     Ok(())
 }
 

@@ -31,6 +31,8 @@ mod fault_tests;
 #[cfg(test)]
 mod gate_tests;
 #[cfg(test)]
+mod resizes;
+#[cfg(test)]
 mod rows;
 #[cfg(test)]
 mod tests;

@@ -1,14 +1,16 @@
 //! Thread 0 over the places of one order of calls: a line of a trace is a call.
 
-ghost use Rattle.std.specs.Prelude.{◌≡◌, ◌≤◌, ◌<◌, ◌+◌, ◌^◌, length, map, false, None, Err, IfOk, OnOk};
+ghost use Rattle.std.specs.Prelude.{◌≡◌, ◌≤◌, ◌<◌, ◌+◌, ◌*◌, ◌^◌, length, map, false, None, Err, IfOk, OnOk};
 ghost use Rattle.chunk_tags.specs.Tunables.{IsTuned};
 ghost use Rattle.malloc_calls.specs.Own.{number_of};
 ghost use Rattle.trace_replay.specs.Halts.{built_reply};
+ghost use Rattle.trace_replay.specs.World.{is_refused, is_answered};
 
 use crate::halt::Halt;
 use address_space::{Kernel, Space};
+use arena_core::{Ended, Entry};
 use chunk_tags::{NoMemory, Tunables};
-use malloc_calls::{Reply, Serial, SerialEnd, Thread, Why};
+use malloc_calls::{Reply, Serial, SerialEnd, Thread};
 use std::alloc::Global;
 use trace_text::{Call, Line};
 
@@ -28,10 +30,10 @@ impl<K: Kernel> Process<K> {
     ghost use Rattle.malloc_calls.specs.SerialWays.{EndsAs};
     ghost use Rattle.arena_rules.specs.Rules.{windows_of};
     ghost use Rattle.trace_replay.specs.Halts.{Yields};
-    ghost use Rattle.trace_replay.specs.Naming.{MayRun, LeavesNames, MakesName, EmptiesName};
-    ghost use Rattle.trace_replay.specs.Processes.{world_of, Tells, names_in, malloc_in, free_in, call_in, step_in, IsSettled, Calls, Plays};
-    ghost use Rattle.trace_replay.specs.Tiling.{IsTiled};
-    ghost use Rattle.trace_replay.specs.World.{opening_world, is_answered, is_built};
+    ghost use Rattle.trace_replay.specs.Naming.{MayRun, LeavesNames, MakesName, ResizesName, EmptiesName};
+    ghost use Rattle.trace_replay.specs.Processes.{world_of, Tells, names_in, malloc_in, calloc_in, memalign_in, realloc_in, free_in, call_in, step_in, IsSettled, Calls, Plays};
+    ghost use Rattle.trace_replay.specs.Tiling.{IsTiled, bytes_wanted, aligned_wanted};
+    ghost use Rattle.trace_replay.specs.World.{opening_world, journal_of, is_built};
 
     /// A process that has called nothing yet.
     pub fn new(alloc: Global, space: Space<K>, t: &Tunables) -> Result<Process<K>, NoMemory>
@@ -63,7 +65,7 @@ impl<K: Kernel> Process<K> {
         requires settled { IsSettled self.old }
         ensures told { Tells K.port self.old → IfOk result (λ reply.
             Plays K.port line.now (malloc_in name size self.old) self.old reply self.new) }
-        ensures names { IfOk result (λ reply. MakesName name size
+        ensures names { IfOk result (λ reply. MakesName name (bytes_wanted size)
             (with_places_to name (names_in self.old)) (reply, own_of self.new.thread)) }
         ensures settled { OnOk result (IsSettled self.new) }
         ensures tunables { self.new.t ≡ self.old.t }
@@ -71,6 +73,82 @@ impl<K: Kernel> Process<K> {
         self.thread.ready(name)?;
         self.thread
             .malloc(alloc, &mut self.serial, line.number, name, size, &self.t)
+    }
+
+    /// calloc of `n` members of a size under a name that holds nothing, in a line.
+    fn calloc(
+        &mut self,
+        alloc: Global,
+        line: &Line,
+        name: u32,
+        n: u64,
+        size: u64,
+    ) -> Result<Reply, NoMemory>
+        requires name { name ≤ 65535 }
+        requires free { block_at (names_in self.old) name ≡ None }
+        requires settled { IsSettled self.old }
+        ensures told { Tells K.port self.old → IfOk result (λ reply.
+            Plays K.port line.now (calloc_in name n size self.old) self.old reply self.new) }
+        ensures names { IfOk result (λ reply. MakesName name (bytes_wanted (n * size))
+            (with_places_to name (names_in self.old)) (reply, own_of self.new.thread)) }
+        ensures settled { OnOk result (IsSettled self.new) }
+        ensures tunables { self.new.t ≡ self.old.t }
+    {
+        self.thread.ready(name)?;
+        self.thread.calloc(alloc, &mut self.serial, line.number, name, n, size, &self.t)
+    }
+
+    /// posix_memalign of a size under a name that holds nothing, in a line.
+    fn posix_memalign(
+        &mut self,
+        alloc: Global,
+        line: &Line,
+        name: u32,
+        align: u64,
+        size: u64,
+    ) -> Result<Reply, NoMemory>
+        requires name { name ≤ 65535 }
+        requires free { block_at (names_in self.old) name ≡ None }
+        requires settled { IsSettled self.old }
+        ensures told { Tells K.port self.old → IfOk result (λ reply.
+            Plays K.port line.now (memalign_in name align size self.old) self.old reply self.new) }
+        ensures names { IfOk result (λ reply. MakesName name (aligned_wanted align size)
+            (with_places_to name (names_in self.old)) (reply, own_of self.new.thread)) }
+        ensures settled { OnOk result (IsSettled self.new) }
+        ensures tunables { self.new.t ≡ self.old.t }
+    {
+        self.thread.ready(name)?;
+        self.thread.posix_memalign(
+            alloc,
+            &mut self.serial,
+            line.number,
+            name,
+            align,
+            size,
+            &self.t,
+        )
+    }
+
+    /// realloc of a name's block, in a line.
+    fn realloc(
+        &mut self,
+        alloc: Global,
+        line: &Line,
+        name: u32,
+        size: u64,
+    ) -> Result<Reply, NoMemory>
+        requires name { name ≤ 65535 }
+        requires settled { IsSettled self.old }
+        ensures told { Tells K.port self.old → IfOk result (λ reply.
+            Plays K.port line.now (realloc_in name size self.old) self.old reply self.new) }
+        ensures names { IfOk result (λ reply. ResizesName name size
+            (with_places_to name (names_in self.old)) (reply, own_of self.new.thread)) }
+        ensures settled { OnOk result (IsSettled self.new) }
+        ensures tunables { self.new.t ≡ self.old.t }
+    {
+        self.thread.ready(name)?;
+        self.thread
+            .realloc(alloc, &mut self.serial, line.number, name, size, &self.t)
     }
 
     /// free of a name's block, in a line.
@@ -89,17 +167,12 @@ impl<K: Kernel> Process<K> {
             .free(alloc, &mut self.serial, line.number, name, &self.t)
     }
 
-    /// Whether a reply is what is built: no search was refused.
-    fn is_answered(&self, reply: &Reply) -> bool
-        ensures { result ≡ is_answered reply.now (own_of self.now.thread) }
+    /// The journal of main.
+    fn journal(&self) -> &[Entry]
+        requires { IsSettled self.now }
+        ensures { result.now ≡ journal_of (world_of self.now) }
     {
-        match reply {
-            Reply::Got { .. } => self.thread.cache().is_open(),
-            Reply::Null(Why::Big) => true,
-            Reply::Null(Why::Refused) => false,
-            Reply::Freed(_) => true,
-            Reply::NotYours => true,
-        }
+        self.serial.journal()
     }
 
     /// A law; the call does nothing. Between two calls the world is tiled.
@@ -131,7 +204,8 @@ impl<K: Kernel> Process<K> {
         ensures told { Tells K.port self.old →
             Calls result (world_of self.new) (call_in K.port line.now self.old) }
         ensures telling { Tells K.port self.old → OnOk result (Tells K.port self.new) }
-        ensures names { OnOk result (LeavesNames line.now (names_in self.old) (names_in self.new)) }
+        ensures names { IfOk result (λ reply.
+            LeavesNames line.now reply (names_in self.old) (names_in self.new)) }
         ensures settled { OnOk result (IsSettled self.new) }
         ensures tunables { self.new.t ≡ self.old.t }
     {
@@ -140,6 +214,11 @@ impl<K: Kernel> Process<K> {
         }
         match line.call {
             Call::Malloc { name, size } => Ok(self.malloc(alloc, line, name, size)?),
+            Call::Calloc { name, n, size } => Ok(self.calloc(alloc, line, name, n, size)?),
+            Call::Align { name, align, size } => {
+                Ok(self.posix_memalign(alloc, line, name, align, size)?)
+            }
+            Call::Realloc { name, size } => Ok(self.realloc(alloc, line, name, size)?),
             Call::Free { name } => Ok(self.free(alloc, line, name)?),
             _ => Err(Halt::NotBuilt),
         }
@@ -154,13 +233,37 @@ impl<K: Kernel> Process<K> {
         ensures told { Tells K.port self.old →
             Yields result (world_of self.new) (step_in K.port line.now self.old) }
         ensures telling { Tells K.port self.old → OnOk result (Tells K.port self.new) }
-        ensures names { OnOk result (LeavesNames line.now (names_in self.old) (names_in self.new)) }
+        ensures names { IfOk result (λ reply.
+            LeavesNames line.now reply (names_in self.old) (names_in self.new)) }
         ensures settled { OnOk result (IsSettled self.new) }
         ensures tunables { self.new.t ≡ self.old.t }
     {
+        let before = self.journal().len();
         let reply = self.call(alloc, line)?;
-        built_reply(self.is_answered(&reply), reply)
+        built_reply(is_answered(before, self.journal()), reply)
     }
+}
+
+/// Whether a hold was refused what it needed.
+fn is_refused(entry: &Entry) -> bool
+    ensures { result ≡ is_refused entry.now.ended }
+{
+    match entry.ended {
+        Ended::Refused => true,
+        Ended::Got { .. } | Ended::Done | Ended::Short => false,
+    }
+}
+
+/// Whether the holds behind the first ones of a journal were answered: none of them was refused.
+fn is_answered(before: usize, journal: &[Entry]) -> bool
+    ensures { result ≡ is_answered before journal.now }
+{
+    for place in before..journal.len() {
+        if is_refused(&journal[place]) {
+            return false;
+        }
+    }
+    true
 }
 
 /// The reply to a line's call, where what answered it is built.

@@ -1,10 +1,12 @@
 //! Replies as a report has them.
 
 ghost use Rattle.std.specs.Prelude.{◌≡◌};
-ghost use Rattle.trace_replay.specs.Records.{source_of, sink_of, null_of, outcome_of};
+ghost use Rattle.trace_replay.specs.Records.{source_of, sink_of, null_of, hold_of, is_realloc, got_outcome, outcome_of};
 
+use chunk_tags::{Addr, Size};
 use malloc_calls::{Origin, Reply, To, Why};
 use stats_text::{Outcome, Sink3, Source3};
+use trace_text::Call;
 
 /// Where a block came from.
 fn source(from: Origin) -> Source3
@@ -35,24 +37,57 @@ fn null(why: Why) -> u8
 {
     match why {
         Why::Big => 0,
+        Why::Align => 1,
         Why::Refused => 2,
     }
 }
 
-/// What a reply is in a report.
-pub fn outcome(reply: Reply) -> Outcome
-    ensures { result ≡ outcome_of reply }
+/// The hold that left a block where it was; there is none for a mapping.
+fn hold(from: Origin) -> Option<u64>
+    ensures { result ≡ hold_of from }
 {
-    match reply {
-        Reply::Got { addr, size, from } => Outcome::Got {
+    match from {
+        Origin::Arena { a: _, hold } => Some(hold),
+        Origin::Cached | Origin::Mapped => None,
+    }
+}
+
+/// Whether a call is realloc.
+fn is_realloc(call: &Call) -> bool
+    ensures { result ≡ is_realloc call.now }
+{
+    match call {
+        Call::Realloc { .. } => true,
+        _ => false,
+    }
+}
+
+/// A block that is got; by realloc it has moved.
+fn got(realloc: bool, addr: Addr, size: Size, from: Source3) -> Outcome
+    ensures { result ≡ got_outcome realloc addr size from }
+{
+    if realloc {
+        Outcome::Moved { addr, size, from }
+    } else {
+        Outcome::Got { addr, size, from }
+    }
+}
+
+/// What a reply to a call is in a report.
+pub fn outcome(call: &Call, reply: &Reply) -> Outcome
+    ensures { result ≡ outcome_of call.now reply.now }
+{
+    match *reply {
+        Reply::Got { addr, size, from } => got(is_realloc(call), addr, size, source(from)),
+        Reply::Kept { addr, size, from } => Outcome::Kept {
             addr,
             size,
-            from: source(from),
+            hold: hold(from),
         },
         Reply::Null(why) => Outcome::Null(null(why)),
         Reply::Freed(to) => Outcome::Freed {
             to: sink(to),
-            by_realloc: false,
+            by_realloc: is_realloc(call),
         },
         Reply::NotYours => Outcome::Skip,
     }

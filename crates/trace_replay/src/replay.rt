@@ -1,6 +1,6 @@
 //! A serial run: the record of each line, in file order.
 
-ghost use Rattle.std.specs.Prelude.{◌≡◌, ℕ, false, Err, [], take, IfErr, OnOk};
+ghost use Rattle.std.specs.Prelude.{◌≡◌, ℕ, false, Err, [], take, IfOk, IfErr, OnOk};
 ghost use Rattle.std.specs.List.{All};
 ghost use Rattle.trace_replay.specs.Headline.{IsHalt, IsNumbered};
 ghost use Rattle.trace_replay.specs.Naming.{MayRun, LeavesNames, HoldsWithin};
@@ -28,8 +28,8 @@ fn answer<K: Kernel>(alloc: Global, process: &mut Process<K>, line: &Line) -> Re
     ensures told { Tells K.port process.old → AnswersAs (λ reply a. a ≡ (reply, world_of process.new))
         result (answer_in K.port line.now process.old) }
     ensures telling { Tells K.port process.old → OnOk result (Tells K.port process.new) }
-    ensures names { OnOk result
-        (LeavesNames line.now (names_in process.old) (names_in process.new)) }
+    ensures names { IfOk result (λ reply.
+        LeavesNames line.now reply (names_in process.old) (names_in process.new)) }
     ensures settled { OnOk result (IsSettled process.new) }
     ensures tunables { process.new.t ≡ process.old.t }
     ensures kind { IfErr result IsHalt }
@@ -37,31 +37,32 @@ fn answer<K: Kernel>(alloc: Global, process: &mut Process<K>, line: &Line) -> Re
     reply_or_exit(line.number, process.step(alloc, line))
 }
 
-/// Runs a line and appends its record, which begins with the line's own text.
+/// Runs a line and appends its record, which begins with the line's own text; then the line's reply.
 fn replay_line<K: Kernel>(
     alloc: Global,
     process: &mut Process<K>,
     line: &Line,
     text: &[u8],
     out: &mut Vec<u8>,
-) -> Result<(), Exit>
+) -> Result<Reply, Exit>
     requires text { text.now ≡ spelling_of line.now }
     requires may { MayRun line.now (names_in process.old) }
     requires settled { IsSettled process.old }
     requires numbered { IsNumbered line.now }
-    ensures told { Tells K.port process.old → AnswersAs (λ _ a.
-        AppendsRecord out.old.items out.new.items line.now (world_of process.new) a)
+    ensures told { Tells K.port process.old → AnswersAs (λ reply a.
+        AppendsRecord out.old.items out.new.items line.now reply (world_of process.new) a)
         result (answer_in K.port line.now process.old) }
     ensures telling { Tells K.port process.old → OnOk result (Tells K.port process.new) }
-    ensures names { OnOk result
-        (LeavesNames line.now (names_in process.old) (names_in process.new)) }
+    ensures names { IfOk result (λ reply.
+        LeavesNames line.now reply (names_in process.old) (names_in process.new)) }
     ensures settled { OnOk result (IsSettled process.new) }
     ensures tunables { process.new.t ≡ process.old.t }
     ensures kind { IfErr result IsHalt }
 {
     let reply = answer(alloc, process, line)?;
-    append_record(out, text, &outcome(reply), false)?;
-    Ok(())
+    let said = outcome(&line.call, &reply);
+    append_record(out, text, &said, false)?;
+    Ok(reply)
 }
 
 /// Runs the lines of a trace in their order and appends their records. `texts` has the lines' own texts.

@@ -1,6 +1,7 @@
 //! Whole runs, with the texts that the rules give for them.
 
 use super::*;
+use crate::resizes::*;
 use crate::rows::*;
 use crate::texts::{EMPTY, TWO_BLOCKS, TWO_LINES};
 use address_space::Always;
@@ -77,6 +78,35 @@ fn chunks_come_from_the_system(rt: HostRuntime) -> Result<(), Fail> {
 }
 
 #[test]
+fn blocks_are_resized(rt: HostRuntime) -> Result<(), Fail> {
+    let alloc = rt.alloc();
+    assert!(rt; has_report(alloc, RESIZED, RESIZED_REPORT)?);
+    assert!(rt; has_report(alloc, RESIZED_MAPPINGS, RESIZED_MAPPINGS_REPORT)?);
+    Ok(())
+}
+
+#[test]
+fn blocks_are_aligned(rt: HostRuntime) -> Result<(), Fail> {
+    let alloc = rt.alloc();
+    assert!(rt; has_report(alloc, ALIGNED, ALIGNED_REPORT)?);
+    Ok(())
+}
+
+#[test]
+fn calloc_passes_over_the_cache(rt: HostRuntime) -> Result<(), Fail> {
+    let alloc = rt.alloc();
+    assert!(rt; has_report(alloc, ZEROED, ZEROED_REPORT)?);
+    Ok(())
+}
+
+#[test]
+fn nothing_got_changes_nothing(rt: HostRuntime) -> Result<(), Fail> {
+    let alloc = rt.alloc();
+    assert!(rt; has_report(alloc, NOTHING_GOT, NOTHING_GOT_REPORT)?);
+    Ok(())
+}
+
+#[test]
 fn records_are_those_of_the_rules(rt: HostRuntime) -> Result<(), Fail> {
     let alloc = rt.alloc();
     for (trace, records) in [
@@ -117,7 +147,16 @@ fn refusals_write_nothing(rt: HostRuntime) -> Result<(), Fail> {
             Exit::NotBuilt { line: 3 },
             9,
         ),
-        (b"ptmtrace 1\n0 c 1 1 24\n", Exit::NotBuilt { line: 2 }, 9),
+        (
+            b"ptmtrace 1\n0 m 1 24\n0 p 1 7\n",
+            Exit::NotBuilt { line: 3 },
+            9,
+        ),
+        (
+            b"ptmtrace 1\n0 m 1 24\n0 r 1 9223372036854775799\n",
+            Exit::NotBuilt { line: 3 },
+            9,
+        ),
         (
             b"ptmtrace 1\n0 m 1 24\n1 m 1 24\n",
             Exit::NotBuilt { line: 3 },

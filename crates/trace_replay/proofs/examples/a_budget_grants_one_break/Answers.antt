@@ -1,5 +1,5 @@
 use Rattle.std.proofs.Common.{refl}
-use Rattle.stats_text.specs.Records.{hold_text, source_text, sink_text, freed_text, null_word_of, answer_text, record_text}
+use Rattle.stats_text.specs.Records.{hold_text, source_text, sink_text, kept_hold, freed_text, null_word_of, answer_text, record_text}
 use Rattle.stats_text.specs.Report.{number_or_dash, address_or_dash, place_text, tile_line, tile_lines, mapped_lines, numbered_list, bin_line, bin_lines, arena_line, arena_section, arena_sections, cache_line, cache_lines, thread_line, thread_lines, numbers_or_dash, book_line, dials_line, places_of}
 use Rattle.stats_text.specs.Totals.{tile_bytes_of, idle_bytes_of, in_use_of, system_bytes_of, used_bytes_of, insert_by_place, in_list_order, total_line, bytes_lines, arena_totals, all_arena_totals, mapped_maxima, totals_lines, totals_of, statistics_of}
 use Rattle.stats_text.specs.Words.{hex_digits, address, block_text, addresses, in_ten_places}
@@ -19,7 +19,7 @@ use Rattle.trace_text.specs.Numbers.{number_of}
 use Rattle.trace_replay.proofs.examples.a_budget_grants_one_break.Goals as goal
 
 pub returns : goal.returns
-unfolding verdict run_of step empty_lists empty_bins most_stashed consolidated empty_state reading_of lines_after line_of filled_line thread_of command_of call_of one_number two_numbers three_numbers number_at name_at number_of fitting is_held has_ended shown_of main_with finds_of fast_of found_with found_by_address by_address records_of record_text answer_text source_text sink_text freed_text hold_text null_word_of places_of arena_sections arena_section arena_line address_or_dash tile_lines tile_line place_text bin_line bin_lines mapped_lines cache_lines cache_line numbered_list addresses thread_lines thread_line number_or_dash numbers_or_dash book_line dials_line statistics_of all_arena_totals arena_totals in_list_order insert_by_place bytes_lines total_line in_use_of idle_bytes_of tile_bytes_of totals_of totals_lines system_bytes_of used_bytes_of mapped_maxima block_text address hex_digits in_ten_places digits
+unfolding verdict run_of step empty_lists empty_bins most_stashed consolidated empty_state reading_of lines_after line_of filled_line thread_of command_of call_of one_number two_numbers three_numbers number_at name_at number_of fitting is_held has_ended shown_of main_with finds_of fast_of found_with found_by_address by_address records_of record_text answer_text source_text sink_text freed_text kept_hold hold_text null_word_of places_of arena_sections arena_section arena_line address_or_dash tile_lines tile_line place_text bin_line bin_lines mapped_lines cache_lines cache_line numbered_list addresses thread_lines thread_line number_or_dash numbers_or_dash book_line dials_line statistics_of all_arena_totals arena_totals in_list_order insert_by_place bytes_lines total_line in_use_of idle_bytes_of tile_bytes_of totals_of totals_lines system_bytes_of used_bytes_of mapped_maxima block_text address hex_digits in_ten_places digits
 returns c = record {
   enough = refl;
   short = refl;

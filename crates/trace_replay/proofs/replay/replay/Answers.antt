@@ -2,7 +2,7 @@ use Rattle.std.proofs.Common.{refl, subst, ◌∙◌}
 use Rattle.std.proofs.lemmas.List.{take_all}
 use Rattle.std.proofs.lemmas.Result.{err_from_is_err_and}
 use Rattle.trace_replay.specs.Processes.{world_of}
-use Rattle.trace_replay.proofs.HeldNames.{nothing_named, nothing_fits, names_next, fits_next, may_run, fits_at}
+use Rattle.trace_replay.proofs.HeldNames.{nothing_named, names_next, may_run, fits_at}
 use Rattle.trace_replay.proofs.ReplayLoop.{SoFar, nothing_yet, goes_on, next_texts, ends, finished, tiles_first, tiles_next, tiles_all}
 use Rattle.trace_replay.proofs.replay.replay.Goals as goal
 
@@ -10,10 +10,9 @@ pub loop-line-init : goal.loop-line-init
 loop-line-init g c = record {
   texts = c.requires.texts;
   names = nothing_named _ c.requires.unnamed;
-  fit = nothing_fits _ c.requires.unnamed;
   settled = c.requires.settled;
   tunables = refl;
-  told = λ h. (h, nothing_yet _ _ _ _, tiles_first _ _ c.args.lines.now _ c.laws.ensures (nothing_fits _ c.requires.unnamed));
+  told = λ h. (h, nothing_yet _ _ _ _ c.requires.unnamed, tiles_first _ _ c.args.lines.now _ c.laws.ensures c.requires.unnamed);
 }
 
 pub replay_line-requires-clause-may : goal.replay_line-requires-clause-may
@@ -23,18 +22,16 @@ replay_line-requires-clause-may g c = λ k l.
 pub loop-line-preserved : goal.loop-line-preserved
 loop-line-preserved g c = record {
   texts = next_texts _ _ _ _ c.take.result.now c.loop-line-test.true c.loop-line.invariant.texts c.take.ensures;
-  names = names_next _ c.loop-line.line-index _ _ _ c.loop-line-test.true c.loop-line.invariant.names c.in_ok-replay_line.ensures.names;
-  fit = fits_next _ c.loop-line.line-index _ _ _ c.loop-line-test.true c.loop-line.invariant.fit c.in_ok-replay_line.ensures.names;
+  names = names_next _ c.loop-line.line-index _ _ _ _ c.loop-line-test.true c.loop-line.invariant.names c.in_ok-replay_line.ensures.names;
   settled = c.in_ok-replay_line.ensures.settled;
   tunables = c.replay_line.ensures.tunables ∙ c.loop-line.invariant.tunables;
   told = λ h.
       let so_far = c.loop-line.invariant.told h in
       let answered = c.in_ok-replay_line.ensures.told so_far.0 in
-      let here = goes_on _ _ _ _ c.loop-line.line-index _ _ _ _ _ _ _ answered.0 c.loop-line.invariant.tunables c.loop-line-test.true so_far.1 answered.1 answered.2 in (
+      let here = goes_on _ _ _ _ c.loop-line.line-index _ _ _ _ _ _ _ _ answered.0 c.loop-line.invariant.tunables c.loop-line-test.true so_far.1 answered.1 answered.2 c.in_ok-replay_line.ensures.names in (
         c.in_ok-replay_line.ensures.telling so_far.0,
         here,
-        tiles_next _ _ _ c.loop-line.line-index _ _ _ _ so_far.2 here c.laws-in-loop-line.ensures
-            (fits_next _ c.loop-line.line-index _ _ _ c.loop-line-test.true c.loop-line.invariant.fit c.in_ok-replay_line.ensures.names),
+        tiles_next _ _ _ c.loop-line.line-index _ _ _ _ so_far.2 here c.laws-in-loop-line.ensures,
       );
 }
 

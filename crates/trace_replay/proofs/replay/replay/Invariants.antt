@@ -2,7 +2,6 @@ use Rattle.std.proofs.Common.{◌≡◌, IsTrue, drop, take}
 use Rattle.malloc_calls.specs.Own.{names_of}
 use Rattle.trace_text.specs.Spelling.{texts_of}
 use Rattle.trace_replay.specs.Naming.{HoldsWithin}
-use Rattle.trace_replay.specs.Tiling.{FitsWithin}
 use Rattle.trace_replay.specs.Processes.{world_of, tells, IsSettled}
 use Rattle.trace_replay.proofs.ReplayLoop.{SoFar, TilesSoFar}
 use Rattle.trace_replay.proofs.replay.replay.Given as goal
@@ -11,7 +10,6 @@ abbrev pub invariant-loop-line : goal.invariant-loop-line
 invariant-loop-line g l = record {
   texts : l.texts ≡ texts_of (drop l.line-index l.lines);
   names : HoldsWithin (take l.line-index l.lines) (names_of l.process.thread);
-  fit : FitsWithin (take l.line-index l.lines) (names_of l.process.thread);
   settled : IsSettled l.process;
   tunables : l.process.t ≡ l.initial.process.t;
   told : IsTrue (tells g.K.Kernel.port l.initial.process)
