@@ -1,6 +1,6 @@
-/* What a plain C program does with the same trace: it reads and checks every line, calls the machine's own malloc and
- * free, and writes a record for each line in the form of a report. It keeps no list of chunks: behind the records it
- * writes the blocks that are left. */
+/* What a plain C program does with the same trace: it reads and checks every line, calls the machine's own malloc, calloc,
+ * realloc, posix_memalign and free, and writes a record for each line in the form of a report. It keeps no list of chunks:
+ * behind the records it writes the blocks that are left. */
 #include <malloc.h>
 #include <stdint.h>
 #include <stdio.h>
@@ -88,6 +88,35 @@ static struct name *find(uint64_t thread, uint64_t n, unsigned long line) {
 
 static size_t list_of(void *block) { return (malloc_usable_size(block) + 8 - 32 + 15) / 16; }
 
+/* One chunk more in that list, where it has room. */
+static void note_cached(size_t list) {
+    if (list < LISTS && cached[list] < FULL)
+        cached[list]++;
+}
+
+static void *take(char command, uint64_t first, uint64_t size) {
+    void *block = NULL;
+    if (command == 'm')
+        return malloc(size);
+    if (command == 'c')
+        return calloc(first, size);
+    return posix_memalign(&block, first, size) ? NULL : block;
+}
+
+static void free_block(struct name *name) {
+    name->held = 0;
+    if (name->block)
+        note_cached(list_of(name->block));
+    free(name->block);
+    name->block = NULL;
+}
+
+/* A record's end: the block, and where it is. */
+static void write_block(void *block, const char *place) {
+    char record[80], *to = put_text(put_block(put_text(record, " -> "), block), place);
+    fwrite(record, 1, (size_t)(to - record), stdout);
+}
+
 static void run_line(const char *text, const char *end, unsigned long line) {
     const char *at = text;
     uint64_t thread = number(&at, end, line);
@@ -99,38 +128,56 @@ static void run_line(const char *text, const char *end, unsigned long line) {
     at += 2;
     struct name *name = find(thread, number(&at, end, line), line);
     fwrite(text, 1, (size_t)(end - text), stdout);
-    if (command == 'm') {
+    if (command == 'm' || command == 'c' || command == 'a') {
+        uint64_t first = command == 'm' ? 0 : number(&at, end, line);
         uint64_t size = number(&at, end, line);
         if (at != end)
             fail(line, "Fields");
         if (name->held)
             fail(line, "Held");
         name->held = 1;
-        name->block = malloc(size);
+        name->block = take(command, first, size);
         if (!name->block) {
             fputs(" -> null big\n", stdout);
             return;
         }
         size_t list = list_of(name->block);
-        int from_cache = list < LISTS && cached[list] > 0;
+        int from_cache = command == 'm' && list < LISTS && cached[list] > 0;
         if (from_cache)
             cached[list]--;
-        char record[80], *to = put_block(put_text(record, " -> "), name->block);
-        to = put_text(to, from_cache ? " cached\n" : " arena 0\n");
-        fwrite(record, 1, (size_t)(to - record), stdout);
+        write_block(name->block, from_cache ? " cached\n" : " arena 0\n");
+    } else if (command == 'r') {
+        uint64_t size = number(&at, end, line);
+        if (at != end)
+            fail(line, "Fields");
+        if (!name->held)
+            fail(line, "NotHeld");
+        if (size == 0) {
+            free_block(name);
+            fputs(" -> freed cached\n", stdout);
+            return;
+        }
+        if (!name->block) {
+            fputs(" -> skip\n", stdout);
+            return;
+        }
+        uintptr_t old = (uintptr_t)name->block;
+        size_t list = list_of(name->block);
+        void *block = realloc(name->block, size);
+        if (!block) {
+            fputs(" -> null big\n", stdout);
+            return;
+        }
+        name->block = block;
+        if ((uintptr_t)block != old)
+            note_cached(list);
+        write_block(block, (uintptr_t)block == old ? " kept\n" : " moved arena 0\n");
     } else if (command == 'f') {
         if (at != end)
             fail(line, "Fields");
         if (!name->held)
             fail(line, "NotHeld");
-        name->held = 0;
-        if (name->block) {
-            size_t list = list_of(name->block);
-            if (list < LISTS && cached[list] < FULL)
-                cached[list]++;
-        }
-        free(name->block);
-        name->block = NULL;
+        free_block(name);
         fputs(" -> cached\n", stdout);
     } else {
         fail(line, "Command");
