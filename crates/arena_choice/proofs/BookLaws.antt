@@ -5,7 +5,7 @@ use Rattle.std.proofs.lemmas.Bool.Decides.{nat_tests}
 use Rattle.chunk_tags.specs.declared.tunables.Tunables.{Tunables}
 use Rattle.arena_choice.specs.Numbers.{has, Apart, without, with_second}
 use Rattle.arena_choice.specs.Books.{BookValue, IsSound, attached_to, arena_of, numbers_of, first_book, no_arenas}
-use Rattle.arena_choice.specs.Choices.{has_place, new_number, with_new_number, without_newest_free, with_limit_settled, listed, behind, attached_book, reused_book, undone_book, newest_free, own_arena, start_of, new_or_reuse, after_new_or_reuse, choice_from, book_from, choice_of, after_choice, CanAttach, IsUsable}
+use Rattle.arena_choice.specs.Choices.{has_place, new_number, with_new_number, without_newest_free, with_limit_settled, listed, behind, attached_book, reused_book, undone_book, left_book, detached_book, newest_free, own_arena, start_of, new_or_reuse, after_new_or_reuse, choice_from, book_from, choice_of, after_choice, CanAttach, IsUsable}
 use Rattle.arena_choice.specs.declared.choice.Choice.TheVariants.{New, Reuse}
 use Rattle.arena_choice.proofs.NumberLaws.{same, has_first, has_more, has-append, gone, was_there, Apart-without, length-without, length-without_one, no_more, lowest_not_there, has-with_second, Apart-with_second, length-with_second, behind_in}
 use Rattle.arena_choice.proofs.AttachedLaws.{weight, attached-set, attached-get, none_at_first}
@@ -384,3 +384,34 @@ sound_freed b a s known apart idle = record {
   alone = s.alone;
   next = s.next;
 }
+
+-- ---- a whole choice, and a thread's end
+
+sound_new_or_reuse : (b : BookValue) → IsSound b → IsSound (after_new_or_reuse b)
+sound_new_or_reuse b s =
+    let go : (t : Bool) → has_place b ≡ t → IsSound (cond t (with_new_number b) b) = elim [
+      | true ↦ λ place. sound_with_new_number b s place
+      | false ↦ λ place. s
+    ] in
+    go (has_place b) refl
+
+sound_from : (own free : Option ℕ) (t : Tunables) (b : BookValue) → IsSound b → IsSound (book_from own free t b)
+sound_from (Some a) free t b s = s
+sound_from None (Some a) t b s = sound_without_newest_free b s
+sound_from None None t b s = sound_new_or_reuse (with_limit_settled t b) (sound_limit b (with_limit_settled t b).limit s)
+
+pub sound_after_choice : (b : BookValue) (thread : ℕ) (fresh : Bool) (t : Tunables) → IsSound b → IsSound (after_choice b thread fresh t)
+sound_after_choice b thread fresh t s = sound_from (own_arena b thread fresh) (newest_free b) t b s
+
+sound_end : (b : BookValue) (thread : ℕ) (own : Option ℕ) → IsSound b → arena_of b thread ≡ own → IsSound (left_book b thread own)
+sound_end b thread None s e = s
+sound_end b thread (Some a) s e =
+    let left : BookValue = record b { arenas = set b.arenas thread None } in
+    let go : (t : Bool) → (attached_to a left.arenas == 0) ≡ t → IsSound (record left { free = cond t (a ∷ b.free) b.free }) = elim [
+      | true ↦ λ none. sound_freed left a (sound_left b thread s) (arena_listed b thread a s e) (arena_not_free b thread a s e) (same (attached_to a left.arenas) 0 none)
+      | false ↦ λ some. sound_left b thread s
+    ] in
+    go (attached_to a left.arenas == 0) refl
+
+pub sound_detached : (b : BookValue) (thread : ℕ) → IsSound b → IsSound (detached_book b thread)
+sound_detached b thread s = sound_end b thread (arena_of b thread) s refl

@@ -1,14 +1,14 @@
 //! The book, and its calls.
 
-ghost use Rattle.std.specs.Prelude.{◌≡◌, ℕ, ◌<◌, ◌≤◌, ◌+◌, ◌||◌, true, IfOk, IsTrue, length};
-ghost use Rattle.arena_choice.specs.Numbers.{has, without};
+ghost use Rattle.std.specs.Prelude.{◌≡◌, ◌≤◌, true, IfOk, IsTrue};
+ghost use Rattle.arena_choice.specs.Numbers.{has};
 ghost use Rattle.arena_choice.specs.Books.{first_book, arena_of, attached_to, is_at, with_arena, no_arenas, IsSound};
 ghost use Rattle.arena_choice.specs.Choices.{choice_of, after_choice, behind, attached_book, reused_book, undone_book, detached_book, newest_free, without_newest_free, with_limit_settled, limit_by_cores, has_place, new_number, with_new_number, CanAttach, IsUsable};
 
 use crate::choice::Choice;
 use crate::row::{Row, lowest_unused, move_over};
 use chunk_tags::{NoMemory, Tunables};
-use std::alloc::{AllocError, Global};
+use std::alloc::Global;
 use std::marker::Model;
 
 /// The book of arenas (glibc's `main_arena.next`, `free_list`, `next_to_use`, `narenas_limit` and `thread_arena`).
@@ -70,8 +70,8 @@ fn first_arenas() -> [Option<u8>; 256]
 }
 
 impl Book {
-    /// A book with main alone, to which thread 0 is attached, for at most `records` arenas (glibc's `ptmalloc_init`).
-    /// All room is reserved here.
+    /// A book with main alone, to which thread 0 is attached (glibc's `ptmalloc_init`), for at most so many arenas,
+    /// which is this project's own limit. All room is reserved here: no other call asks for memory.
     pub fn new(alloc: Global, records: u8) -> Result<Book, NoMemory>
         requires one { 1 ≤ records }
         requires most { records ≤ 64 }
@@ -146,8 +146,9 @@ impl Book {
         self.choose_by_rules(thread, fresh, t)
     }
 
-    /// Attaches a thread to an arena to which none is attached: one from the free list, or a new one, which comes into
-    /// the list behind main.
+    /// Attaches a thread to an arena to which none is attached: one from the free list (glibc's `get_free_list`), or a
+    /// new one, which comes into the list behind main (`_int_new_arena`). The thread is detached from the one that it
+    /// had, which isn't free by that alone (`detach_arena`).
     pub fn attach(&mut self, thread: u8, a: u8)
         requires { CanAttach self.old a }
         ensures { self.new ≡ attached_book self.old thread a }
@@ -157,8 +158,8 @@ impl Book {
         self.arenas[usize::from(thread)] = Some(a);
     }
 
-    /// Attaches a thread to an arena that others may use too; the next one to use is then the one behind it (the end of
-    /// glibc's `reused_arena`).
+    /// Attaches a thread to an arena that others may use too, whose lock it got; the next one to use is then the one
+    /// behind it, and it leaves the free list (the end of glibc's `reused_arena`, with `remove_from_free_list`).
     pub fn reused(&mut self, thread: u8, a: u8)
         requires { has a self.old.list ≡ true }
         ensures { self.new ≡ reused_book self.old thread a }
@@ -168,7 +169,8 @@ impl Book {
         self.arenas[usize::from(thread)] = Some(a);
     }
 
-    /// Gives back the number of a new arena that could not be made.
+    /// Gives back the number of a new arena whose heap was refused (the end of glibc's `arena_get2`, where `narenas`
+    /// falls again).
     pub fn undo_new(&mut self, a: u8)
         requires { has a self.old.kept ≡ true }
         ensures { self.new ≡ undone_book self.old a }

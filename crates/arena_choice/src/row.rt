@@ -1,6 +1,6 @@
 //! A list of arenas' numbers whose room is reserved when it is made.
 
-ghost use Rattle.std.specs.Prelude.{◌≡◌, ℕ, ◌<◌, ◌≤◌, ◌+◌, ◌++◌, [], ◌∷◌, drop, length, IfOk, slice_get, true};
+ghost use Rattle.std.specs.Prelude.{◌≡◌, ◌<◌, ◌≤◌, ◌+◌, ◌++◌, [], ◌∷◌, drop, length, IfOk, slice_get, true};
 ghost use Rattle.arena_choice.specs.Numbers.{has, without, with_second, list_with, behind_or, lowest_unused};
 
 use std::alloc::{AllocError, Global};
