@@ -49,7 +49,7 @@ class Story:
         """One record, whose answer and block these are."""
         answer, block = answer_of(said.split(' '))
         thread, command = int(fields[0]), fields[1]
-        key = (thread, int(fields[2])) if len(fields) > 2 else None
+        key = (thread, int(fields[2])) if command in 'mcraftp' else None
         old = self.live.get(key)
         if old and command in 'mcat':
             raise Fault('line %d: the name %d of thread %d has a block already' % (line, key[1], thread))
@@ -59,8 +59,10 @@ class Story:
         elif command == 't' and block:
             self.put(key, block)
             self.tray(int(fields[3]), -block[1])
-        elif block:
+        elif block and command in 'mcra':
             self.put(key, block)
+        elif block:
+            raise ValueError
         elif answer in GIVES and command in 'fr' and old:
             self.put(key, None)
         self.calls[command, answer] = self.calls.get((command, answer), 0) + 1
