@@ -5,8 +5,8 @@ import json
 import os
 from html import escape
 
-from heap_picture import (DARK, LEGEND, LIGHT, WIDTH, bytes_short, colour_of, curve_shapes, number, strip_shapes,
-                          strips_of, text, threads_of, with_threads)
+from heap_picture import (DARK, LEGEND, LIGHT, WIDTH, bytes_short, curve_shapes, number, strip_shapes, strips_of,
+                          threads_of, with_threads)
 from heap_records import ANSWERS, COMMANDS
 from heap_report import BIN, CACHE, FAST, FENCE, KINDS, LEAD, LIVE, STRUCTURE, TOP, TRAY
 
@@ -252,8 +252,8 @@ was marked, a double click shows the whole.</p>
 </section>
 <section class="screen"><h2>Look up a chunk</h2>
 <form id="search">
-<label>address or place <input id="words" type="text" autocomplete="off" spellcheck="false" size="22"
- placeholder="0x5555555592a0, live 0 12, bin 79"></label>
+<label>address, place or heap <input id="words" type="text" autocomplete="off" spellcheck="false" size="22"
+ placeholder="0x5555555592a0, bin 79, arena 1"></label>
 <label>place <select id="kind"><option value="">any</option></select></label>
 <label>order <select id="order"><option value="address">by address</option><option value="size">largest
 first</option></select></label>

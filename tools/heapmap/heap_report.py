@@ -36,15 +36,6 @@ class Chunk:
         self.user, self.size, self.kind = user, size, kind
         self.thread, self.number, self.lead = thread, number, lead
 
-    def place(self):
-        if self.kind == LIVE:
-            return 'live %d %d' % (self.thread, self.number)
-        if self.kind in (CACHE, STRUCTURE):
-            return '%s %d' % (KINDS[self.kind], self.thread)
-        if self.kind in (TRAY, FAST, BIN):
-            return '%s %d' % (KINDS[self.kind], self.number)
-        return KINDS[self.kind]
-
 
 class Region:
     """Bytes in a row that an arena has from the system: its header, and then the chunks from first up to last."""
@@ -65,9 +56,6 @@ class Arena:
 
     def headers(self):
         return sum(r.header for r in self.regions)
-
-    def stuck(self):
-        return self.bytes_of(FAST, BIN)
 
     def in_use(self):
         return self.system - self.bytes_of(FAST, BIN, TOP)

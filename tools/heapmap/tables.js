@@ -2,6 +2,9 @@
 
 let found = [], page = 0;
 
+// Whether a place or the name of a heap is these words, or begins with them.
+const begins = (text, words) => text === words || text.startsWith(words + ' ') || text.startsWith(words + ',');
+
 // An address stands for the chunk that it lies in.
 function matches(words) {
   const kind = byId('kind').value;
@@ -13,8 +16,7 @@ function matches(words) {
       if (address !== null) {
         if (address < strip.address[i] || address >= strip.address[i] + sizeOf(strip, i)) continue;
       } else if (words !== '') {
-        const place = placeOf(strip, i);
-        if (place !== words && !place.startsWith(words + ' ')) continue;
+        if (!begins(placeOf(strip, i), words) && !begins(strip.name, words)) continue;
       }
       out.push(strip.first + i);
     }
