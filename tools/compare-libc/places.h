@@ -7,7 +7,7 @@
  *   piece SIZE                main's, and not from the break
  *   null                      no block
  *
- * OFFSET is that of the user's address, in hexadecimal; SIZE that of the chunk. Nothing here takes memory. */
+ * The first line is `ptmplaces START`, with the address of main's heap. OFFSET is that of the user's address, in hexadecimal; SIZE that of the chunk. Nothing here takes memory. */
 #ifndef PLACES_H
 #define PLACES_H
 
@@ -49,6 +49,10 @@ static char *put_offset(char *to, uint64_t n) {
     for (; shift >= 0; shift -= 4)
         *to++ = "0123456789abcdef"[n >> shift & 15];
     return to;
+}
+
+static char *put_first_line(const struct places *p, char *to) {
+    return put_word(put_offset(put_word(to, "ptmplaces "), p->start), "\n");
 }
 
 /* The numbers of a heap: its arena's, and its own among those of that arena. A heap begins with its arena's address. A

@@ -394,6 +394,12 @@ static bool name_files(struct slot *slot, int process) {
     return true;
 }
 
+static bool begin_places(struct slot *slot) {
+    char first[PLACE_ROOM];
+    uint64_t length = (uint64_t)(put_first_line(&places, first) - first);
+    return sink_open(&places_file, slot->places, &slot->places_length) && sink_write(&places_file, first, length);
+}
+
 bool trace_begin(struct slot *slot, const char *program, uintptr_t heap_start) {
     int process = atomic_load(&slot->process);
     memset((char *)slot + sizeof slot->process, 0, sizeof *slot - sizeof slot->process);
@@ -405,8 +411,7 @@ bool trace_begin(struct slot *slot, const char *program, uintptr_t heap_start) {
     running = true;
     const char *header = shared->version == 2 ? "ptmtrace 2\n" : "ptmtrace 1\n";
     if (!name_files(slot, process) || !sink_open(&trace, slot->path, &slot->length) ||
-        (*slot->places && !sink_open(&places_file, slot->places, &slot->places_length)) ||
-        !sink_write(&trace, header, strlen(header)))
+        !sink_write(&trace, header, strlen(header)) || (*slot->places && !begin_places(slot)))
         trace_end(NO_FILE, errno);
     return running;
 }
