@@ -24,7 +24,7 @@ extern void *__libc_memalign(size_t, size_t);
 extern void __libc_free(void *);
 extern int __libc_mallopt(int, int);
 
-enum { ROUNDS = 4, MIN_CHUNK = 32, MALLOC_ALIGNMENT = 16, PAGE = 4096 };
+enum { ROUNDS = 4, MIN_CHUNK = 32, MALLOC_ALIGNMENT = 16, PAGE = 4096, MAPPED = 2 };
 #define BIG ((uint64_t)INT64_MAX)
 
 /* Whether calls are recorded. It stands in a page of its own, which the system wipes in a child that came by a fork that
@@ -406,6 +406,14 @@ int posix_memalign(void **to, size_t align, size_t size) {
     note_made((struct call){ALIGNED, align, size}, answer ? NULL : *to, size, !good || aligned_too_big(align, size));
     finish(error);
     return answer;
+}
+
+/* A program that is linked with another allocator would else ask that one for the size of a block of the C library's. */
+size_t malloc_usable_size(void *at) {
+    if (!at)
+        return 0;
+    size_t word = ((const size_t *)at)[-1];
+    return (word & ~(size_t)7) - (word & MAPPED ? 2 * sizeof word : sizeof word);
 }
 
 static void note_tuned(void) {

@@ -6,6 +6,7 @@
 #include <fcntl.h>
 #include <limits.h>
 #include <signal.h>
+#include <stdbool.h>
 #include <stdarg.h>
 #include <stdio.h>
 #include <stdlib.h>
@@ -166,23 +167,28 @@ static void check_program(const char *path) {
         fail(FAULT, "%s: %s", path, why);
 }
 
-/* Whether FILE can be written is found out before the program runs: by the file itself where its name is known. */
-static void check_output(const char *form) {
+/* Whether FILE can be written is found out before the program runs: by the file itself where its name is known. True
+ * where the file is there only since this. */
+static bool check_output(const char *form) {
     char folder[PATH_ROOM];
+    struct stat file;
     strcpy(folder, form);
     if (!strchr(form, '%')) {
-        int fd = open(form, O_WRONLY | O_CREAT | O_CLOEXEC, 0666);
-        struct stat file;
+        int fd = open(form, O_WRONLY | O_CREAT | O_EXCL | O_CLOEXEC, 0666);
+        bool is_new = fd >= 0;
+        if (!is_new)
+            fd = open(form, O_WRONLY | O_CREAT | O_CLOEXEC, 0666);
         if (fd < 0 || fstat(fd, &file))
             fail(FAULT, "%s: %s", form, strerror(errno));
         close(fd);
         if (!S_ISREG(file.st_mode))
             fail(FAULT, "%s: not a plain file", form);
-        return;
+        return is_new;
     }
     *strrchr(folder, '/') = 0;
     if (!strchr(folder, '%') && access(*folder ? folder : "/", W_OK | X_OK))
         fail(FAULT, "%s: %s", form, strerror(errno));
+    return false;
 }
 
 /* ---- the shared file and the library */
@@ -220,6 +226,25 @@ static void set_variables(void) {
         fail(FAULT, "no memory");
 }
 
+/* The signals that are other here than in the program, and what they were before. */
+enum { GIVEN_BACK = 5 };
+static const int changed[GIVEN_BACK] = {SIGXFSZ, SIGINT, SIGQUIT, SIGTERM, SIGHUP};
+static void (*before_us[GIVEN_BACK])(int);
+
+static pid_t program;
+
+static void pass_on(int number) {
+    if (program > 0)
+        kill(program, number);
+}
+
+/* The terminal's signals are the program's, and the traces are finished behind it; a file that may not be so long is an
+ * error, not a death. */
+static void change_signals(void) {
+    for (int i = 0; i < GIVEN_BACK; i++)
+        before_us[i] = signal(changed[i], i < 3 ? SIG_IGN : pass_on);
+}
+
 static pid_t launch(const char *path, char **words, const sigset_t *mask) {
     pid_t child = fork();
     if (child < 0)
@@ -228,8 +253,8 @@ static pid_t launch(const char *path, char **words, const sigset_t *mask) {
         return child;
     control->main_process = getpid();
     set_variables();
-    signal(SIGINT, SIG_DFL);
-    signal(SIGQUIT, SIG_DFL);
+    for (int i = 0; i < GIVEN_BACK; i++)
+        signal(changed[i], before_us[i]);
     sigprocmask(SIG_SETMASK, mask, NULL);
     execv(path, words);
     /* A script without a first line that names its shell. */
@@ -276,12 +301,26 @@ static uint32_t used_slots(void) {
     return used < SLOTS ? used : SLOTS;
 }
 
+/* Notes when a program ended: another has its number, by exec, or nobody has. */
+static void note_end(struct slot *slot) {
+    struct slot *last = &control->slots[used_slots()], *next = slot + 1;
+    int process = atomic_load(&slot->process);
+    while (next < last && atomic_load(&next->process) != process)
+        next++;
+    if (next < last && next->began)
+        slot->ended = next->began;
+    else if (kill(process, 0) && errno == ESRCH)
+        slot->ended = now();
+}
+
 /* A trace that ended before its program is told of at once. */
 static void tell_ends(void) {
     static bool told[SLOTS];
     for (uint32_t i = 0; i < used_slots(); i++) {
         struct slot *slot = &control->slots[i];
         int why = atomic_load(&slot->why);
+        if (why == RUNS && slot->began && !slot->ended)
+            note_end(slot);
         if (why == RUNS || why == AS_ASKED || told[i])
             continue;
         told[i] = true;
@@ -303,9 +342,9 @@ static void tell_summary(const struct slot *slot) {
         lines += slot->lines[k];
     for (int k = 0; k <= FREE; k++)
         calls += slot->lines[k];
-    fprintf(stderr, "record: %s: %s, %llu lines in %.2f s, %llu threads;", slot->path, slot->program,
-            (unsigned long long)(lines - slot->loose_lines), seconds((slot->ended ? slot->ended : now()) - slot->began),
-            (unsigned long long)slot->threads);
+    fprintf(stderr, "record: %s: %s, %llu lines in %.2f s, %llu thread%s;", slot->path, slot->program,
+            (unsigned long long)(lines - slot->loose_lines), seconds(slot->ended - slot->began),
+            (unsigned long long)slot->threads, slot->threads == 1 ? "" : "s");
     for (int k = 0; k <= FREE; k++)
         fprintf(stderr, " %s %.1f%%", names[k], calls ? 100.0 * (double)slot->lines[k] / (double)calls : 0.0);
     fprintf(stderr, "; peak %llu blocks, %llu bytes; largest %llu", (unsigned long long)slot->peak_blocks,
@@ -328,6 +367,8 @@ static bool tell_all(void) {
         if (!atomic_load(&slot->length))
             continue;
         any = true;
+        if (!slot->ended)
+            slot->ended = now();
         if (!finish_trace(slot)) {
             errors++;
             fprintf(stderr, "record: %s: not finished: %s\n", slot->path, strerror(errno));
@@ -340,13 +381,6 @@ static bool tell_all(void) {
 }
 
 /* ---- waiting */
-
-static pid_t program;
-
-static void pass_on(int number) {
-    if (program > 0)
-        kill(program, number);
-}
 
 /* Waits for the program, and where more than it is recorded for all that it started; the status is its own. */
 static int wait_all(void) {
@@ -377,18 +411,14 @@ int main(int count, char **words) {
     char path[PATH_ROOM];
     sigset_t child, before;
     (void)count;
+    change_signals();
     make_control();
     char **rest = read_words(words);
     find_program(rest[0], path);
     check_program(path);
-    check_output(control->output);
+    bool is_new = check_output(control->output);
     if (*control->places)
         check_output(control->places);
-    /* The terminal's signals are the program's; the traces are finished behind it. */
-    signal(SIGINT, SIG_IGN);
-    signal(SIGQUIT, SIG_IGN);
-    signal(SIGTERM, pass_on);
-    signal(SIGHUP, pass_on);
     sigemptyset(&child);
     sigaddset(&child, SIGCHLD);
     sigprocmask(SIG_BLOCK, &child, &before);
@@ -398,6 +428,8 @@ int main(int count, char **words) {
     int status = wait_all();
     bool any = tell_all();
     unlink(control_path);
+    if (!any && is_new)
+        unlink(control->output);
     if (!any && !errors && status != NOT_RUNNABLE)
         fail(FAULT, "nothing was recorded: no program that was meant loads the library, or it has a malloc of its own");
     return errors ? FAULT : status;

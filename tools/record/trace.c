@@ -186,6 +186,8 @@ static void drop_block(struct block *block) {
 }
 
 static void keep_block(int thread, uint32_t name, void *at, uint64_t bytes) {
+    if (!running)
+        return;
     struct block *block = table_add((uintptr_t)at);
     if (!block) {
         trace_end(NO_MEMORY, ENOMEM);
