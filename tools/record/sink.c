@@ -9,7 +9,7 @@
 #include <sys/syscall.h>
 #include <unistd.h>
 
-enum { WINDOW = 1 << 19 };
+enum { WINDOW = 1 << 19, HIGHEST = 1024, ROOM_ABOVE = 16 };
 
 int plain_open(const char *path, int flags, int mode) {
     return (int)syscall(SYS_openat, AT_FDCWD, path, flags | O_CLOEXEC, mode);
@@ -68,32 +68,37 @@ static bool is_same(const struct sink *sink, int fd) {
     return false;
 }
 
-/* The file is opened anew for each window: a descriptor that stays open could be closed by the program, and then be
- * another file of its own. */
-static bool next_window(struct sink *sink, uint64_t start) {
-    int fd = plain_open(sink->path, O_RDWR, 0);
-    if (fd < 0)
-        return false;
-    bool done = is_same(sink, fd) && map_window(sink, fd, start);
-    int error = errno;
+/* The descriptor stays open under a high number, since the program may give up the right to open the file again. What
+ * it had below would be other numbers than it has without the recorder. */
+static int move_up(int fd) {
+    struct rlimit limit;
+    uint64_t most = getrlimit(RLIMIT_NOFILE, &limit) || limit.rlim_cur > HIGHEST ? HIGHEST : limit.rlim_cur;
+    int up = (int)syscall(SYS_fcntl, fd, F_DUPFD_CLOEXEC, most > ROOM_ABOVE ? most - ROOM_ABOVE : 0);
     plain_close(fd);
-    errno = error;
-    return done;
+    return up;
 }
+
+/* The file's descriptor. Where the program closed it, or has another file under its number, it is opened anew. */
+static bool have_fd(struct sink *sink) {
+    if (sink->fd >= 0 && is_same(sink, sink->fd))
+        return true;
+    int fd = plain_open(sink->path, O_RDWR, 0);
+    sink->fd = fd < 0 ? -1 : move_up(fd);
+    return sink->fd >= 0 && is_same(sink, sink->fd);
+}
+
+static bool next_window(struct sink *sink, uint64_t start) { return have_fd(sink) && map_window(sink, sink->fd, start); }
 
 bool sink_open(struct sink *sink, const char *path, _Atomic uint64_t *told) {
     memset(sink, 0, sizeof *sink);
     sink->path = path;
     sink->told = told;
+    sink->fd = -1;
     atomic_store(told, 0);
     int fd = plain_open(path, O_RDWR | O_CREAT | O_TRUNC, 0666);
-    if (fd < 0)
-        return false;
-    bool done = keep_identity(sink, fd) && map_window(sink, fd, 0);
-    int error = errno;
-    plain_close(fd);
-    errno = error;
-    return done;
+    if (fd >= 0)
+        sink->fd = move_up(fd);
+    return sink->fd >= 0 && keep_identity(sink, sink->fd) && map_window(sink, sink->fd, 0);
 }
 
 bool sink_write(struct sink *sink, const char *text, uint64_t length) {
@@ -116,25 +121,21 @@ bool sink_write(struct sink *sink, const char *text, uint64_t length) {
     return true;
 }
 
-bool sink_copy(struct sink *sink, const struct sink *from, const char *path, _Atomic uint64_t *told) {
+bool sink_branch(struct sink *sink, const char *path, _Atomic uint64_t *told) {
     static char part[65536];
-    struct sink fresh;
-    int fd = plain_open(from->path, O_RDONLY, 0);
-    if (fd < 0)
-        return false;
-    bool done = is_same(from, fd) && sink_open(&fresh, path, told);
-    for (uint64_t at = 0; done && at < from->length;) {
-        uint64_t rest = from->length - at;
-        long got = plain_read(fd, part, rest < sizeof part ? rest : sizeof part, at);
-        done = got > 0 && sink_write(&fresh, part, (uint64_t)got);
+    struct sink from = *sink;
+    bool done = have_fd(&from) && sink_open(sink, path, told);
+    for (uint64_t at = 0; done && at < from.length;) {
+        uint64_t rest = from.length - at;
+        long got = plain_read(from.fd, part, rest < sizeof part ? rest : sizeof part, at);
+        done = got > 0 && sink_write(sink, part, (uint64_t)got);
         at += done ? (uint64_t)got : 0;
     }
     int error = errno;
-    plain_close(fd);
-    /* The mapping of the other process's file isn't written any more here. */
-    if (from->window)
-        munmap(from->window, WINDOW);
-    *sink = fresh;
+    if (from.fd >= 0)
+        plain_close(from.fd);
+    if (from.window)
+        munmap(from.window, WINDOW);
     errno = error;
     return done;
 }

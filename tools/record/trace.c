@@ -423,8 +423,8 @@ bool trace_branch(struct slot *slot, const struct slot *before) {
     *slot = *before;
     atomic_store(&slot->process, process);
     mine = slot;
-    if (!name_files(slot, process) || !sink_copy(&trace, &trace, slot->path, &slot->length) ||
-        (*slot->places && !sink_copy(&places_file, &places_file, slot->places, &slot->places_length)))
+    if (!name_files(slot, process) || !sink_branch(&trace, slot->path, &slot->length) ||
+        (*slot->places && !sink_branch(&places_file, slot->places, &slot->places_length)))
         trace_end(NO_FILE, errno);
     return running;
 }
