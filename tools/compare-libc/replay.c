@@ -20,6 +20,7 @@
 extern void *__libc_malloc(size_t), *__libc_calloc(size_t, size_t), *__libc_realloc(void *, size_t);
 extern void *__libc_memalign(size_t, size_t);
 extern void __libc_free(void *);
+extern int __libc_mallopt(int, int);
 
 #define MODEL_BREAK 0x555555559000u
 enum { CONGRUENT = 1 << 25, THREADS = 64, TRAYS = 65536, OWN_ROOM = 1 << 22 };
@@ -100,6 +101,17 @@ static uint64_t field(void) {
     return number();
 }
 
+/* A field that may be negative. */
+static int signed_field(void) {
+    expect(' ');
+    bool negative = at < end && *at == '-';
+    at += negative;
+    uint64_t n = number();
+    if (n > (uint64_t)INT32_MAX + negative)
+        fail("no number");
+    return (int)(negative ? -(int64_t)n : (int64_t)n);
+}
+
 static void **name_of(unsigned thread) {
     uint64_t n = field();
     if (n < 1 || n > most_names)
@@ -155,7 +167,7 @@ static bool run_line(unsigned thread) {
     if (at == end)
         fail("no command");
     command = *at++;
-    if (command != 'x')
+    if (command != 'x' && command != 's' && command != 'o')
         name = name_of(thread);
     switch (command) {
     case 'm': show(*name = __libc_malloc(field())); break;
@@ -165,7 +177,8 @@ static bool run_line(unsigned thread) {
     case 'f': __libc_free(*name); *name = NULL; break;
     case 'p': *tray_of() = *name; *name = NULL; break;
     case 't': *name = *tray_of(); break;
-    case 'x': break;
+    case 'o': first = (uint64_t)signed_field(); __libc_mallopt((int)first, signed_field()); break;
+    case 's': case 'x': break;  /* the text of malloc_stats changes no place */
     default: fail("no command");
     }
     expect('\n');
