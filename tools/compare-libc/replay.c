@@ -277,8 +277,8 @@ static void start_anew(char **words) {
     }
 }
 
-/* Moves the break to where the model's begins, or else to a place that is as good for every alignment up to the largest
- * that malloc keeps apart from a mapping; only then are the offsets of aligned blocks comparable. */
+/* Moves the break to where it is to a multiple of 32 MiB as the model's is; else the offsets of aligned blocks wouldn't be
+ * comparable. */
 static uintptr_t heap_start(void) {
     uintptr_t now = (uintptr_t)sbrk(0), far = (MODEL_BREAK - now) & (CONGRUENT - 1);
     return sbrk((intptr_t)far) == (void *)-1 ? now : now + far;

@@ -127,7 +127,7 @@ static bool numbered(void) {
     return number >= 0;
 }
 
-/* ---- start */
+/* ---- the shared file and its slots */
 
 static const char *base_of(const char *path) {
     const char *slash = strrchr(path, '/');
@@ -206,36 +206,7 @@ static struct slot *slot_for(const char *name, const char *file) {
     return none == process ? first : NULL;
 }
 
-static bool new_on_page(void) {
-    on_page = pages(PAGE);
-    if (!on_page)
-        return false;
-    madvise(on_page, PAGE, MADV_WIPEONFORK);
-    on = on_page;
-    return true;
-}
-
-/* Comes with the first call or the constructor, before there is a second thread. */
-static void start(void) {
-    static char file[PATH_ROOM];
-    if (started)
-        return;
-    started = 1;
-    inside = 1;
-    int error = errno;
-    const char *name = (const char *)getauxval(AT_EXECFN);
-    long got = syscall(SYS_readlinkat, AT_FDCWD, "/proc/self/exe", file, sizeof file - 1);
-    file[got > 0 ? got : 0] = 0;
-    name = base_of(name ? name : file);
-    shared = map_shared();
-    struct slot *slot = shared ? slot_for(name, base_of(file)) : NULL;
-    if (slot && new_on_page() && !pthread_key_create(&key, thread_ends))
-        *on_page = trace_begin(slot, name, (uintptr_t)sbrk(0));
-    errno = error;
-    inside = 0;
-}
-
-/* ---- fork */
+/* ---- forks */
 
 static void before_fork(void) {
     if (!*on || !begin())
@@ -262,11 +233,40 @@ static void in_child(void) {
     finish(error);
 }
 
-__attribute__((constructor)) static void loaded(void) {
-    start();
-    if (*on)
-        pthread_atfork(before_fork, after_fork, in_child);
+/* ---- start */
+
+static bool new_on_page(void) {
+    on_page = pages(PAGE);
+    if (!on_page)
+        return false;
+    madvise(on_page, PAGE, MADV_WIPEONFORK);
+    on = on_page;
+    return true;
 }
+
+/* Comes with the first call or the constructor, before there is a second thread. The handlers of forks are best the first
+ * that there are: the lock is then taken behind all others' handlers before a fork, which may call malloc. */
+static void start(void) {
+    static char file[PATH_ROOM];
+    if (started)
+        return;
+    started = 1;
+    inside = 1;
+    int error = errno;
+    const char *name = (const char *)getauxval(AT_EXECFN);
+    long got = syscall(SYS_readlinkat, AT_FDCWD, "/proc/self/exe", file, sizeof file - 1);
+    file[got > 0 ? got : 0] = 0;
+    name = base_of(name ? name : file);
+    shared = map_shared();
+    struct slot *slot = shared ? slot_for(name, base_of(file)) : NULL;
+    if (slot && new_on_page() && !pthread_key_create(&key, thread_ends) &&
+        !pthread_atfork(before_fork, after_fork, in_child))
+        *on_page = trace_begin(slot, name, (uintptr_t)sbrk(0));
+    errno = error;
+    inside = 0;
+}
+
+__attribute__((constructor)) static void loaded(void) { start(); }
 
 __attribute__((destructor)) static void unloaded(void) {
     if (*on && endings && begin())
