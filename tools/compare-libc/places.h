@@ -7,7 +7,8 @@
  *   piece SIZE                main's, and not from the break
  *   null                      no block
  *
- * The first line is `ptmplaces START`, with the address of main's heap. OFFSET is that of the user's address, in hexadecimal; SIZE that of the chunk. Nothing here takes memory. */
+ * The first line is `ptmplaces START`, with the address of main's heap. OFFSET is that of the user's address, in
+ * hexadecimal; SIZE that of the chunk. Nothing here takes memory. */
 #ifndef PLACES_H
 #define PLACES_H
 
