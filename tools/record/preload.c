@@ -16,6 +16,7 @@
 #include <sys/prctl.h>
 #include <sys/syscall.h>
 #include <sys/uio.h>
+#include <time.h>
 #include <unistd.h>
 
 /* The C library's own; no search by dlsym, which may itself call malloc. */
@@ -24,7 +25,7 @@ extern void *__libc_memalign(size_t, size_t);
 extern void __libc_free(void *);
 extern int __libc_mallopt(int, int);
 
-enum { ROUNDS = 4, MIN_CHUNK = 32, MALLOC_ALIGNMENT = 16, PAGE = 4096, MAPPED = 2 };
+enum { ROUNDS = 4, PAUSE = 20000, PAUSES = 2500, MIN_CHUNK = 32, MALLOC_ALIGNMENT = 16, PAGE = 4096, MAPPED = 2 };
 #define BIG ((uint64_t)INT64_MAX)
 
 /* Whether calls are recorded. It stands in a page of its own, which the system wipes in a child that came by a fork that
@@ -43,7 +44,8 @@ static __thread int inside __attribute__((tls_model("initial-exec")));
 
 /* Threads whose last destructor has run, and which may call free a last time on their way out. */
 static struct {
-    int process, thread;
+    int thread;
+    bool late;      /* nobody waits for it any more */
     int *cleared;   /* the word that the system clears when the thread is gone, where it tells */
 } ending[THREADS];
 static _Atomic int endings;
@@ -65,14 +67,45 @@ static bool is_gone(int thread) {
     return syscall(SYS_tgkill, process, ending[thread].thread, 0) != 0;
 }
 
-static void note_exits(void) {
-    for (int t = 1; t < THREADS; t++)
+/* Writes the ends of the threads that are gone; whether another is on its way out that is to be waited for. */
+static bool note_exits(void) {
+    bool others = false;
+    for (int t = 1; t < THREADS; t++) {
         if (ending[t].thread && is_gone(t)) {
             ending[t].thread = 0;
             endings--;
             if (trace_runs())
                 trace_exited(t);
         }
+        others = others || (ending[t].thread && !ending[t].late);
+    }
+    return others;
+}
+
+static void give_up(void) {
+    for (int t = 1; t < THREADS; t++)
+        if (ending[t].thread && !ending[t].late) {
+            ending[t].late = true;
+            mine->late++;
+        }
+}
+
+/* A thread that ends gives back its cache where nobody sees it, between its last destructor and its death. No other call
+ * is served meanwhile, so that its end has its place in the order; but not for ever, as it may wait for a thread that
+ * waits here, and not by a thread that ends itself. */
+static void wait_for_exits(void) {
+    const struct timespec pause = {0, PAUSE};
+    for (int n = 0; endings && *on && note_exits(); n++) {
+        if (number > 0 && ending[number].thread)
+            return;
+        if (n == PAUSES) {
+            give_up();
+            return;
+        }
+        pthread_mutex_unlock(&lock);
+        syscall(SYS_nanosleep, &pause, NULL);
+        pthread_mutex_lock(&lock);
+    }
 }
 
 /* Begins a recorded call: false where it isn't recorded, and the C library serves it alone. */
@@ -84,8 +117,7 @@ static bool begin(void) {
     }
     inside = 1;
     pthread_mutex_lock(&lock);
-    if (endings && *on)
-        note_exits();
+    wait_for_exits();
     return true;
 }
 
@@ -110,6 +142,7 @@ static void thread_ends(void *round) {
     if (prctl(PR_GET_TID_ADDRESS, &cleared))
         cleared = NULL;
     ending[number].cleared = cleared;
+    ending[number].late = false;
     ending[number].thread = (int)syscall(SYS_gettid);
     endings++;
     finish(errno);

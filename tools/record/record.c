@@ -351,6 +351,7 @@ static void tell_summary(const struct slot *slot) {
             (unsigned long long)slot->peak_bytes, (unsigned long long)slot->largest);
     tell_count(slot->taken, "handed over");
     tell_count(slot->as_owner, "inexact: another thread's, written as the owner's");
+    tell_count(slot->late, "inexact: a thread's end, written too late");
     tell_count(slot->refused, "left out: refused by the system");
     tell_count(slot->nested, "left out: out of a signal's handler");
     tell_count(slot->unknown, "left out: of blocks that weren't recorded");

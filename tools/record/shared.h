@@ -42,6 +42,7 @@ struct slot {
     uint64_t nested;           /* calls out of a signal's handler inside another call */
     uint64_t unknown;          /* frees and reallocs of blocks that weren't recorded */
     uint64_t tuned;            /* mallopt and malloc_trim */
+    uint64_t late;             /* ends of threads that are written later than they were */
     uint64_t began, ended;     /* nanoseconds */
 };
 
