@@ -1,0 +1,1 @@
+//! Traces of the first seeds.
