@@ -14,7 +14,6 @@ pub is_held_push : (thread name : ℕ) (before : List Line) (line : Line) → is
 unfolding is_held
 is_held_push thread name before line = fold-append (λ (was : Bool) (l : Line). cond (eqb l.thread thread) (held_after name was l.call) was) false before (line ∷ [])
 
-
 -- a call changes its own name alone
 pub other_name : (name : ℕ) (was : Bool) (call : Call) → eqb (name_of call) name ≡ false → held_after name was call ≡ was
 other_name name was (Malloc made size) e = rw e refl
@@ -62,6 +61,6 @@ noted marks before line held thread name width own drawn known after false same_
 pub Knows-push : (marks : List Bool) (before : List Line) (line : Line) (held : Bool) → length marks ≡ 4100 → IsDrawn line.thread (name_of line.call) → held ≡ held_after (name_of line.call) (is_held line.thread (name_of line.call) before) line.call → Knows marks before → Knows (set marks (place_of line.thread (name_of line.call)) held) (before ++ line ∷ [])
 Knows-push marks before line held width own after known = record {
   held = λ thread name drawn.
-  noted marks before line held thread name width own drawn known after (eqb line.thread thread) (eqb (name_of line.call) name) refl refl
-  ∙ sym (is_held_push thread name before line);
+      noted marks before line held thread name width own drawn known after (eqb line.thread thread) (eqb (name_of line.call) name) refl refl
+      ∙ sym (is_held_push thread name before line);
 }

@@ -130,8 +130,8 @@ Follows-take before line queues next thread name oldest others is lt e now =
         ended = λ any. goes_on before line any (ap is_exit is) (now.ended any);
         posted = λ tray. posts_none before line tray (ap (is_post tray) is) ∙ now.posted tray;
         waiting = λ tray.
-        rw (was_taken_push tray before line, ap (is_take tray) is)
-        (still_within (was_taken tray before) (oldest == tray) (waits tray queues) (waits tray (set queues thread others)) (bit (ltb tray next)) (less tray) (now.waiting tray));
+            rw (was_taken_push tray before line, ap (is_take tray) is)
+            (still_within (was_taken tray before) (oldest == tray) (waits tray queues) (waits tray (set queues thread others)) (bit (ltb tray next)) (less tray) (now.waiting tray));
       };
     }
 
@@ -172,7 +172,7 @@ Follows-post before line queues next thread name is few lt now =
         ended = λ any. goes_on before line any (ap is_exit is) (now.ended any);
         posted = λ tray. was_posted_push tray before line ∙ rw (now.posted tray, ap (is_post tray) is) (next_posted tray next);
         waiting = λ tray.
-        rw (takes_none before line tray (ap (is_take tray) is), one_more tray queues thread next within)
-        (next_waits (was_taken tray before) (waits tray queues) tray next (now.waiting tray));
+            rw (takes_none before line tray (ap (is_take tray) is), one_more tray queues thread next within)
+            (next_waits (was_taken tray before) (waits tray queues) tray next (now.waiting tray));
       };
     }

@@ -50,10 +50,13 @@ receiver_of thread = (thread + 1) % 4
 
 -- the block is posted to the next tray, which waits behind all others of the receiver
 unfoldable pub post : ℕ → ℕ → State → Call × State
-post thread name s = (Post name s.next_tray, record s {
-  queues = slice_set s.queues (receiver_of thread) (queue_of s.queues (receiver_of thread) ++ s.next_tray ∷ []);
-  next_tray = s.next_tray + 1;
-})
+post thread name s = (
+  Post name s.next_tray,
+  record s {
+    queues = slice_set s.queues (receiver_of thread) (queue_of s.queues (receiver_of thread) ++ s.next_tray ∷ []);
+    next_tray = s.next_tray + 1;
+  },
+)
 
 -- another size for the block, from 1 to 4,096 bytes
 unfoldable pub resize : ℕ → State → Call × State

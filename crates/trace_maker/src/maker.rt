@@ -1,6 +1,6 @@
 //! The calls of a trace that is made, and what they are made from.
 
-ghost use Rattle.std.specs.Prelude.{◌≡◌, ◌<◌, ◌/◌, ◌%◌, ◌^◌, IfOk, true};
+ghost use Rattle.std.specs.Prelude.{◌≡◌, ◌<◌, ◌-◌, ◌%◌, ◌^◌, IfOk};
 ghost use Rattle.trace_maker.specs.Generator.{next_source, draw, behind_draw, sizes_of, receiver_of, opening, new_block, taking_from, queue_of, post, resize, using_block, call_made};
 
 use crate::queue::{Queue, put_tray, queues, take_tray};
@@ -100,7 +100,7 @@ impl Maker {
     #[tactic(auto, unfolding(crate::specs::Generator::post))]
     fn post(&mut self, thread: u8, name: u32) -> Result<Call, NoMemory>
         requires thread { thread < 4 }
-        requires tray { self.old.next_tray < 2 ^ 16 }
+        requires tray { self.old.next_tray < 2 ^ 32 - 1 }
         ensures { IfOk result (λ call. (call, self.new) ≡ post thread name self.old) }
     {
         let tray = self.next_tray;

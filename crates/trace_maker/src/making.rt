@@ -33,8 +33,7 @@ fn next_line(maker: &mut Maker, held: &mut Held, number: u64) -> Result<Line, No
 }
 
 /// The trace of a seed, with `n` lines behind its header (this project's own): four threads, which take blocks, give
-/// them up, get other sizes for them and hand them on, as is drawn. The same seed gives the same lines, and fewer lines
-/// are the first of more.
+/// them up, get other sizes for them and hand them on, as is drawn.
 pub fn generate(alloc: Global, seed: u64, n: u32) -> Result<Trace, NoMemory>
     requires { n ≤ 1000000 }
     ensures exact { IfOk result (λ trace. trace.lines.items ≡ lines_made seed n) }
