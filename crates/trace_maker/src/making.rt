@@ -21,7 +21,8 @@ fn next_line(maker: &mut Maker, held: &mut Held, number: u64) -> Result<Line, No
         Knows held.new.marks.items (before ++ line ∷ [])) }
 {
     let thread = maker.draw(4) as u8;
-    let name = maker.draw(1024) as u32 + 1;
+    let drawn = maker.draw(1024) as u32;
+    let name = drawn + 1;
     let was = held.has(thread, name);
     let call = maker.call(was, thread, name)?;
     held.note(thread, name, is_held_after(&call, was));
