@@ -1,10 +1,9 @@
 -- Counts go with the answers: one more answer, and the room for it.
-use Rattle.std.proofs.Common.{◌≡◌, ◌+◌, ◌-◌, ◌^◌, ◌<◌, ◌≤◌, ℕ, Bool, true, false, cond, List, [], ◌∷◌, ◌++◌, length, take, get_or, refl, arith, sym, ap, ◌∙◌}
+use Rattle.std.proofs.Common.{◌≡◌, ◌+◌, ◌-◌, ◌^◌, ◌<◌, ℕ, Bool, true, false, cond, List, [], ◌∷◌, ◌++◌, length, refl, arith, ◌∙◌}
 use Rattle.std.specs.Prelude.{count_by}
 use Rattle.std.proofs.lemmas.List.Sums.{count_by-le-length, fold-append}
 use Rattle.std.proofs.lemmas.List.{length_push}
 use Rattle.stats_text.specs.declared.records.Outcome.{Outcome}
-use Rattle.stats_text.specs.declared.summary.Counts.{Counts}
 use Rattle.stats_text.specs.Summary.{gives_block, is_null, is_missed, is_skip, counts_of, count_with, counts_with, HasRoom}
 
 added : (n : ℕ) (b : Bool) → n + cond b 1 0 ≡ count_with n b

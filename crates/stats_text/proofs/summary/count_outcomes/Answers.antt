@@ -1,6 +1,5 @@
-use Rattle.std.proofs.Common.{◌≡◌, ◌-◌, ◌^◌, ◌<◌, length, take, sym, ap, ◌∙◌, arith, rules}
+use Rattle.std.proofs.Common.{◌-◌, ◌^◌, ◌<◌, length, take, sym, ◌∙◌, arith}
 use Rattle.std.proofs.lemmas.List.{length-take-le, take_more}
-use Rattle.stats_text.specs.Summary.{counts_of, counts_with}
 use Rattle.stats_text.proofs.CountLaws.{counts_push, counts_room}
 use Rattle.stats_text.proofs.summary.count_outcomes.Goals as goal
 
