@@ -1,29 +1,30 @@
 -- One line more, as the code makes it.
-use Rattle.std.proofs.Common.{◌≡◌, ◌==◌, ◌+◌, ◌%◌, ◌<◌, ◌≤◌, ℕ, zero, suc, Bool, true, false, cond, List, [], ◌∷◌, ◌++◌, set, length, refl, arith, sym, ap, ◌∙◌, add-one}
+use Rattle.std.proofs.Common.{◌≡◌, ◌+◌, ◌%◌, ℕ, Bool, true, false, cond, List, [], ◌∷◌, ◌++◌, set, length, refl, sym, ap, ◌∙◌, add-one}
 use Rattle.trace_text.specs.declared.trace.Call.{Call}
 use Rattle.trace_text.specs.declared.trace.Call.TheVariants.{Free}
 use Rattle.trace_text.specs.declared.trace.Line.{Line}
 use Rattle.trace_text.specs.Before.{held_after, is_held}
 use Rattle.trace_text.specs.Grammar.{place_after}
-use Rattle.trace_maker.specs.Generator.{State, draw, behind_draw, queue_of, new_block, taking_from, post, resize, using_block, call_made, line_made, more_lines}
-use Rattle.trace_maker.specs.HeldMarks.{place_of, is_marked, name_of, IsDrawn, Knows}
+use Rattle.trace_maker.specs.Generator.{State, draw, behind_draw, queue_of, malloc_made, unheld_made, post_made, realloc_made, held_made, call_made, line_made, more_lines}
+use Rattle.trace_maker.specs.HeldMarks.{place_of, name_of, IsDrawn, Knows}
 use Rattle.trace_maker.proofs.HeldLaws.{Knows-push}
+use Rattle.trace_maker.proofs.TraceLaws.{line_with}
 
 -- ---- a call is made under the name that was drawn
 
-name_taking : (queue : List ℕ) (thread name : ℕ) (s : State) → name_of (taking_from queue thread name s).0 ≡ name
-unfolding taking_from new_block
+name_taking : (queue : List ℕ) (thread name : ℕ) (s : State) → name_of (unheld_made queue thread name s).0 ≡ name
+unfolding unheld_made malloc_made
 name_taking [] thread name s = refl
 name_taking (tray ∷ others) thread name s = refl
 
-name_using : (resizes posts : Bool) (thread name : ℕ) (s : State) → name_of (cond resizes (resize name s) (cond posts (post thread name s) (Free name, s))).0 ≡ name
-unfolding resize post
+name_using : (resizes posts : Bool) (thread name : ℕ) (s : State) → name_of (cond resizes (realloc_made name s) (cond posts (post_made thread name s) (Free name, s))).0 ≡ name
+unfolding realloc_made post_made
 name_using true posts thread name s = refl
 name_using false true thread name s = refl
 name_using false false thread name s = refl
 
 name_made : (held : Bool) (thread name : ℕ) (s : State) → name_of (call_made held thread name s).0 ≡ name
-unfolding call_made using_block
+unfolding call_made held_made
 name_made true thread name s = name_using _ _ thread name (behind_draw s)
 name_made false thread name s = name_taking (queue_of s.queues thread) thread name s
 
@@ -32,13 +33,10 @@ name_is held thread name s left call e = ap (λ (made : Call × State). name_of 
 
 -- ---- the line is that of the definition
 
-abbrev pub line_with : ℕ → ℕ → Call → Line
-line_with thread number call = record { thread = thread; number = number; call = call }
-
 abbrev line_from : ℕ → ℕ → Call × State → Line × State
 line_from thread number made = (line_with thread number made.0, made.1)
 
-pub line_is : (before : List Line) (s first second left : State) (thread number drawn : ℕ) (was : Bool) (call : Call) → thread ≡ draw s.x % 4 → first ≡ behind_draw s → drawn ≡ draw first.x % 1024 → second ≡ behind_draw first → was ≡ is_held thread (drawn + 1) before → (call, left) ≡ call_made was thread (drawn + 1) second → number ≡ place_after before → (line_with thread number call, left) ≡ line_made before s
+pub line_is : (before : List Line) (s first second left : State) (thread number drawn : ℕ) (was : Bool) (call : Call) → thread ≡ draw s.seed % 4 → first ≡ behind_draw s → drawn ≡ draw first.seed % 1024 → second ≡ behind_draw first → was ≡ is_held thread (drawn + 1) before → (call, left) ≡ call_made was thread (drawn + 1) second → number ≡ place_after before → (line_with thread number call, left) ≡ line_made before s
 unfolding line_made
 line_is before s first second left thread number drawn was call t f d g w e n = ap (line_from thread number) e ∙ rw (n, w, g, d, f, t) refl
 

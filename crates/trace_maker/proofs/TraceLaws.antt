@@ -1,16 +1,15 @@
 -- The lines of a seed are allowed in a trace, and their takes stand behind posts.
-use Rattle.std.proofs.Common.{◌≡◌, ◌==◌, ◌+◌, ◌*◌, ◌/◌, ◌%◌, ◌^◌, ◌<◌, ◌≤◌, ℕ, zero, suc, Bool, true, false, ◌&&◌, cond, eqb, ltb, leb, List, [], ◌∷◌, ◌++◌, set, length, Result, Ok, Err, refl, arith, sym, ap, ◌∙◌, subst, append_assoc}
+use Rattle.std.proofs.Common.{◌≡◌, ◌==◌, ◌+◌, ◌%◌, ◌^◌, ◌<◌, ◌≤◌, ℕ, zero, suc, Bool, true, false, ◌&&◌, cond, ltb, leb, List, [], ◌∷◌, ◌++◌, Ok, refl, arith, append_assoc}
 use Rattle.std.proofs.Math.Nat.{mod-lt}
 use Rattle.std.proofs.lemmas.Bool.{and_parts, leb-true}
 use Rattle.std.proofs.lemmas.List.{append-nil}
 use Rattle.trace_text.specs.declared.trace.Call.{Call}
-use Rattle.trace_text.specs.declared.trace.Call.TheVariants.{Malloc, Calloc, Realloc, Align, Free, Post, Take, Exit}
+use Rattle.trace_text.specs.declared.trace.Call.TheVariants.{Free, Post, Take}
 use Rattle.trace_text.specs.declared.trace.Line.{Line}
 use Rattle.trace_text.specs.Before.{is_held}
 use Rattle.trace_text.specs.Grammar.{fitting, place_after}
 use Rattle.trace_text.specs.Spelling.{IsName, IsCall, Fits, AllFit, Allows}
-use Rattle.trace_maker.specs.Generator.{State, draw, behind_draw, queue_of, sizes_of, new_block, taking_from, receiver_of, post, resize, using_block, call_made, line_made, more_lines, opening, lines_made, IsPosted, AllPosted, TakesPosted}
-use Rattle.trace_maker.specs.HeldMarks.{name_of}
+use Rattle.trace_maker.specs.Generator.{State, draw, behind_draw, queue_of, sizes_of, malloc_made, unheld_made, receiver_of, post_made, realloc_made, held_made, call_made, line_made, more_lines, opening, lines_made, IsPosted, AllPosted, TakesPosted}
 use Rattle.trace_maker.proofs.TrayLaws.{Follows, Follows-none, Follows-plain, Follows-take, Follows-post}
 
 -- ---- what is drawn is in its range
@@ -31,7 +30,8 @@ thread_within n = mod-lt n {m = 4} (omega arith)
 
 -- ---- a call that is made fits, and the state behind it goes with the lines
 
-abbrev line_with : ℕ → ℕ → Call → Line
+-- a line by its parts
+abbrev pub line_with : ℕ → ℕ → Call → Line
 line_with thread number call = record { thread = thread; number = number; call = call }
 
 record IsGood (before : List Line) (thread : ℕ) (made : Call × State) : Type 0 where
@@ -40,17 +40,17 @@ record IsGood (before : List Line) (thread : ℕ) (made : Call × State) : Type 
   posted : IsPosted before made.0
   follows : (number : ℕ) → Follows (before ++ line_with thread number made.0 ∷ []) made.1.queues made.1.next_tray
 
-good_block : (before : List Line) (thread name : ℕ) (s : State) → IsName name → is_held thread name before ≡ false → Follows before s.queues s.next_tray → IsGood before thread (new_block name s)
-unfolding new_block fitting
+good_block : (before : List Line) (thread name : ℕ) (s : State) → IsName name → is_held thread name before ≡ false → Follows before s.queues s.next_tray → IsGood before thread (malloc_made name s)
+unfolding malloc_made fitting
 good_block before thread name s named free now = record {
-  call = (named, size_within (draw (behind_draw s).x) (draw s.x % 16));
+  call = (named, size_within (draw (behind_draw s).seed) (draw s.seed % 16));
   suits = rw free refl;
   posted = tt;
-  follows = λ number. Follows-plain before (line_with thread number (new_block name s).0) s.queues s.next_tray (record { goes_on = refl; posts_none = λ tray. refl; takes_none = λ tray. refl }) now;
+  follows = λ number. Follows-plain before (line_with thread number (malloc_made name s).0) s.queues s.next_tray (record { goes_on = refl; posts_none = λ tray. refl; takes_none = λ tray. refl }) now;
 }
 
-good_taking : (queue : List ℕ) (before : List Line) (thread name : ℕ) (s : State) → queue_of s.queues thread ≡ queue → thread < 4 → IsName name → is_held thread name before ≡ false → Follows before s.queues s.next_tray → IsGood before thread (taking_from queue thread name s)
-unfolding taking_from fitting
+good_taking : (queue : List ℕ) (before : List Line) (thread name : ℕ) (s : State) → queue_of s.queues thread ≡ queue → thread < 4 → IsName name → is_held thread name before ≡ false → Follows before s.queues s.next_tray → IsGood before thread (unheld_made queue thread name s)
+unfolding unheld_made fitting
 good_taking [] before thread name s e lt named free now = good_block before thread name s named free now
 good_taking (tray ∷ others) before thread name s e lt named free now =
     let taken = λ (number : ℕ). Follows-take before (line_with thread number (Take name tray)) s.queues s.next_tray thread name tray others refl lt e now in
@@ -61,8 +61,8 @@ good_taking (tray ∷ others) before thread name s e lt named free now =
       follows = λ number. (taken number).follows;
     }
 
-good_post : (before : List Line) (thread name : ℕ) (s : State) → s.next_tray ≤ 65535 → IsName name → is_held thread name before ≡ true → Follows before s.queues s.next_tray → IsGood before thread (post thread name s)
-unfolding post fitting
+good_post : (before : List Line) (thread name : ℕ) (s : State) → s.next_tray ≤ 65535 → IsName name → is_held thread name before ≡ true → Follows before s.queues s.next_tray → IsGood before thread (post_made thread name s)
+unfolding post_made fitting
 good_post before thread name s few named held now =
     let posted = λ (number : ℕ). Follows-post before (line_with thread number (Post name s.next_tray)) s.queues s.next_tray (receiver_of thread) name refl few (thread_within (thread + 1)) now in
     record {
@@ -72,13 +72,13 @@ good_post before thread name s few named held now =
       follows = λ number. (posted number).follows;
     }
 
-good_resize : (before : List Line) (thread name : ℕ) (s : State) → IsName name → is_held thread name before ≡ true → Follows before s.queues s.next_tray → IsGood before thread (resize name s)
-unfolding resize fitting
+good_resize : (before : List Line) (thread name : ℕ) (s : State) → IsName name → is_held thread name before ≡ true → Follows before s.queues s.next_tray → IsGood before thread (realloc_made name s)
+unfolding realloc_made fitting
 good_resize before thread name s named held now = record {
-  call = (named, omega (arith, mod-lt (draw s.x) {m = 4096} (omega arith)));
+  call = (named, omega (arith, mod-lt (draw s.seed) {m = 4096} (omega arith)));
   suits = rw held refl;
   posted = tt;
-  follows = λ number. Follows-plain before (line_with thread number (resize name s).0) s.queues s.next_tray (record { goes_on = refl; posts_none = λ tray. refl; takes_none = λ tray. refl }) now;
+  follows = λ number. Follows-plain before (line_with thread number (realloc_made name s).0) s.queues s.next_tray (record { goes_on = refl; posts_none = λ tray. refl; takes_none = λ tray. refl }) now;
 }
 
 good_free : (before : List Line) (thread name : ℕ) (s : State) → IsName name → is_held thread name before ≡ true → Follows before s.queues s.next_tray → IsGood before thread (Free name, s)
@@ -90,15 +90,15 @@ good_free before thread name s named held now = record {
   follows = λ number. Follows-plain before (line_with thread number (Free name)) s.queues s.next_tray (record { goes_on = refl; posts_none = λ tray. refl; takes_none = λ tray. refl }) now;
 }
 
-good_using : (resizes posts : Bool) (before : List Line) (thread name : ℕ) (s : State) → (posts ≡ true → s.next_tray ≤ 65535) → IsName name → is_held thread name before ≡ true → Follows before s.queues s.next_tray → IsGood before thread (cond resizes (resize name s) (cond posts (post thread name s) (Free name, s)))
+good_using : (resizes posts : Bool) (before : List Line) (thread name : ℕ) (s : State) → (posts ≡ true → s.next_tray ≤ 65535) → IsName name → is_held thread name before ≡ true → Follows before s.queues s.next_tray → IsGood before thread (cond resizes (realloc_made name s) (cond posts (post_made thread name s) (Free name, s)))
 good_using true posts before thread name s few named held now = good_resize before thread name s named held now
 good_using false true before thread name s few named held now = good_post before thread name s (few refl) named held now
 good_using false false before thread name s few named held now = good_free before thread name s named held now
 
 good_call : (held : Bool) (before : List Line) (thread name : ℕ) (s : State) → is_held thread name before ≡ held → thread < 4 → IsName name → Follows before s.queues s.next_tray → IsGood before thread (call_made held thread name s)
-unfolding call_made using_block
+unfolding call_made held_made
 good_call true before thread name s is lt named now =
-    let kind = draw s.x % 8 in
+    let kind = draw s.seed % 8 in
     good_using (kind == 0) (kind == 1 && leb s.next_tray 65535) before thread name (behind_draw s) (λ e. leb-true s.next_tray 65535 (and_parts (kind == 1) (leb s.next_tray 65535) e).1) named is now
 good_call false before thread name s is lt named now = good_taking (queue_of s.queues thread) before thread name s refl lt named is now
 
@@ -112,10 +112,10 @@ record IsGoodLine (before : List Line) (made : Line × State) : Type 0 where
 good_line : (before : List Line) (s : State) → Follows before s.queues s.next_tray → IsGoodLine before (line_made before s)
 unfolding line_made
 good_line before s now =
-    let thread = draw s.x % 4 in
-    let name = draw (behind_draw s).x % 1024 + 1 in
-    let lt = thread_within (draw s.x) in
-    let made = good_call (is_held thread name before) before thread name (behind_draw (behind_draw s)) refl lt (name_within (draw (behind_draw s).x)) now in
+    let thread = draw s.seed % 4 in
+    let name = draw (behind_draw s).seed % 1024 + 1 in
+    let lt = thread_within (draw s.seed) in
+    let made = good_call (is_held thread name before) before thread name (behind_draw (behind_draw s)) refl lt (name_within (draw (behind_draw s).seed)) now in
     record {
       fits = record { number = refl; thread = omega (arith, lt); goes_on = now.ended thread; call = made.call; suits = made.suits };
       posted = made.posted;

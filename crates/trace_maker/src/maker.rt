@@ -1,7 +1,7 @@
 //! The calls of a trace that is made, and what they are made from.
 
 ghost use Rattle.std.specs.Prelude.{◌≡◌, ◌<◌, ◌-◌, ◌%◌, ◌^◌, IfOk};
-ghost use Rattle.trace_maker.specs.Generator.{next_source, draw, behind_draw, sizes_of, receiver_of, opening, new_block, taking_from, queue_of, post, resize, using_block, call_made};
+ghost use Rattle.trace_maker.specs.Generator.{next_seed, draw, behind_draw, sizes_of, receiver_of, opening, malloc_made, unheld_made, queue_of, post_made, realloc_made, held_made, call_made};
 
 use crate::queue::{Queue, put_tray, queues, take_tray};
 use chunk_tags::NoMemory;
@@ -12,7 +12,7 @@ use trace_text::Call;
 /// What the next line is made from.
 #[derive(Drop)]
 pub(crate) struct Maker {
-    x: u64,
+    seed: u64,
     queues: Vec<Queue>,
     next_tray: u32,
 }
@@ -23,17 +23,17 @@ impl Model for Maker {
 
     ghost Value = { State };
 
-    ghost view = { λ m. record { x = m.x; queues = m.queues.items; next_tray = m.next_tray } };
+    ghost view = { λ m. record { seed = m.seed; queues = m.queues.items; next_tray = m.next_tray } };
 
     ghost invariant = { λ m. vec_len m.queues ≡ 4 };
 }
 
-/// What is drawn from behind a draw: one step of a linear congruence.
-#[tactic(auto, using(crate::proofs::Draws::draw_steps), unfolding(crate::specs::Generator::next_source))]
-fn step(x: u64) -> u64
-    ensures { result ≡ next_source x }
+/// The seed of the next draw: one step of a linear congruence.
+#[tactic(auto, using(crate::proofs::Draws::draw_steps), unfolding(crate::specs::Generator::next_seed))]
+fn step(seed: u64) -> u64
+    ensures { result ≡ next_seed seed }
 {
-    x.wrapping_mul(6_364_136_223_846_793_005)
+    seed.wrapping_mul(6_364_136_223_846_793_005)
         .wrapping_add(1_442_695_040_888_963_407)
 }
 
@@ -56,7 +56,7 @@ impl Maker {
         ensures { IfOk result (λ maker. maker ≡ opening seed) }
     {
         Ok(Maker {
-            x: seed,
+            seed,
             queues: queues(alloc)?,
             next_tray: 0,
         })
@@ -66,18 +66,18 @@ impl Maker {
     #[tactic(auto, unfolding(crate::specs::Generator::draw))]
     pub(crate) fn draw(&mut self, limit: u64) -> u64
         requires { 0 < limit }
-        ensures value { result ≡ draw self.old.x % limit }
+        ensures value { result ≡ draw self.old.seed % limit }
         ensures below { result < limit }
         ensures state { self.new ≡ behind_draw self.old }
     {
-        self.x = step(self.x);
-        (self.x >> 33) % limit
+        self.seed = step(self.seed);
+        (self.seed >> 33) % limit
     }
 
     /// A new block.
-    #[tactic(auto, unfolding(crate::specs::Generator::new_block))]
-    fn new_block(&mut self, name: u32) -> Call
-        ensures { (result, self.new) ≡ new_block name self.old }
+    #[tactic(auto, unfolding(crate::specs::Generator::malloc_made))]
+    fn malloc_call(&mut self, name: u32) -> Call
+        ensures { (result, self.new) ≡ malloc_made name self.old }
     {
         let kind = self.draw(16);
         let size = self.draw(size_count(kind));
@@ -85,23 +85,23 @@ impl Maker {
     }
 
     /// The call under a name that isn't held.
-    #[tactic(auto, unfolding(crate::specs::Generator::taking_from))]
-    fn taking(&mut self, thread: u8, name: u32) -> Call
+    #[tactic(auto, unfolding(crate::specs::Generator::unheld_made))]
+    fn unheld_call(&mut self, thread: u8, name: u32) -> Call
         requires { thread < 4 }
-        ensures { (result, self.new) ≡ taking_from (queue_of self.old.queues thread) thread name self.old }
+        ensures { (result, self.new) ≡ unheld_made (queue_of self.old.queues thread) thread name self.old }
     {
         match take_tray(&mut self.queues, thread) {
             Some(tray) => Call::Take { name, tray },
-            None => self.new_block(name),
+            None => self.malloc_call(name),
         }
     }
 
     /// The block is posted to the next tray.
-    #[tactic(auto, unfolding(crate::specs::Generator::post))]
-    fn post(&mut self, thread: u8, name: u32) -> Result<Call, NoMemory>
+    #[tactic(auto, unfolding(crate::specs::Generator::post_made))]
+    fn post_call(&mut self, thread: u8, name: u32) -> Result<Call, NoMemory>
         requires thread { thread < 4 }
         requires tray { self.old.next_tray < 2 ^ 32 - 1 }
-        ensures { IfOk result (λ call. (call, self.new) ≡ post thread name self.old) }
+        ensures { IfOk result (λ call. (call, self.new) ≡ post_made thread name self.old) }
     {
         let tray = self.next_tray;
         put_tray(&mut self.queues, (thread + 1) % 4, tray)?;
@@ -110,17 +110,17 @@ impl Maker {
     }
 
     /// The call under a name that is held.
-    #[tactic(auto, unfolding(crate::specs::Generator::using_block, crate::specs::Generator::resize))]
-    fn using(&mut self, kind: u64, thread: u8, name: u32) -> Result<Call, NoMemory>
+    #[tactic(auto, unfolding(crate::specs::Generator::held_made, crate::specs::Generator::realloc_made))]
+    fn held_call(&mut self, kind: u64, thread: u8, name: u32) -> Result<Call, NoMemory>
         requires { thread < 4 }
-        ensures { IfOk result (λ call. (call, self.new) ≡ using_block kind thread name self.old) }
+        ensures { IfOk result (λ call. (call, self.new) ≡ held_made kind thread name self.old) }
     {
         if kind == 0 {
             let size = self.draw(4096) + 1;
             return Ok(Call::Realloc { name, size });
         }
         if kind == 1 && self.next_tray <= 65_535 {
-            return self.post(thread, name);
+            return self.post_call(thread, name);
         }
         Ok(Call::Free { name })
     }
@@ -133,8 +133,8 @@ impl Maker {
     {
         if held {
             let kind = self.draw(8);
-            return self.using(kind, thread, name);
+            return self.held_call(kind, thread, name);
         }
-        Ok(self.taking(thread, name))
+        Ok(self.unheld_call(thread, name))
     }
 }

@@ -1,7 +1,7 @@
-use Rattle.std.proofs.Common.{◌≡◌, ◌+◌, ◌-◌, sym, ◌∙◌, arith, rules, length}
+use Rattle.std.proofs.Common.{◌≡◌, ◌+◌, ◌-◌, sym, ◌∙◌, arith, rules}
 use Rattle.std.proofs.lemmas.Grind.{common_steps}
 use Rattle.trace_text.specs.Grammar.{place_after}
-use Rattle.trace_maker.specs.Generator.{more_lines, lines_made}
+use Rattle.trace_maker.specs.Generator.{lines_made}
 use Rattle.trace_maker.proofs.TraceLaws.{lines_made_allowed, lines_made_posted}
 use Rattle.trace_maker.proofs.Loop.{one_line_more, no_line_more}
 use Rattle.trace_maker.proofs.making.generate.Goals as goal
