@@ -43,7 +43,8 @@ impl Held {
     /// Notes whether a thread holds a name from now on.
     pub(crate) fn note(&mut self, thread: u8, name: u32, held: bool)
         requires { IsDrawn thread name }
-        ensures { self.new.marks.items ≡ slice_set self.old.marks.items (place_of thread name) held }
+        ensures { self.new.marks.items ≡
+            slice_set self.old.marks.items (place_of thread name) held }
     {
         self.marks[usize::from(thread) * NAMES + name as usize] = held;
     }

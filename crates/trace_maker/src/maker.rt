@@ -23,7 +23,11 @@ impl Model for Maker {
 
     ghost Value = { State };
 
-    ghost view = { λ m. record { seed = m.seed; queues = m.queues.items; next_tray = m.next_tray } };
+    ghost view = { λ m. record {
+      seed = m.seed;
+      queues = m.queues.items;
+      next_tray = m.next_tray;
+    } };
 
     ghost invariant = { λ m. vec_len m.queues ≡ 4 };
 }
@@ -88,7 +92,8 @@ impl Maker {
     #[tactic(auto, unfolding(crate::specs::Generator::unheld_made))]
     fn unheld_call(&mut self, thread: u8, name: u32) -> Call
         requires { thread < 4 }
-        ensures { (result, self.new) ≡ unheld_made (queue_of self.old.queues thread) thread name self.old }
+        ensures { (result, self.new) ≡
+            unheld_made (queue_of self.old.queues thread) thread name self.old }
     {
         match take_tray(&mut self.queues, thread) {
             Some(tray) => Call::Take { name, tray },
