@@ -1,3 +1,4 @@
+pub mod CountLaws
 pub mod Digits
 pub mod ListOrder
 pub mod Sums

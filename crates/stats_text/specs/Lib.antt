@@ -3,3 +3,4 @@ pub mod Words
 pub mod Records
 pub mod Report
 pub mod Totals
+pub mod Summary

@@ -326,3 +326,52 @@ fn other_answers_are_written(rt: HostRuntime) -> Result<(), Fail> {
     }
     Ok(())
 }
+
+const SUMMARY: &str = "\
+ptmsummary 1
+lines 16
+got 5
+null 4
+missed 2
+skip 1
+Total (incl. mmap):
+system bytes     =     475136
+in use bytes     =     471712
+max mmap regions =          3
+max mmap bytes   =     483328
+";
+
+/// Each answer counts as a line, and one that takes a block from a tray as nothing else.
+#[test]
+fn a_summary_counts_answers(rt: HostRuntime) -> Result<(), Fail> {
+    let taken = Outcome::Taken {
+        addr: ADDR,
+        size: SIZE,
+    };
+    let counts = count_outcomes(&[
+        got(Source3::Cached),
+        Outcome::Posted,
+        got(ARENA),
+        Outcome::Null(2),
+        taken,
+        got(Source3::Mapped),
+        Outcome::Missed { seen: 0 },
+        kept(None),
+        Outcome::Null(0),
+        Outcome::Null(1),
+        moved(ARENA),
+        freed(BINNED, true),
+        Outcome::Missed { seen: 1 },
+        Outcome::Null(2),
+        Outcome::Skip,
+        Outcome::Ended,
+    ]);
+    let alloc = rt.alloc();
+    let s = snapshots::mapped_chunks(alloc)?;
+    let fits = has_totals(&s);
+    assert!(rt; fits);
+    let mut text = Vec::new(alloc);
+    append_summary(&mut text, &counts, &s)?;
+    assert_eq!(rt; text.as_slice(), SUMMARY.as_bytes());
+    Ok(())
+}

@@ -1,5 +1,4 @@
-use Rattle.std.proofs.Common.{arith, sym, ap, ◌∙◌, ◌++◌}
-use Rattle.stats_text.specs.Words.{hex_digits}
+use Rattle.std.proofs.Common.{arith, sym, ◌∙◌}
 use Rattle.stats_text.proofs.Digits.{next_digit, none_to_come}
 use Rattle.stats_text.proofs.words.put_hex.Goals as goal
 

@@ -1,0 +1,5 @@
+pub mod Draws
+pub mod HeldLaws
+pub mod TrayLaws
+pub mod TraceLaws
+mod Loop
