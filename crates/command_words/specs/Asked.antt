@@ -70,9 +70,12 @@ abbrev pub asked_if : List Given → Draft → Option Asked
 asked_if parts draft =
     if is_taken parts then option_map (asked_with parts draft) (generated_if draft.seed draft.lines) else None
 
-abbrev pub asked_by : List Given → Option Asked
-asked_by parts = asked_if parts (draft_of (mode_of parts) parts)
+abbrev pub asked_from : List Given → Option Asked
+asked_from parts = asked_if parts (draft_of (mode_of parts) parts)
 
--- What words ask for; None where they aren't taken. The first is the program's name, whatever it says.
+-- What words, as bytes, ask for; None where they aren't taken. The first is the program's name, whatever it says.
+abbrev pub asked_by : List Word → Option Asked
+asked_by words = asked_from (parts_of (drop 1 words))
+
 abbrev pub asked_of : {A : Type 0} → List (String A) → Option Asked
-asked_of words = asked_by (parts_of (drop 1 (texts_of words)))
+asked_of words = asked_by (texts_of words)

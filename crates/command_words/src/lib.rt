@@ -11,3 +11,8 @@ mod words;
 
 pub use asked::{Asked, Generated};
 pub use words::read_words;
+
+#[cfg(test)]
+mod examples;
+#[cfg(test)]
+mod tests;

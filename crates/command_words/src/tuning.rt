@@ -1,6 +1,6 @@
 //! What the options set.
 
-ghost use Rattle.std.specs.Prelude.{◌≡◌, ◌≤◌, IsTrue, IfSome};
+ghost use Rattle.std.specs.Prelude.{◌≡◌, ◌≤◌, false, IsTrue, IfSome};
 ghost use Rattle.chunk_tags.specs.Tunables.{IsTuned};
 ghost use Rattle.command_words.specs.Options.{takes_number, max_fast_of, bins_up_to, set};
 ghost use Rattle.command_words.specs.Asked.{fresh_draft, with_choice};
@@ -36,6 +36,16 @@ fn bins(n: u64) -> u8
     cache_index(Size(size)) + 1
 }
 
+/// The tunables with the dynamic threshold off.
+fn steady(t: Tunables) -> Tunables
+    ensures { result ≡ record t { dynamic = false } }
+{
+    Tunables {
+        dynamic: false,
+        ..t
+    }
+}
+
 /// The tunables with an option at this number.
 pub(crate) fn set(setting: Setting, n: u64, t: Tunables) -> Tunables
     requires fits { IsTrue (takes_number setting n) }
@@ -50,23 +60,19 @@ pub(crate) fn set(setting: Setting, n: u64, t: Tunables) -> Tunables
         },
         Setting::TrimThreshold => Tunables {
             trim_threshold: n,
-            dynamic: false,
-            ..t
+            ..steady(t)
         },
         Setting::TopPad => Tunables {
             top_pad: n,
-            dynamic: false,
-            ..t
+            ..steady(t)
         },
         Setting::MmapThreshold => Tunables {
             mmap_threshold: n,
-            dynamic: false,
-            ..t
+            ..steady(t)
         },
         Setting::MmapMax => Tunables {
             mmaps_max: n,
-            dynamic: false,
-            ..t
+            ..steady(t)
         },
         Setting::ArenaTest => Tunables {
             arena_test: n as u32,

@@ -3,7 +3,7 @@
 ghost use Rattle.std.specs.Prelude.{◌≡◌, IfSome};
 ghost use Rattle.chunk_tags.specs.Tunables.{IsTuned};
 ghost use Rattle.command_words.specs.Parts.{texts_of, parts_of};
-ghost use Rattle.command_words.specs.Asked.{gives, are_taken, generated_if, draft_of, mode_of, asked_by, asked_of};
+ghost use Rattle.command_words.specs.Asked.{gives, are_taken, generated_if, draft_of, mode_of, asked_from, asked_of};
 
 use crate::asked::{Asked, Generated};
 use crate::part::first_part;
@@ -66,7 +66,7 @@ fn generated(seed: Option<u64>, lines: Option<u64>) -> Option<Option<Generated>>
 
 /// What the words behind the program's name ask for; `None` where they aren't taken.
 fn read(words: &[String]) -> Option<Asked>
-    ensures exact { result ≡ asked_by (parts_of (texts_of words.now)) }
+    ensures exact { result ≡ asked_from (parts_of (texts_of words.now)) }
     ensures tuned { IfSome result (λ asked. IsTuned asked.tunables) }
 {
     if !are_taken(words) {
