@@ -30,6 +30,7 @@ other_front (d ∷ n ∷ ds) h = go (d == 43) (d == 48) refl refl
   where
     none : d ≤ 48 → cond (is_numeral (d ∷ n ∷ ds) && ltb (value_of (d ∷ n ∷ ds)) (2 ^ 64)) (Some (value_of (d ∷ n ∷ ds))) None ≡ None
     none low = let no : ltb 48 d ≡ false = grind (arith, nat_tests) in rw no refl
+
     go : (t u : Bool) → (d == 43) ≡ t → (d == 48) ≡ u → cond (is_numeral (d ∷ n ∷ ds) && ltb (value_of (d ∷ n ∷ ds)) (2 ^ 64)) (Some (value_of (d ∷ n ∷ ds))) None ≡ None
     go true u e f = let is : d ≡ 43 = grind (arith, nat_tests) in none (omega (arith, is))
     go false true e f = let is : d ≡ 48 = grind (arith, nat_tests) in none (omega (arith, is))

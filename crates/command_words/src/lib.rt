@@ -13,6 +13,8 @@ pub use asked::{Asked, Generated};
 pub use words::read_words;
 
 #[cfg(test)]
+mod clap_tests;
+#[cfg(test)]
 mod examples;
 #[cfg(test)]
 mod tests;

@@ -112,7 +112,11 @@ fn setting_number(setting: Setting, value: Option<&str>) -> Option<u64>
     ensures fitting { IfSome result (λ n. IsFitting (Choice.Sets setting n)) }
 {
     let n = number(value?)?;
-    if setting.range().has(n) { Some(n) } else { None }
+    if setting.range().has(n) {
+        Some(n)
+    } else {
+        None
+    }
 }
 
 /// The first option that words give, and the words behind it; `None` where they give none.

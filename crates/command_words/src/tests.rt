@@ -15,11 +15,14 @@ fn words_are_read(rt: HostRuntime) -> Result<(), Fail> {
     let asked = read_words(&words).ok_or("refused")?;
     assert_eq!(rt; asked.mode, Mode::Serial);
     assert_eq!(rt; asked.generated, Some(Generated { seed: 7, lines: 20 }));
-    assert_eq!(rt; asked.tunables, Tunables {
-        top_pad: 0,
-        dynamic: false,
-        ..Tunables::defaults(Mode::Serial)
-    });
+    assert_eq!(rt;
+        asked.tunables,
+        Tunables {
+            top_pad: 0,
+            dynamic: false,
+            ..Tunables::defaults(Mode::Serial)
+        }
+    );
     words.push(String::from_str(alloc, "--top-pad=0")?)?;
     assert_eq!(rt; read_words(&words), None);
     Ok(())
