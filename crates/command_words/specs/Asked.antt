@@ -1,5 +1,5 @@
 -- What the words of a command line ask for (this project's own).
-use Rattle.std.specs.Prelude.{ℕ, ◌&&◌, Bool, true, false, not, List, [], ◌∷◌, drop, fold, Option, Some, None, is_some, option_map, String, if◌then◌else◌}
+use Rattle.std.specs.Prelude.{ℕ, ◌&&◌, Bool, true, not, List, [], ◌∷◌, drop, fold, Option, Some, None, is_some, option_map, String, if◌then◌else◌}
 use Rattle.std.specs.List.{list_any}
 use Rattle.std.specs.Str.{bytes_eq}
 use Rattle.chunk_tags.specs.Tunables.{defaults_of}
@@ -8,7 +8,7 @@ use Rattle.chunk_tags.specs.declared.tunables.Mode.TheVariants as modes
 use Rattle.command_words.specs.declared.asked.Asked.{Asked}
 use Rattle.command_words.specs.declared.asked.Generated.{Generated}
 use Rattle.command_words.specs.declared.part.Choice.{Choice}
-use Rattle.command_words.specs.declared.part.Choice.TheVariants.{Sets, Threads, Summary}
+use Rattle.command_words.specs.declared.part.Choice.TheVariants.{Sets}
 use Rattle.command_words.specs.declared.setting.Setting.TheVariants.{Gen, Lines}
 use Rattle.command_words.specs.declared.tuning.Draft.{Draft}
 use Rattle.command_words.specs.Options.{threads_flag, summary_flag, set}

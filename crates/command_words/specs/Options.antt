@@ -1,6 +1,6 @@
 -- The options of the command line: their names, the values that they take, and what each sets (this project's own, but
 -- for the values of mallopt(3) and the sizes of glibc 2.31's caches).
-use Rattle.std.specs.Prelude.{ℕ, ◌+◌, ◌-◌, ◌*◌, ◌/◌, ◌%◌, ◌^◌, ◌==◌, ◌&&◌, Bool, true, false, nat_le, nat_lt, List, [], ◌∷◌, Option, codes, find, if◌then◌else◌}
+use Rattle.std.specs.Prelude.{ℕ, ◌+◌, ◌*◌, ◌/◌, ◌%◌, ◌==◌, ◌&&◌, Bool, true, false, nat_le, nat_lt, List, [], ◌∷◌, Option, codes, find, if◌then◌else◌}
 use Rattle.std.specs.Int.{is_power_of_two}
 use Rattle.std.specs.Str.{bytes_eq}
 use Rattle.chunk_tags.specs.Sizes.{chunk_size_of, cache_index_of}
