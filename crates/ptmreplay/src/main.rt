@@ -1,9 +1,9 @@
 //! `ptmreplay`: reads a trace of malloc calls from standard input and writes the report to standard output.
 #![tactic(auto)]
 
-ghost use Rattle.std.specs.Prelude.{◌≡◌, ℕ, List, Some, replicate, IfOk, IsErr, IsOk};
-ghost use Rattle.trace_replay.specs.Asked.{asked_of};
-ghost use Rattle.trace_replay.specs.Headline.{Answers, IsUnwritten};
+ghost use Rattle.std.specs.Prelude.{◌≡◌, ◌⊎◌, ℕ, List, Some, replicate, IfOk, IfErr, IsOk, Err};
+ghost use Rattle.trace_replay.specs.Asked.{served_of};
+ghost use Rattle.trace_replay.specs.Headline.{Answers};
 ghost use Rattle.trace_replay.specs.SerialText.{verdict};
 
 mod ending;
@@ -19,8 +19,9 @@ use std::rt::Env;
 use trace_replay::{Exit, Open, Sink, Source, StdSink, StdSource, THREADS};
 
 /// The program's name alone, whatever its bytes are.
+#[tactic(auto, unfolding(command_words::specs::Parts::parts_from, command_words::specs::Asked::are_taken))]
 fn name_alone(alloc: Global) -> Result<Vec<String>, NoMemory>
-    ensures { IfOk result (λ words. IsOk (asked_of words.items)) }
+    ensures { IfOk result (λ words. IsOk (served_of words.items)) }
 {
     let mut words = Vec::new(alloc);
     words.push(String::from_str(alloc, "ptmreplay")?)?;
@@ -28,8 +29,9 @@ fn name_alone(alloc: Global) -> Result<Vec<String>, NoMemory>
 }
 
 /// What stands for words that are no text: an empty word behind the program's name.
+#[tactic(auto, unfolding(command_words::specs::Parts::parts_from, command_words::specs::Options::setting_named, command_words::specs::Asked::are_taken))]
 fn unreadable_words(alloc: Global) -> Result<Vec<String>, NoMemory>
-    ensures { IfOk result (λ words. IsErr (asked_of words.items)) }
+    ensures { IfOk result (λ words. served_of words.items ≡ Err Exit.Usage) }
 {
     let mut words = Vec::new(alloc);
     words.push(String::from_str(alloc, "ptmreplay")?)?;
@@ -68,11 +70,11 @@ fn replay_over<S: Source, W: Sink>(
 ) -> Exit
     // What is written and what is refused is what the rules give over these ports.
     ensures told { (bytes : List ℕ) → S.supply.left source.old ≡ Some bytes →
-        Answers (verdict ⟦<Always as Kernel>⟧.port (replicate 64 (record {})) (asked_of words.now) bytes)
+        Answers (verdict ⟦<Always as Kernel>⟧.port (replicate 64 (record {})) (served_of words.now) bytes)
         W.store sink.old result sink.new }
 
-    // Nothing is written where a word stands behind the program's name.
-    ensures word { IsErr (asked_of words.now) → IsUnwritten result }
+    // Words that are refused are answered so, or memory is short.
+    ensures word { IfErr (served_of words.now) (λ exit. (result ≡ exit) ⊎ (result ≡ Exit.NoMemory)) }
 {
     match ports(alloc) {
         Ok(ports) => trace_replay::run(alloc, words, source, sink, ports, &Open),
@@ -82,7 +84,7 @@ fn replay_over<S: Source, W: Sink>(
 
 /// Runs over standard input and output.
 fn replay<R: Input + Print + AllocGlobal>(rt: &R, words: &[String]) -> Exit
-    ensures { IsErr (asked_of words.now) → IsUnwritten result }
+    ensures { IfErr (served_of words.now) (λ exit. (result ≡ exit) ⊎ (result ≡ Exit.NoMemory)) }
 {
     let mut source = StdSource::new(rt.reader());
     let mut sink = StdSink::new(io::writer(rt));

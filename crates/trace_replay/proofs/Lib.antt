@@ -12,5 +12,4 @@ mod Serving
 mod Stepping
 mod ReplayLoop
 mod Reports
-mod Words
 mod Outcomes

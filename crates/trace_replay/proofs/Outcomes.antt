@@ -1,9 +1,9 @@
 -- A run that writes nothing.
-use Rattle.std.proofs.Common.{ℕ, List, Result, refl}
+use Rattle.std.proofs.Common.{ℕ, List, Result, Err, refl, inr}
 use Rattle.byte_edge.specs.Streams.{Store}
 use Rattle.trace_replay.specs.declared.exit.Exit.{Exit}
-use Rattle.trace_replay.specs.declared.exit.Exit.TheVariants.{Done, WriteFault}
-use Rattle.trace_replay.specs.Headline.{LeavesSink, IsUnwritten, Answers, Refuses}
+use Rattle.trace_replay.specs.declared.exit.Exit.TheVariants.{Done, Usage, WriteFault, NotBuilt}
+use Rattle.trace_replay.specs.Headline.{LeavesSink, IsUnwritten, IsWordRefusal, Answers, AnswersJob, Refuses}
 
 pub untouched : {W : Type 0} (store : Store W) (sink : W) (exit : Exit) → IsUnwritten exit → LeavesSink store sink exit sink
 untouched store sink Done h = absurd h
@@ -14,3 +14,19 @@ pub refused : {W : Type 0} (rules : Result (List ℕ) Exit) (store : Store W) (s
 refused rules store sink Done h r = absurd h
 refused rules store sink WriteFault h r = absurd h
 refused rules store sink _ h r = r
+
+-- words that are refused write nothing, and what refuses them is answered
+pub unwritten : (exit : Exit) → IsWordRefusal exit → IsUnwritten exit
+unwritten Done h = absurd h
+unwritten WriteFault h = absurd h
+unwritten _ h = tt
+
+pub refused_words : {W : Type 0} (store : Store W) (sink : W) (exit : Exit) → IsWordRefusal exit → Answers (Err exit) store sink exit sink
+refused_words store sink Usage h = refl
+refused_words store sink (NotBuilt line) h = refl
+refused_words store sink _ h = absurd h
+
+pub refused_job : (A : Type 0) (exit : Exit) → IsWordRefusal exit → AnswersJob {A = A} (Err exit) exit
+refused_job A Usage h = refl
+refused_job A (NotBuilt line) h = inr refl
+refused_job A _ h = absurd h

@@ -1,20 +1,29 @@
--- What the words of the command line ask for (this project's own).
-use Rattle.std.specs.Prelude.{ℕ, List, ◌∷◌, map, Result, Ok, Err, String}
-use Rattle.std.specs.String.{string_bytes}
-use Rattle.chunk_tags.specs.Tunables.{defaults_of}
-use Rattle.chunk_tags.specs.declared.tunables.Mode.TheVariants.{Serial}
-use Rattle.trace_replay.specs.declared.asked.Asked.{Asked}
+-- What a run serves of what the words of the command line ask for (this project's own).
+use Rattle.std.specs.Prelude.{ℕ, ◌||◌, Bool, true, false, List, Option, Some, None, is_some, Result, Ok, Err, String, if◌then◌else◌}
+use Rattle.chunk_tags.specs.declared.tunables.Mode.{Mode}
+use Rattle.chunk_tags.specs.declared.tunables.Mode.TheVariants.{Serial, Threads}
+use Rattle.command_words.specs.declared.asked.Asked.{Asked}
+use Rattle.command_words.specs.Asked.{asked_by}
+use Rattle.command_words.specs.Parts.{texts_of}
 use Rattle.trace_replay.specs.declared.exit.Exit.{Exit}
-use Rattle.trace_replay.specs.declared.exit.Exit.TheVariants.{NotBuilt}
+use Rattle.trace_replay.specs.declared.exit.Exit.TheVariants.{Usage, NotBuilt}
 
--- without a word behind the program's name: a serial run with the starting values
-abbrev pub plainly_asked : Asked
-plainly_asked = record { mode = Serial; tunables = defaults_of Serial }
+abbrev pub is_threads : Mode → Bool
+is_threads Threads = true
+is_threads Serial = false
 
--- what words, as bytes, ask for, or how they are refused; the first is the program's name. No option is built yet.
-abbrev pub asked_by : List (List ℕ) → Result Asked Exit
-asked_by (name ∷ word ∷ more) = Err (NotBuilt 0)
-asked_by words = Ok plainly_asked
+-- a run with threads, a trace that is made and a summary aren't built yet
+abbrev pub awaits_building : Asked → Bool
+awaits_building asked = is_threads asked.mode || (is_some asked.generated || asked.summary)
 
-abbrev pub asked_of : {A : Type 0} → List (String A) → Result Asked Exit
-asked_of words = asked_by (map string_bytes words)
+-- words that aren't taken are Usage; what isn't built yet is NotBuilt at line 0, which no line has
+abbrev pub served_if : Option Asked → Result Asked Exit
+served_if None = Err Usage
+served_if (Some asked) = if awaits_building asked then Err (NotBuilt 0) else Ok asked
+
+-- what a run serves for words, as bytes, or how they are refused; the first is the program's name
+abbrev pub served_by : List (List ℕ) → Result Asked Exit
+served_by words = served_if (asked_by words)
+
+abbrev pub served_of : {A : Type 0} → List (String A) → Result Asked Exit
+served_of words = served_by (texts_of words)

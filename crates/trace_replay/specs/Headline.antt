@@ -7,7 +7,7 @@ use Rattle.byte_edge.specs.Input.{IsWhole, IsTooMuch, IsCutOff}
 use Rattle.byte_edge.specs.Output.{HasText, HasPrefix}
 use Rattle.trace_text.specs.declared.trace.Line.{Line}
 use Rattle.trace_replay.specs.declared.exit.Exit.{Exit}
-use Rattle.trace_replay.specs.declared.exit.Exit.TheVariants.{Done, TooLong, ReadFault, WriteFault, NoMemory, NotBuilt}
+use Rattle.trace_replay.specs.declared.exit.Exit.TheVariants.{Done, Usage, TooLong, ReadFault, WriteFault, NoMemory, NotBuilt}
 
 -- ---- what is left, whatever source, sink and ports tell
 
@@ -16,7 +16,7 @@ pub record IsReadWhole {S : Type 0} (supply : Supply S) (before now : S) : Type 
   pub bytes : List ℕ
   pub whole : IsWhole supply before now bytes
 
--- By the answer, what a run leaves of its source. A fault is answered exactly where one was counted, and nothing is
+-- By the answer, what a run whose words are served leaves of its source. A fault is answered exactly where one was counted, and nothing is
 -- read behind it, nor behind the read that gave a byte too many. Only for want of memory may bytes be left besides.
 abbrev pub LeavesSource : {S : Type 0} → Supply S → S → Exit → S → Type 0
 LeavesSource supply before ReadFault now = IsCutOff supply before now
@@ -83,9 +83,23 @@ IsHalt (NotBuilt line) = 2 ≤ line
 IsHalt NoMemory = Unit {0}
 IsHalt exit = ⊥
 
--- a refusal of the text, once the bytes are read: no end of its writing, and no fault of the reading
+-- how words are refused: they aren't taken, or ask for what isn't built
+abbrev pub IsWordRefusal : Exit → Type 0
+IsWordRefusal Usage = Unit {0}
+IsWordRefusal (NotBuilt line) = line ≡ 0
+IsWordRefusal exit = ⊥
+
+-- an answer that no refusal of words is: a line that isn't built stands behind the header
+abbrev pub IsServed : Exit → Type 0
+IsServed Usage = ⊥
+IsServed (NotBuilt line) = 2 ≤ line
+IsServed exit = Unit {0}
+
+-- a refusal of the text, once the bytes are read: no end of its writing, no fault of the reading, none of the words
 abbrev pub IsTextRefusal : Exit → Type 0
 IsTextRefusal Done = ⊥
+IsTextRefusal Usage = ⊥
+IsTextRefusal (NotBuilt line) = 2 ≤ line
 IsTextRefusal WriteFault = ⊥
 IsTextRefusal ReadFault = ⊥
 IsTextRefusal TooLong = ⊥

@@ -1,6 +1,6 @@
 -- The text that a serial run writes for the words, the bytes read and the ports; or how it refuses them
 -- (this project's own).
-use Rattle.std.specs.Prelude.{ℕ, ◌==◌, Bool, not, nat_lt, List, [], ◌∷◌, ◌++◌, length, codes, slice_get, Option, Some, None, Result, Ok, Err, String, if◌then◌else◌}
+use Rattle.std.specs.Prelude.{ℕ, ◌==◌, Bool, not, nat_lt, List, [], ◌∷◌, ◌++◌, length, codes, slice_get, Option, Some, None, Result, Ok, Err, if◌then◌else◌}
 use Rattle.chunk_tags.specs.declared.tunables.Tunables.{Tunables}
 use Rattle.address_space.specs.Ports.{Port}
 use Rattle.address_space.specs.Spaces.{new_space}
@@ -11,8 +11,7 @@ use Rattle.stats_text.specs.Report.{places_of}
 use Rattle.stats_text.specs.Totals.{statistics_of}
 use Rattle.trace_text.specs.declared.trace.Line.{Line}
 use Rattle.trace_text.specs.Grammar.{Reading, reading_of}
-use Rattle.trace_replay.specs.declared.asked.Asked.{Asked}
-use Rattle.trace_replay.specs.Asked.{asked_of}
+use Rattle.command_words.specs.declared.asked.Asked.{Asked}
 use Rattle.trace_replay.specs.declared.exit.Exit.{Exit}
 use Rattle.trace_replay.specs.declared.exit.Exit.TheVariants.{Done, BadTrace, TooLong, NotBuilt}
 use Rattle.trace_replay.specs.Places.{shown_of}
@@ -96,19 +95,19 @@ abbrev pub lines_of : Reading → Result (List Line) Exit
 lines_of (Ok lines) = Ok lines
 lines_of (Err fault) = Err (BadTrace fault.line fault.why)
 
--- a fault of the text comes before a refusal of the words
-abbrev pub job_with : Result Asked Exit → Result (List Line) Exit → Result Job Exit
+abbrev pub job_with : Asked → Result (List Line) Exit → Result Job Exit
+job_with asked (Ok lines) = Ok (record { asked = asked; lines = lines })
 job_with asked (Err exit) = Err exit
-job_with (Err exit) (Ok lines) = Err exit
-job_with (Ok asked) (Ok lines) = Ok (record { asked = asked; lines = lines })
 
--- the job that the words and these bytes give, which aren't too many
-abbrev pub job_by : {A : Type 0} → List (String A) → List ℕ → Result Job Exit
-job_by words bytes = job_with (asked_of words) (lines_of (reading_of bytes))
+-- the job for what is asked and these bytes, which aren't too many
+abbrev pub job_by : Asked → List ℕ → Result Job Exit
+job_by asked bytes = job_with asked (lines_of (reading_of bytes))
 
--- the job that the words and the bytes give, or how these refuse it: the first that applies
+-- The job that the words and the bytes give, or how these refuse it: the first that applies. Words that are refused come
+-- first, whatever the bytes are.
 abbrev pub job_of : Result Asked Exit → List ℕ → Result Job Exit
-job_of asked bytes = if nat_lt max_input (length bytes) then Err TooLong else job_with asked (lines_of (reading_of bytes))
+job_of (Ok asked) bytes = if nat_lt max_input (length bytes) then Err TooLong else job_by asked bytes
+job_of (Err exit) bytes = Err exit
 
 -- the text for a job, out of the ports of all threads; that there are 64 is a condition of the run
 abbrev pub over_first : {K : Type 0} → Port K → Job → Option K → Result (List ℕ) Exit

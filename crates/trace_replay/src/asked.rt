@@ -1,39 +1,25 @@
-//! What the words of the command line ask for.
+//! What a run serves: what the words of the command line ask for, as far as it is built.
 
-ghost use Rattle.std.specs.Prelude.{◌≡◌, ◌<◌, length, IfOk};
+ghost use Rattle.std.specs.Prelude.{◌≡◌, IfOk, IfErr};
 ghost use Rattle.chunk_tags.specs.Tunables.{IsTuned};
-ghost use Rattle.trace_replay.specs.Asked.{plainly_asked, asked_of};
+ghost use Rattle.trace_replay.specs.Asked.{served_of};
+ghost use Rattle.trace_replay.specs.Headline.{IsWordRefusal};
 
 use crate::exit::Exit;
-use chunk_tags::{Mode, Tunables};
-
-/// What is asked for (this project's own).
-#[derive(Clone, Copy, Debug, PartialEq, Eq)]
-pub struct Asked {
-    /// Whether the lines run in one order; the text is a report of such a run.
-    pub mode: Mode,
-    /// The tunables of the allocator.
-    pub tunables: Tunables,
-}
-
-/// A serial run with the starting values.
-fn plainly() -> Asked
-    ensures { result ≡ plainly_asked }
-{
-    Asked {
-        mode: Mode::Serial,
-        tunables: Tunables::defaults(Mode::Serial),
-    }
-}
+use chunk_tags::Mode;
+use command_words::{Asked, read_words};
 
 /// What the words ask for, the program's name in front, or how they are refused. No memory is asked for.
-#[tactic(auto, using(crate::proofs::Words::name_alone, crate::proofs::Words::word_behind))]
-pub(crate) fn read_words(words: &[String]) -> Result<Asked, Exit>
-    ensures exact { result ≡ asked_of words.now }
+pub(crate) fn served(words: &[String]) -> Result<Asked, Exit>
+    ensures exact { result ≡ served_of words.now }
     ensures tuned { IfOk result (λ asked. IsTuned asked.tunables) }
+    ensures kind { IfErr result IsWordRefusal }
 {
-    if words.len() > 1 {
+    let Some(asked) = read_words(words) else {
+        return Err(Exit::Usage);
+    };
+    if asked.mode == Mode::Threads || asked.generated.is_some() || asked.summary {
         return Err(Exit::NotBuilt { line: 0 });
     }
-    Ok(plainly())
+    Ok(asked)
 }

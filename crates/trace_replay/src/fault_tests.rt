@@ -205,12 +205,14 @@ fn a_count_sink_counts_the_report(rt: HostRuntime) -> Result<(), Fail> {
 }
 
 #[test]
-fn a_word_behind_the_name_is_refused(rt: HostRuntime) -> Result<(), Fail> {
+fn words_are_served_or_refused(rt: HostRuntime) -> Result<(), Fail> {
     let alloc = rt.alloc();
     let mut words = Vec::new(alloc);
     for (word, exit) in [
         ("ptmreplay", Exit::Done),
+        ("--tcache-count=7", Exit::Done),
         ("--summary", Exit::NotBuilt { line: 0 }),
+        ("--summary", Exit::Usage),
     ] {
         words.push(String::from_str(alloc, word)?)?;
         let ports = vec![in alloc; Always; 64]?;
@@ -222,30 +224,6 @@ fn a_word_behind_the_name_is_refused(rt: HostRuntime) -> Result<(), Fail> {
         assert_eq!(rt; sink.bytes().is_empty(), exit != Exit::Done);
     }
     Ok(())
-}
-
-/// A port that refuses the asks with these numbers, and others that grant all.
-fn refusing_ports(alloc: Global, asks: Vec<u64>) -> Result<Vec<Budget>, NoMemory>
-    ensures { IfOk result (λ ports. vec_len ports ≡ 64) }
-{
-    let mut ports = Vec::new(alloc);
-    ports.push(Budget::new(u64::MAX, asks))?;
-    for _ in 1..64_usize {
-        ports.push(Budget::new(u64::MAX, Vec::new(alloc)))?;
-    }
-    Ok(ports)
-}
-
-/// Runs a trace over such ports.
-fn run_refusing(
-    alloc: Global,
-    trace: &[u8],
-    asks: Vec<u64>,
-    sink: &mut MemSink,
-) -> Result<Exit, NoMemory> {
-    let ports = refusing_ports(alloc, asks)?;
-    let mut source = SureSource::new(Vec::from_slice(alloc, trace)?);
-    Ok(run(alloc, &[], &mut source, sink, ports, &Open))
 }
 
 #[test]

@@ -15,10 +15,10 @@ mod replay;
 mod snapshot;
 mod top_call;
 
-pub use asked::Asked;
 pub use byte_edge::{
     CountSink, Fetch, Flush, MemSink, MemSource, Put, Sink, Source, StdSink, StdSource, SureSource,
 };
+pub use command_words::{Asked, Generated};
 pub use exit::{Exit, Large};
 pub use gate::{Gate, Open};
 pub use top_call::run;

@@ -6,13 +6,13 @@ ghost use Rattle.chunk_tags.specs.Tunables.{IsTuned};
 ghost use Rattle.stats_text.specs.Totals.{HasTotals};
 ghost use Rattle.trace_text.specs.Grammar.{reading_of, threads};
 ghost use Rattle.trace_text.specs.Spelling.{spelling, Allows};
-ghost use Rattle.trace_replay.specs.Asked.{asked_of};
-ghost use Rattle.trace_replay.specs.Headline.{Told, AllTell, Answers, Refuses, AnswersJob, LeavesSource, LeavesSink, IsReadWhole, IsUnwritten, IsTextRefusal, IsHalt, IsNumbered};
+ghost use Rattle.trace_replay.specs.Asked.{served_of};
+ghost use Rattle.trace_replay.specs.Headline.{Told, AllTell, Answers, Refuses, AnswersJob, LeavesSource, LeavesSink, IsReadWhole, IsServed, IsUnwritten, IsTextRefusal, IsHalt, IsNumbered};
 ghost use Rattle.trace_replay.specs.Replays.{AnswersAs, RefusesAs};
 ghost use Rattle.trace_replay.specs.Tiling.{GivesTiles, ShowsTiles};
 ghost use Rattle.trace_replay.specs.SerialText.{sections, lines_of, report_of, text_of, job_by, job_of, verdict};
 
-use crate::asked::{Asked, read_words};
+use crate::asked::served;
 use crate::exit::Exit;
 use crate::gate::Gate;
 use crate::process::Process;
@@ -21,6 +21,7 @@ use crate::snapshot::snapshot;
 use address_space::{Kernel, Space, Windows};
 use byte_edge::{Sink, Source, Writing, read_input, write_text};
 use chunk_tags::{NoMemory, Tunables};
+use command_words::Asked;
 use stats_text::{Snapshot, append_places, append_stats};
 use std::alloc::Global;
 use trace_text::{Line, Texts, read_trace};
@@ -44,21 +45,22 @@ fn lines(alloc: Global, bytes: &[u8]) -> Result<Vec<Line>, Exit>
     Ok(trace.lines)
 }
 
-/// The job that words and bytes give, which aren't too many.
-fn read_job(alloc: Global, words: &[String], bytes: &[u8]) -> Result<Job, Exit>
+/// The job for what is asked and these bytes, which aren't too many.
+fn read_job(alloc: Global, asked: &Asked, bytes: &[u8]) -> Result<Job, Exit>
     ensures exact { AnswersAs
         (λ job rules. record { asked = job.asked; lines = job.lines.items } ≡ rules)
-        result (job_by words.now bytes.now) }
+        result (job_by asked.now bytes.now) }
     ensures numbered { IfOk result (λ job. All IsNumbered job.lines.items) }
     ensures spelled { IfOk result
         (λ job. Allows job.lines.items × (bytes.now ≡ spelling job.lines.items)) }
-    ensures tuned { IfOk result (λ job. IsTuned job.asked.tunables) }
-    ensures word { IsErr (asked_of words.now) → IsErr result }
+    ensures same { IfOk result (λ job. job.asked ≡ asked.now) }
     ensures kind { IfErr result IsTextRefusal }
 {
     let lines = lines(alloc, bytes)?;
-    let asked = read_words(words)?;
-    Ok(Job { asked, lines })
+    Ok(Job {
+        asked: *asked,
+        lines,
+    })
 }
 
 /// The port of thread 0.
@@ -118,21 +120,21 @@ fn report<K: Kernel>(
 /// The text for the bytes of a trace and the ports.
 fn text_of_bytes<K: Kernel>(
     alloc: Global,
-    words: &[String],
+    asked: &Asked,
     bytes: &[u8],
     kernels: Vec<K>,
 ) -> Result<Vec<u8>, Exit>
-    requires { vec_len kernels ≡ threads }
+    requires ports { vec_len kernels ≡ threads }
+    requires tuned { IsTuned asked.now.tunables }
     ensures told { AllTell K.port kernels.items → AnswersAs (λ text rules. text.items ≡ rules)
-        result (text_of K.port kernels.items (job_by words.now bytes.now)) }
+        result (text_of K.port kernels.items (job_by asked.now bytes.now)) }
     ensures tiled { AllTell K.port kernels.items →
-        OnOk result (ShowsTiles K.port kernels.items (job_by words.now bytes.now)) }
-    ensures word { IsErr (asked_of words.now) → IsErr result }
-    ensures job { MatchResult result (λ _. IsOk (job_by words.now bytes.now))
-        (AnswersJob (job_by words.now bytes.now)) }
+        OnOk result (ShowsTiles K.port kernels.items (job_by asked.now bytes.now)) }
+    ensures job { MatchResult result (λ _. IsOk (job_by asked.now bytes.now))
+        (AnswersJob (job_by asked.now bytes.now)) }
     ensures kind { IfErr result IsTextRefusal }
 {
-    let job = read_job(alloc, words, bytes)?;
+    let job = read_job(alloc, asked, bytes)?;
     report(
         alloc,
         bytes,
@@ -142,38 +144,71 @@ fn text_of_bytes<K: Kernel>(
     )
 }
 
-/// The text that a run writes: for the words, the bytes of the source, and the ports.
+/// The text that a run writes: for what is asked, the bytes of the source, and the ports.
 #[tactic(auto, unfolding(crate::specs::SerialText::verdict))]
 fn text<S: Source, K: Kernel>(
     alloc: Global,
-    words: &[String],
+    asked: &Asked,
     source: &mut S,
     kernels: Vec<K>,
 ) -> Result<Vec<u8>, Exit>
-    requires { vec_len kernels ≡ threads }
+    requires ports { vec_len kernels ≡ threads }
+    requires tuned { IsTuned asked.now.tunables }
     ensures told { (bytes : List ℕ) → Told S.supply K.port source.old kernels.items bytes →
         MatchResult result
-        (λ text. verdict K.port kernels.items (asked_of words.now) bytes ≡ Ok text.items)
-        (Refuses (verdict K.port kernels.items (asked_of words.now) bytes)) }
+        (λ text. verdict K.port kernels.items (Ok asked.now) bytes ≡ Ok text.items)
+        (Refuses (verdict K.port kernels.items (Ok asked.now) bytes)) }
     ensures tiled { (bytes : List ℕ) → Told S.supply K.port source.old kernels.items bytes →
-        OnOk result (ShowsTiles K.port kernels.items (job_of (asked_of words.now) bytes)) }
+        OnOk result (ShowsTiles K.port kernels.items (job_of (Ok asked.now) bytes)) }
     ensures job { (bytes : List ℕ) → S.supply.left source.old ≡ Some bytes →
-        MatchResult result (λ _. IsOk (job_of (asked_of words.now) bytes))
-        (AnswersJob (job_of (asked_of words.now) bytes)) }
-    ensures word { IsErr (asked_of words.now) → IsErr result }
+        MatchResult result (λ _. IsOk (job_of (Ok asked.now) bytes))
+        (AnswersJob (job_of (Ok asked.now) bytes)) }
     ensures source { MatchResult result
         (λ _. IsReadWhole S.supply source.old source.new)
         (λ exit. LeavesSource S.supply source.old exit source.new) }
     ensures kind { IfErr result IsUnwritten }
+    ensures served { IfErr result IsServed }
 {
     let bytes = read_input(alloc, source)?;
-    text_of_bytes(alloc, words, bytes.as_slice(), kernels)
+    text_of_bytes(alloc, asked, bytes.as_slice(), kernels)
 }
 
-/// Reads a trace, replays it, and writes the report. Nothing is written before the text is whole.
+/// Replays what is asked for, and writes the report.
+#[tactic(auto, using(crate::proofs::Outcomes::untouched, crate::proofs::Outcomes::refused))]
+fn serve<S: Source, W: Sink, K: Kernel>(
+    alloc: Global,
+    asked: &Asked,
+    source: &mut S,
+    sink: &mut W,
+    kernels: Vec<K>,
+) -> Exit
+    requires ports { vec_len kernels ≡ threads }
+    requires tuned { IsTuned asked.now.tunables }
+    ensures source { LeavesSource S.supply source.old result source.new }
+    ensures sink { LeavesSink W.store sink.old result sink.new }
+    ensures told { (bytes : List ℕ) → Told S.supply K.port source.old kernels.items bytes →
+        Answers (verdict K.port kernels.items (Ok asked.now) bytes)
+        W.store sink.old result sink.new }
+    ensures job { (bytes : List ℕ) → S.supply.left source.old ≡ Some bytes →
+        AnswersJob (job_of (Ok asked.now) bytes) result }
+    ensures served { IsServed result }
+    ensures tiled { (bytes : List ℕ) → Told S.supply K.port source.old kernels.items bytes →
+        result ≡ Exit.Done → ShowsTiles K.port kernels.items (job_of (Ok asked.now) bytes) }
+{
+    match text(alloc, asked, source, kernels) {
+        Ok(text) => match write_text(sink, text.as_slice()) {
+            Writing::Whole => Exit::Done,
+            Writing::CutShort => Exit::WriteFault,
+        },
+        Err(exit) => exit,
+    }
+}
+
+/// Reads a trace, replays it, and writes the report. Nothing is written before the text is whole, and nothing is read
+/// where the words are refused.
 ///
 /// `kernels` has the port of each thread.
-#[tactic(auto, using(crate::proofs::Outcomes::untouched, crate::proofs::Outcomes::refused))]
+#[tactic(auto, using(crate::proofs::Outcomes::untouched, crate::proofs::Outcomes::unwritten, crate::proofs::Outcomes::refused_words, crate::proofs::Outcomes::refused_job), unfolding(crate::specs::SerialText::verdict))]
 pub fn run<S: Source, W: Sink, K: Kernel, G: Gate>(
     alloc: Global,
     words: &[String],
@@ -184,34 +219,35 @@ pub fn run<S: Source, W: Sink, K: Kernel, G: Gate>(
 ) -> Exit
     requires { vec_len kernels ≡ threads }
 
+    // Words are refused exactly where the rules refuse them, and as they do, whatever the source
+    // and the ports tell.
+    ensures word { MatchResult (served_of words.now) (λ _. IsServed result) (λ exit. result ≡ exit) }
+
     // By the answer, what is left of the source and of the sink, whatever they and the ports tell.
-    ensures source { LeavesSource S.supply source.old result source.new }
+    // Where words are refused the source isn't read at all.
+    ensures source { MatchResult (served_of words.now)
+        (λ _. LeavesSource S.supply source.old result source.new)
+        (λ _. source.new ≡ source.old) }
     ensures sink { LeavesSink W.store sink.old result sink.new }
 
     // Over a source and ports that tell: the answer is that of the rules, and what is written is
     // their text.
     ensures told { (bytes : List ℕ) → Told S.supply K.port source.old kernels.items bytes →
-        Answers (verdict K.port kernels.items (asked_of words.now) bytes)
+        Answers (verdict K.port kernels.items (served_of words.now) bytes)
         W.store sink.old result sink.new }
 
     // What the words and the bytes alone refuse is refused exactly where they do, whatever the
     // ports are.
     ensures job { (bytes : List ℕ) → S.supply.left source.old ≡ Some bytes →
-        AnswersJob (job_of (asked_of words.now) bytes) result }
-
-    // Nothing is written where the words are refused, whatever the source tells.
-    ensures word { IsErr (asked_of words.now) → IsUnwritten result }
+        AnswersJob (job_of (served_of words.now) bytes) result }
 
     // Behind each line of a run whose text was written main is sound and fills its ranges, and
     // each used chunk stands in one place.
     ensures tiled { (bytes : List ℕ) → Told S.supply K.port source.old kernels.items bytes →
-        result ≡ Exit.Done → ShowsTiles K.port kernels.items (job_of (asked_of words.now) bytes) }
+        result ≡ Exit.Done → ShowsTiles K.port kernels.items (job_of (served_of words.now) bytes) }
 {
-    match text(alloc, words, source, kernels) {
-        Ok(text) => match write_text(sink, text.as_slice()) {
-            Writing::Whole => Exit::Done,
-            Writing::CutShort => Exit::WriteFault,
-        },
-        Err(exit) => exit,
+    match served(words) {
+        Ok(asked) => serve(alloc, &asked, source, sink, kernels),
+        Err(refused) => refused,
     }
 }

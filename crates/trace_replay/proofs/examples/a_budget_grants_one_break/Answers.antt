@@ -12,6 +12,9 @@ use Rattle.arena_rules.specs.PlainArena.{empty_bins}
 use Rattle.arena_rules.specs.Search.{most_stashed}
 use Rattle.arena_rules.specs.Release.{consolidated}
 use Rattle.fast_bins.specs.PlainBins.{empty_state}
+use Rattle.command_words.specs.Asked.{are_taken}
+use Rattle.command_words.specs.Options.{setting_named}
+use Rattle.command_words.specs.Parts.{parts_from}
 use Rattle.trace_replay.specs.World.{step}
 use Rattle.trace_text.specs.Before.{is_held, has_ended}
 use Rattle.trace_text.specs.Grammar.{thread_of, command_of, number_at, name_at, one_number, two_numbers, three_numbers, call_of, fitting, filled_line, line_of, lines_after, reading_of}
@@ -19,7 +22,7 @@ use Rattle.trace_text.specs.Numbers.{number_of}
 use Rattle.trace_replay.proofs.examples.a_budget_grants_one_break.Goals as goal
 
 pub returns : goal.returns
-unfolding verdict run_of step empty_lists empty_bins most_stashed consolidated empty_state reading_of lines_after line_of filled_line thread_of command_of call_of one_number two_numbers three_numbers number_at name_at number_of fitting is_held has_ended shown_of main_with finds_of fast_of found_with found_by_address by_address records_of record_text answer_text source_text sink_text freed_text kept_hold hold_text null_word_of places_of arena_sections arena_section arena_line address_or_dash tile_lines tile_line place_text bin_line bin_lines mapped_lines cache_lines cache_line numbered_list addresses thread_lines thread_line number_or_dash numbers_or_dash book_line dials_line statistics_of all_arena_totals arena_totals in_list_order insert_by_place bytes_lines total_line in_use_of idle_bytes_of tile_bytes_of totals_of totals_lines system_bytes_of used_bytes_of mapped_maxima block_text address hex_digits in_ten_places digits
+unfolding verdict parts_from are_taken setting_named run_of step empty_lists empty_bins most_stashed consolidated empty_state reading_of lines_after line_of filled_line thread_of command_of call_of one_number two_numbers three_numbers number_at name_at number_of fitting is_held has_ended shown_of main_with finds_of fast_of found_with found_by_address by_address records_of record_text answer_text source_text sink_text freed_text kept_hold hold_text null_word_of places_of arena_sections arena_section arena_line address_or_dash tile_lines tile_line place_text bin_line bin_lines mapped_lines cache_lines cache_line numbered_list addresses thread_lines thread_line number_or_dash numbers_or_dash book_line dials_line statistics_of all_arena_totals arena_totals in_list_order insert_by_place bytes_lines total_line in_use_of idle_bytes_of tile_bytes_of totals_of totals_lines system_bytes_of used_bytes_of mapped_maxima block_text address hex_digits in_ten_places digits
 returns c = record {
   enough = refl;
   short = refl;

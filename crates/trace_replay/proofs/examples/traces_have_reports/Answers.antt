@@ -12,6 +12,9 @@ use Rattle.arena_rules.specs.PlainArena.{empty_bins}
 use Rattle.arena_rules.specs.Search.{most_stashed}
 use Rattle.arena_rules.specs.Release.{consolidated}
 use Rattle.fast_bins.specs.PlainBins.{empty_state}
+use Rattle.command_words.specs.Asked.{are_taken}
+use Rattle.command_words.specs.Options.{setting_named}
+use Rattle.command_words.specs.Parts.{parts_from}
 use Rattle.trace_replay.specs.World.{step}
 use Rattle.trace_text.specs.Before.{is_held, has_ended}
 use Rattle.trace_text.specs.Grammar.{thread_of, command_of, number_at, name_at, one_number, two_numbers, three_numbers, call_of, fitting, filled_line, line_of, lines_after, reading_of}

@@ -1,0 +1,4 @@
+pub mod Options
+pub mod Parts
+pub mod Views
+pub mod Asked

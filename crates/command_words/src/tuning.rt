@@ -1,0 +1,149 @@
+//! What the options set.
+
+ghost use Rattle.std.specs.Prelude.{◌≡◌, ◌≤◌, false, IsTrue, IfSome};
+ghost use Rattle.chunk_tags.specs.Tunables.{IsTuned};
+ghost use Rattle.command_words.specs.Options.{takes_number, max_fast_of, bins_up_to, set};
+ghost use Rattle.command_words.specs.Asked.{fresh_draft, with_choice};
+ghost use Rattle.command_words.specs.Views.{IsFitting};
+
+use crate::part::Choice;
+use crate::setting::Setting;
+use chunk_tags::{Mode, Size, Tunables, cache_index};
+
+/// What options chose so far.
+#[derive(Clone, Copy, Debug, PartialEq, Eq)]
+pub struct Draft {
+    pub tunables: Tunables,
+    pub seed: Option<u64>,
+    pub lines: Option<u64>,
+}
+
+/// The largest size of a fast chunk for a value: glibc's `set_max_fast`.
+fn max_fast(n: u64) -> u64
+    requires { n ≤ 160 }
+    ensures { result ≡ max_fast_of n }
+{
+    if n < 8 { 16 } else { (n + 8) / 16 * 16 }
+}
+
+/// How many lists of a cache are used, where this is the largest request that is cached.
+fn bins(n: u64) -> u8
+    requires { n ≤ 1032 }
+    ensures { result ≡ bins_up_to n }
+{
+    let padded = n + 23;
+    let size = if padded < 32 { 32 } else { padded / 16 * 16 };
+    cache_index(Size(size)) + 1
+}
+
+/// The tunables with the dynamic threshold off.
+fn steady(t: Tunables) -> Tunables
+    ensures { result ≡ record t { dynamic = false } }
+{
+    Tunables {
+        dynamic: false,
+        ..t
+    }
+}
+
+/// The tunables with an option at this number.
+pub(crate) fn set(setting: Setting, n: u64, t: Tunables) -> Tunables
+    requires fits { IsTrue (takes_number setting n) }
+    requires tuned { IsTuned t }
+    ensures exact { result ≡ set setting n t }
+    ensures tuned { IsTuned result }
+{
+    match setting {
+        Setting::Mxfast => Tunables {
+            max_fast: max_fast(n),
+            ..t
+        },
+        Setting::TrimThreshold => Tunables {
+            trim_threshold: n,
+            ..steady(t)
+        },
+        Setting::TopPad => Tunables {
+            top_pad: n,
+            ..steady(t)
+        },
+        Setting::MmapThreshold => Tunables {
+            mmap_threshold: n,
+            ..steady(t)
+        },
+        Setting::MmapMax => Tunables {
+            mmaps_max: n,
+            ..steady(t)
+        },
+        Setting::ArenaTest => Tunables {
+            arena_test: n as u32,
+            ..t
+        },
+        Setting::ArenaMax => Tunables {
+            arena_max: n as u32,
+            ..t
+        },
+        Setting::TcacheCount => Tunables {
+            tcache_count: n as u16,
+            ..t
+        },
+        Setting::TcacheMax => Tunables {
+            tcache_bins: bins(n),
+            ..t
+        },
+        Setting::Cores => Tunables {
+            cores: n as u32,
+            ..t
+        },
+        Setting::Records => Tunables {
+            records: n as u8,
+            ..t
+        },
+        Setting::HeapMax => Tunables { heap_max: n, ..t },
+        Setting::Heaps => Tunables {
+            heaps: n as u16,
+            ..t
+        },
+        Setting::MainMax => Tunables { main_max: n, ..t },
+        Setting::Polls => Tunables {
+            polls: n as u32,
+            ..t
+        },
+        Setting::Gen | Setting::Lines => t,
+    }
+}
+
+/// Nothing chosen yet.
+pub(crate) fn fresh(mode: Mode) -> Draft
+    ensures exact { result ≡ fresh_draft mode }
+    ensures tuned { IsTuned result.tunables }
+{
+    Draft {
+        tunables: Tunables::defaults(mode),
+        seed: None,
+        lines: None,
+    }
+}
+
+/// With one choice more.
+pub(crate) fn choose(draft: Draft, choice: Option<Choice>) -> Draft
+    requires fits { IfSome choice IsFitting }
+    requires tuned { IsTuned draft.tunables }
+    ensures exact { result ≡ with_choice draft choice }
+    ensures tuned { IsTuned result.tunables }
+{
+    match choice {
+        Some(Choice::Sets(Setting::Gen, n)) => Draft {
+            seed: Some(n),
+            ..draft
+        },
+        Some(Choice::Sets(Setting::Lines, n)) => Draft {
+            lines: Some(n),
+            ..draft
+        },
+        Some(Choice::Sets(setting, n)) => Draft {
+            tunables: set(setting, n, draft.tunables),
+            ..draft
+        },
+        _ => draft,
+    }
+}
