@@ -8,7 +8,7 @@ ghost use Rattle.command_words.specs.Views.{IsFitting};
 
 use crate::part::Choice;
 use crate::setting::Setting;
-use chunk_tags::{Mode, Size, Tunables, cache_index};
+use chunk_tags::{Mode, Tunables, cache_index, request_size};
 
 /// What options chose so far.
 #[derive(Clone, Copy, Debug, PartialEq, Eq)]
@@ -31,9 +31,8 @@ fn bins(n: u64) -> u8
     requires { n ≤ 1032 }
     ensures { result ≡ bins_up_to n }
 {
-    let padded = n + 23;
-    let size = if padded < 32 { 32 } else { padded / 16 * 16 };
-    cache_index(Size(size)) + 1
+    let largest = request_size(n).unwrap();
+    cache_index(largest) + 1
 }
 
 /// The tunables with the dynamic threshold off.
