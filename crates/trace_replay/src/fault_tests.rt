@@ -226,6 +226,30 @@ fn words_are_served_or_refused(rt: HostRuntime) -> Result<(), Fail> {
     Ok(())
 }
 
+/// A port that refuses the asks with these numbers, and others that grant all.
+fn refusing_ports(alloc: Global, asks: Vec<u64>) -> Result<Vec<Budget>, NoMemory>
+    ensures { IfOk result (λ ports. vec_len ports ≡ 64) }
+{
+    let mut ports = Vec::new(alloc);
+    ports.push(Budget::new(u64::MAX, asks))?;
+    for _ in 1..64_usize {
+        ports.push(Budget::new(u64::MAX, Vec::new(alloc)))?;
+    }
+    Ok(ports)
+}
+
+/// Runs a trace over such ports.
+fn run_refusing(
+    alloc: Global,
+    trace: &[u8],
+    asks: Vec<u64>,
+    sink: &mut MemSink,
+) -> Result<Exit, NoMemory> {
+    let ports = refusing_ports(alloc, asks)?;
+    let mut source = SureSource::new(Vec::from_slice(alloc, trace)?);
+    Ok(run(alloc, &[], &mut source, sink, ports, &Open))
+}
+
 #[test]
 fn a_refused_break_leads_to_a_piece(rt: HostRuntime) -> Result<(), Fail> {
     let alloc = rt.alloc();
