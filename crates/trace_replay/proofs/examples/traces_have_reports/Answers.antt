@@ -22,7 +22,7 @@ use Rattle.trace_text.specs.Numbers.{number_of}
 use Rattle.trace_replay.proofs.examples.traces_have_reports.Goals as goal
 
 pub returns : goal.returns
-unfolding lib.Count.ones verdict run_of step empty_lists empty_bins most_stashed consolidated empty_state reading_of lines_after line_of filled_line thread_of command_of call_of one_number two_numbers three_numbers number_at name_at number_of fitting is_held has_ended shown_of main_with finds_of fast_of found_with found_by_address by_address records_of record_text answer_text source_text sink_text freed_text kept_hold hold_text null_word_of places_of arena_sections arena_section arena_line address_or_dash tile_lines tile_line place_text bin_line bin_lines mapped_lines cache_lines cache_line numbered_list addresses thread_lines thread_line number_or_dash numbers_or_dash book_line dials_line statistics_of all_arena_totals arena_totals in_list_order insert_by_place bytes_lines total_line in_use_of idle_bytes_of tile_bytes_of totals_of totals_lines system_bytes_of used_bytes_of mapped_maxima block_text address hex_digits in_ten_places digits
+unfolding lib.Count.ones verdict parts_from are_taken setting_named run_of step empty_lists empty_bins most_stashed consolidated empty_state reading_of lines_after line_of filled_line thread_of command_of call_of one_number two_numbers three_numbers number_at name_at number_of fitting is_held has_ended shown_of main_with finds_of fast_of found_with found_by_address by_address records_of record_text answer_text source_text sink_text freed_text kept_hold hold_text null_word_of places_of arena_sections arena_section arena_line address_or_dash tile_lines tile_line place_text bin_line bin_lines mapped_lines cache_lines cache_line numbered_list addresses thread_lines thread_line number_or_dash numbers_or_dash book_line dials_line statistics_of all_arena_totals arena_totals in_list_order insert_by_place bytes_lines total_line in_use_of idle_bytes_of tile_bytes_of totals_of totals_lines system_bytes_of used_bytes_of mapped_maxima block_text address hex_digits in_ten_places digits
 returns c = record {
   nothing = refl;
   two_blocks = refl;
