@@ -1,5 +1,5 @@
 -- A thread's address space: its kernel behind the windows (this project's own).
-use Rattle.std.specs.Prelude.{◌≡◌, ℕ, ◌+◌, ◌*◌, ◌%◌, ◌≤◌, nat_lt, Bool, false, ◌&&◌, IsTrue, Option, Some, None, IfSome, if◌then◌else◌}
+use Rattle.std.specs.Prelude.{◌≡◌, ℕ, ◌+◌, ◌*◌, ◌%◌, ◌≤◌, nat_lt, nat_le, Bool, false, ◌&&◌, ◌||◌, IsTrue, Option, Some, None, IfSome, if◌then◌else◌}
 use Rattle.address_space.specs.declared.asks.Ask.{Ask}
 use Rattle.address_space.specs.declared.asks.Ask.TheVariants.{Map, Remap}
 use Rattle.address_space.specs.declared.asks.Answer.{Answer}
@@ -17,6 +17,10 @@ main_start = 0x555555559000
 abbrev pub piece_start : ℕ
 piece_start = 0x5a0000000000
 
+-- where the heaps of other arenas begin
+abbrev pub heaps_start : ℕ
+heaps_start = 0x7f0000000000
+
 -- a break that would pass main's window
 abbrev pub break_passes : Windows → ℕ → Bool
 break_passes w new = nat_lt (main_start + w.main_max) new
@@ -28,6 +32,14 @@ piece_passes w at len = nat_lt (piece_start + w.main_max) (at + len)
 -- the length of a thread's window for mappings, 2^36 bytes
 abbrev pub map_length : ℕ
 map_length = 0x1000000000
+
+-- a new heap that would be longer than its window, or behind the last window of its arena
+abbrev pub new_heap_passes : Windows → ℕ → ℕ → Bool
+new_heap_passes w heap len = nat_lt w.heap_max len || nat_le w.heaps heap
+
+-- a heap that would grow beyond its window
+abbrev pub heap_growth_passes : Windows → ℕ → Bool
+heap_growth_passes w new_len = nat_lt w.heap_max new_len
 
 -- where the mappings of a thread begin
 abbrev pub map_start : ℕ → ℕ

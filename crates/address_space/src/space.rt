@@ -2,7 +2,7 @@
 
 ghost use Rattle.std.specs.Prelude.{◌≡◌, ◌≢◌, ◌+◌, ◌%◌, ◌<◌, nat_lt};
 ghost use Rattle.address_space.specs.declared.asks.Ask.{Ask};
-ghost use Rattle.address_space.specs.declared.asks.Ask.TheVariants.{Break, Piece};
+ghost use Rattle.address_space.specs.declared.asks.Ask.TheVariants.{Break, Piece, NewHeap, GrowHeap};
 
 use crate::asks::{Answer, Ask, Back};
 use crate::kernel::Kernel;
@@ -13,6 +13,9 @@ pub const MAIN_START: u64 = 0x5555_5555_9000;
 
 /// The first address of main's pieces.
 pub const PIECE_START: u64 = 0x5a00_0000_0000;
+
+/// The first address of the heaps of other arenas.
+pub const HEAPS_START: u64 = 0x7f00_0000_0000;
 
 /// The first address of the mappings of thread 0. Those of each thread have a window of their own, of
 /// `MAP_LENGTH` bytes, behind that of the thread before.
@@ -57,7 +60,7 @@ fn ends_behind(start: u64, window: u64, at: u64, len: u64) -> bool
 }
 
 impl<K: Kernel> Space<K> {
-    ghost use Rattle.address_space.specs.Spaces.{AsksWithin, MapsWithin, RemapsWithin, GivesWithin, new_space, break_passes, piece_passes, map_place, length_change};
+    ghost use Rattle.address_space.specs.Spaces.{AsksWithin, MapsWithin, RemapsWithin, GivesWithin, new_space, break_passes, piece_passes, new_heap_passes, heap_growth_passes, map_place, length_change};
 
     /// The space of a thread, over its kernel.
     pub fn new(kernel: K, thread: u8, windows: Windows) -> Space<K>
@@ -94,6 +97,34 @@ impl<K: Kernel> Space<K> {
     {
         let passes = ends_behind(PIECE_START, self.windows.main_max, at, len);
         self.put(passes, Ask::Piece { addr: at, len })
+    }
+
+    /// Asks for a heap of `len` bytes, the one with this index of an arena (glibc's `new_heap`). Refused exactly where it
+    /// would be longer than its window, there is no window for it, or the kernel refused; then the count of refusals rose.
+    pub fn new_heap(&mut self, arena: u8, heap: u16, len: u64) -> Answer
+        ensures { AsksWithin K.port self.old (new_heap_passes self.old.windows heap len)
+            (NewHeap arena heap len) result self.new }
+    {
+        let passes = len > self.windows.heap_max || heap >= self.windows.heaps;
+        self.put(passes, Ask::NewHeap { arena, heap, len })
+    }
+
+    /// Asks for another length of a heap, in bytes (glibc's `grow_heap`). Refused exactly where it would be longer than its
+    /// window or the kernel refused, and then the count of refusals rose.
+    pub fn grow_heap(&mut self, arena: u8, heap: u16, old_len: u64, new_len: u64) -> Answer
+        ensures { AsksWithin K.port self.old (heap_growth_passes self.old.windows new_len)
+            (GrowHeap arena heap old_len new_len) result self.new }
+    {
+        let passes = new_len > self.windows.heap_max;
+        self.put(
+            passes,
+            Ask::GrowHeap {
+                arena,
+                heap,
+                old_len,
+                new_len,
+            },
+        )
     }
 
     /// The place of the next mapping.

@@ -14,7 +14,7 @@ use Rattle.arena_core.specs.Ledgers.{Ledger, Stage, stage, elsewhere, Balances, 
 
 -- nothing happened
 pub balances_here : {O : Type 0} (l : Ledger O) (x : Stage O) (said : List Said) → IsSound x.arena → Balances l x no_chunk no_chunk (stage x.arena x.outside said)
-balances_here l x said s = record { sound = s; number = refl; placed = λ p. p; cached = λ e. omega arith; others = λ n other e. refl; kept = λ e. refl }
+balances_here l x said s = record { sound = s; number = refl; windows = refl; placed = λ p. p; cached = λ e. omega arith; others = λ n other e. refl; kept = λ e. refl }
 
 -- a move of the arena alone
 pub balances_moved : {O : Type 0} (l : Ledger O) (x : Stage O) (b : Plain) (came : Chunks) (said : List Said) →
@@ -22,6 +22,7 @@ pub balances_moved : {O : Type 0} (l : Ledger O) (x : Stage O) (b : Plain) (came
 balances_moved l x b came said m same = record {
   sound = m.sound;
   number = ap (λ (p : Plain). p.number) same;
+  windows = ap (λ (p : Plain). p.windows) same;
   placed = placed_still x.arena b none came m same;
   cached = λ e. omega arith;
   others = λ n other e. refl;
@@ -34,6 +35,7 @@ pub balances_then : {O : Type 0} {l : Ledger O} {x y z : Stage O} {given got giv
 balances_then {l = l} {x = x} {y = y} {z = z} {given = given} {got = got} {given' = given'} {got' = got'} m n = record {
   sound = n.sound;
   number = n.number ∙ m.number;
+  windows = n.windows ∙ m.windows;
   placed = λ p. n.placed (m.placed p);
   cached = λ e.
       let f : (k : ℕ) → y.arena.number ≡ k → times_cached k (l.cache y.outside) e ≤ times_cached k (l.cache z.outside) e = λ k same. subst (λ k. times_cached k (l.cache y.outside) e ≤ times_cached k (l.cache z.outside) e) same (n.cached e) in
@@ -47,15 +49,15 @@ balances_then {l = l} {x = x} {y = y} {z = z} {given = given} {got = got} {given
 -- the same accounts, with what is in hand all the time
 pub balances_as : {O : Type 0} {l : Ledger O} {x y : Stage O} {given got given' got' : Chunks} →
     Balances l x given got y → ((e : Chunk) → given e + got' e ≡ given' e + got e) → Balances l x given' got' y
-balances_as m same = record { sound = m.sound; number = m.number; placed = m.placed; cached = m.cached; others = m.others; kept = λ e. omega (arith, m.kept e, same e) }
+balances_as m same = record { sound = m.sound; number = m.number; windows = m.windows; placed = m.placed; cached = m.cached; others = m.others; kept = λ e. omega (arith, m.kept e, same e) }
 
 -- the same accounts, with other answers
 pub restage : {O : Type 0} {l : Ledger O} {x : Stage O} {a : Plain} {o : O} {said said' : List Said} {given got : Chunks} → Balances l x given got (stage a o said) → Balances l x given got (stage a o said')
-restage m = record { sound = m.sound; number = m.number; placed = m.placed; cached = m.cached; others = m.others; kept = m.kept }
+restage m = record { sound = m.sound; number = m.number; windows = m.windows; placed = m.placed; cached = m.cached; others = m.others; kept = m.kept }
 
 -- what was got is lost
 pub loses_from : {O : Type 0} {l : Ledger O} {x y : Stage O} {given got : Chunks} → Balances l x given got y → Loses l x given y
-loses_from m = record { sound = m.sound; number = m.number; placed = m.placed; cached = m.cached; others = m.others; kept = λ e. omega (arith, m.kept e) }
+loses_from m = record { sound = m.sound; number = m.number; windows = m.windows; placed = m.placed; cached = m.cached; others = m.others; kept = λ e. omega (arith, m.kept e) }
 
 -- accounts, and then a loss
 pub loses_then : {O : Type 0} {l : Ledger O} {x y z : Stage O} {given got given' : Chunks} →
@@ -63,6 +65,7 @@ pub loses_then : {O : Type 0} {l : Ledger O} {x y z : Stage O} {given got given'
 loses_then {l = l} {x = x} {y = y} {z = z} {given = given} {got = got} {given' = given'} m n le = record {
   sound = n.sound;
   number = n.number ∙ m.number;
+  windows = n.windows ∙ m.windows;
   placed = λ p. n.placed (m.placed p);
   cached = λ e.
       let f : (k : ℕ) → y.arena.number ≡ k → times_cached k (l.cache y.outside) e ≤ times_cached k (l.cache z.outside) e = λ k same. subst (λ k. times_cached k (l.cache y.outside) e ≤ times_cached k (l.cache z.outside) e) same (n.cached e) in

@@ -1,4 +1,4 @@
--- The turns of a growth by main's break, and the chunk that is cut from top then.
+-- The turns of a growth by main's break.
 use Rattle.std.proofs.Common.{◌≡◌, ℕ, ◌+◌, suc, Bool, true, false, cond, List, IsTrue, Result, Ok, Err, refl, sym, ap, ◌∙◌, subst, arith}
 use Rattle.std.specs.Prelude.{if◌then◌else◌}
 use Rattle.std.specs.Result.{IsErr}
@@ -27,12 +27,12 @@ use Rattle.arena_core.specs.declared.found.Found.TheVariants as finds
 use Rattle.arena_core.specs.declared.step.Step.{Step}
 use Rattle.arena_core.specs.declared.step.Step.TheVariants as steps
 use Rattle.arena_core.proofs.BinnedLaws.{topped_balances}
-use Rattle.arena_core.specs.Asking.{IsReady, IsSearchable, AsksFor, Closes, Grows, Finds, took, chunks_found, beside_arena}
+use Rattle.arena_core.specs.Asking.{IsMainReady, IsSearchable, AsksFor, Closes, Grows, Finds, took, chunks_found, beside_arena}
 use Rattle.arena_core.specs.Ledgers.{Ledger, Stage, stage, Balances, full}
 use Rattle.arena_core.specs.Steps.{step_of, chunks_of, topped}
 use Rattle.arena_core.proofs.Balance.{balances_here, balances_then, balances_as, works_ok}
 use Rattle.arena_core.proofs.Growing.{asked_passes, asked_short, growth_is}
-use Rattle.arena_core.proofs.MainGrowth.{ready_after, IsTaken, granted_break, within, same_break}
+use Rattle.arena_core.proofs.MainGrowth.{main_ready_after, IsTaken, granted_break, within, same_break}
 use Rattle.arena_core.proofs.Parts.{Passes, passes_then, passes_as, passes_behind, works_after, short_behind_works, passes_closed}
 
 abbrev after_close : ℕ → Tunables → ℕ → Plain → Rules Plain
@@ -55,46 +55,46 @@ break_short m t nb turns a p cache space space' said said' d r is s asked =
     asked_short m t a (break_of t nb a) d p cache space space' said said' (at_break turns t nb a) (λ _. a) (λ _. no_chunk) r is s asked
 
 break_asked : {P K : Type 0} (m : Means P K) (t : Tunables) (nb turns : ℕ) (a : Plain) (p : P) (cache : CacheValue) (space space' : Space K) (said said' : List Said) (granted : Bool) → let ok : Result Bool NoMemory = Ok granted in
-    IsReady m t (stage a (beside_arena p cache space) said) → AsksFor m.kernel (break_of t nb a) space said ok space' said' →
+    IsMainReady m t (stage a (beside_arena p cache space) said) → AsksFor m.kernel (break_of t nb a) space said ok space' said' →
     Passes (full m) t (main_grown (suc turns) t nb a) (stage a (beside_arena p cache space) said) no_chunk (at_break turns t nb a granted) (stage a (beside_arena p cache space') said')
 break_asked m t nb turns a p cache space space' said said' granted ready asked =
     asked_passes m t a (break_of t nb a) granted p cache space space' said said' (at_break turns t nb a) ready.backed.sound (same_break a.break_at (a.break_at + main_growth t a nb)) ready.windows asked
 
 -- refused: a piece is asked for
 pub refused_ready : {P K : Type 0} (m : Means P K) (t : Tunables) (nb : ℕ) (a : Plain) (p : P) (cache : CacheValue) (space space' : Space K) (said said' : List Said) → let ok : Result Bool NoMemory = Ok false in
-    IsReady m t (stage a (beside_arena p cache space) said) → AsksFor m.kernel (break_of t nb a) space said ok space' said' → IsReady m t (stage a (beside_arena p cache space') said')
-refused_ready m t nb a p cache space space' said said' ready asked = ready_after t ready (break_asked m t nb 0 a p cache space space' said said' false ready asked)
+    IsMainReady m t (stage a (beside_arena p cache space) said) → AsksFor m.kernel (break_of t nb a) space said ok space' said' → IsMainReady m t (stage a (beside_arena p cache space') said')
+refused_ready m t nb a p cache space space' said said' ready asked = main_ready_after t ready (break_asked m t nb 0 a p cache space space' said said' false ready asked)
 
 pub break_refused : {P K : Type 0} (m : Means P K) (t : Tunables) (nb turns : ℕ) (a : Plain) (p : P) (cache : CacheValue) (space space' : Space K) (said said' : List Said) (z : Stage (Outside P K)) (r : Result (Unit {0}) NoMemory) → let ok : Result Bool NoMemory = Ok false in
-    IsReady m t (stage a (beside_arena p cache space) said) → AsksFor m.kernel (break_of t nb a) space said ok space' said' → Grows m t (piece_grown t nb a) (stage a (beside_arena p cache space') said') r z →
+    IsMainReady m t (stage a (beside_arena p cache space) said) → AsksFor m.kernel (break_of t nb a) space said ok space' said' → Grows m t (piece_grown t nb a) (stage a (beside_arena p cache space') said') r z →
     Grows m t (main_grown (suc turns) t nb a) (stage a (beside_arena p cache space) said) r z
 break_refused m t nb turns a p cache space space' said said' z r ready asked piece = works_after r (break_asked m t nb turns a p cache space space' said said' false ready asked) (λ e. refl) piece
 
 -- granted: main is taken a range into
 pub break_ready : {P K : Type 0} (m : Means P K) (t : Tunables) (nb : ℕ) (a : Plain) (p : P) (cache : CacheValue) (space space' : Space K) (said said' : List Said) → let ok : Result Bool NoMemory = Ok true in
-    IsReady m t (stage a (beside_arena p cache space) said) → IsSearchable t → IsRequestSize nb → has_top_for a nb ≡ false → AsksFor m.kernel (break_of t nb a) space said ok space' said' →
+    IsMainReady m t (stage a (beside_arena p cache space) said) → IsSearchable t → IsRequestSize nb → has_top_for a nb ≡ false → AsksFor m.kernel (break_of t nb a) space said ok space' said' →
     IsTaken m (break_rest a) (stage a (beside_arena p cache space') said') (break_taken a (main_growth t a nb))
 break_ready m t nb a p cache space space' said said' ready tuned size short asked =
-    granted_break m t (stage a (beside_arena p cache space') said') (main_growth t a nb) (ready_after t ready (break_asked m t nb 0 a p cache space space' said said' true ready asked)) tuned (growth_is t a nb size tuned short)
+    granted_break m t (stage a (beside_arena p cache space') said') (main_growth t a nb) (main_ready_after t ready (break_asked m t nb 0 a p cache space space' said said' true ready asked)) tuned (growth_is t a nb size tuned short)
     (within m t (break_of t nb a) space space' said said' ready.windows asked)
 
 -- up to the closing of the old top
 break_passed : {P K : Type 0} (m : Means P K) (t : Tunables) (nb turns : ℕ) (a : Plain) (p : P) (cache : CacheValue) (space space' : Space K) (said said' : List Said) → let ok : Result Bool NoMemory = Ok true in
-    IsReady m t (stage a (beside_arena p cache space) said) → IsSearchable t → IsRequestSize nb → has_top_for a nb ≡ false → AsksFor m.kernel (break_of t nb a) space said ok space' said' →
+    IsMainReady m t (stage a (beside_arena p cache space) said) → IsSearchable t → IsRequestSize nb → has_top_for a nb ≡ false → AsksFor m.kernel (break_of t nb a) space said ok space' said' →
     Passes (full m) t (main_grown (suc turns) t nb a) (stage a (beside_arena p cache space) said) (λ e. once_of e (break_rest a)) (behind (closing t (break_rest a) (break_taken a (main_growth t a nb))) (after_close turns t nb)) (stage (break_taken a (main_growth t a nb)) (beside_arena p cache space') said')
 break_passed m t nb turns a p cache space space' said said' ready tuned size short asked =
     let g = break_ready m t nb a p cache space space' said said' ready tuned size short asked in
     passes_as (passes_then (break_asked m t nb turns a p cache space space' said said' true ready asked) (record { reaches = reaches_here; balances = g.balances })) (λ e. omega arith)
 
 pub close_short : {P K : Type 0} (m : Means P K) (t : Tunables) (nb turns : ℕ) (a b : Plain) (p q : P) (cache cache' : CacheValue) (space space' end : Space K) (said said' last : List Said) (d : NoMemory) (r : Result (Unit {0}) NoMemory) → let ok : Result Bool NoMemory = Ok true in
-    IsErr r → IsReady m t (stage a (beside_arena p cache space) said) → IsSearchable t → IsRequestSize nb → has_top_for a nb ≡ false → AsksFor m.kernel (break_of t nb a) space said ok space' said' →
+    IsErr r → IsMainReady m t (stage a (beside_arena p cache space) said) → IsSearchable t → IsRequestSize nb → has_top_for a nb ≡ false → AsksFor m.kernel (break_of t nb a) space said ok space' said' →
     Closes m t (break_rest a) (stage (break_taken a (main_growth t a nb)) (beside_arena p cache space') said') (Err d) (stage b (beside_arena q cache' end) last) →
     Grows m t (main_grown (suc turns) t nb a) (stage a (beside_arena p cache space) said) r (stage b (beside_arena q cache' end) last)
 close_short m t nb turns a b p q cache cache' space space' end said said' last d r is ready tuned size short asked closes =
     works_after r (break_passed m t nb turns a p cache space space' said said' ready tuned size short asked) (λ e. refl) (short_behind_works (after_close turns t nb) d r is closes)
 
 closed_passes : {P K : Type 0} (m : Means P K) (t : Tunables) (nb turns : ℕ) (a b : Plain) (p q : P) (cache cache' : CacheValue) (space space' end : Space K) (said said' last : List Said) → let ok : Result Bool NoMemory = Ok true in
-    IsReady m t (stage a (beside_arena p cache space) said) → IsSearchable t → IsRequestSize nb → has_top_for a nb ≡ false → AsksFor m.kernel (break_of t nb a) space said ok space' said' →
+    IsMainReady m t (stage a (beside_arena p cache space) said) → IsSearchable t → IsRequestSize nb → has_top_for a nb ≡ false → AsksFor m.kernel (break_of t nb a) space said ok space' said' →
     Closes m t (break_rest a) (stage (break_taken a (main_growth t a nb)) (beside_arena p cache space') said') (Ok tt) (stage b (beside_arena q cache' end) last) →
     Passes (full m) t (main_grown (suc turns) t nb a) (stage a (beside_arena p cache space) said) no_chunk (after_close turns t nb b) (stage b (beside_arena q cache' end) last)
 closed_passes m t nb turns a b p q cache cache' space space' end said said' last ready tuned size short asked closes =
@@ -102,7 +102,7 @@ closed_passes m t nb turns a b p q cache cache' space space' end said said' last
     passes_closed (after_close turns t nb) f closes
 
 pub closed_enough : {P K : Type 0} (m : Means P K) (t : Tunables) (nb turns : ℕ) (a b : Plain) (p q : P) (cache cache' : CacheValue) (space space' end : Space K) (said said' last : List Said) → let ok : Result Bool NoMemory = Ok true in
-    IsReady m t (stage a (beside_arena p cache space) said) → IsSearchable t → IsRequestSize nb → has_top_for a nb ≡ false → AsksFor m.kernel (break_of t nb a) space said ok space' said' →
+    IsMainReady m t (stage a (beside_arena p cache space) said) → IsSearchable t → IsRequestSize nb → has_top_for a nb ≡ false → AsksFor m.kernel (break_of t nb a) space said ok space' said' →
     Closes m t (break_rest a) (stage (break_taken a (main_growth t a nb)) (beside_arena p cache space') said') (Ok tt) (stage b (beside_arena q cache' end) last) → has_top_for b nb ≡ true →
     Grows m t (main_grown (suc turns) t nb a) (stage a (beside_arena p cache space) said) (Ok tt) (stage b (beside_arena q cache' end) last)
 closed_enough m t nb turns a b p q cache cache' space space' end said said' last ready tuned size short asked closes enough =
@@ -111,7 +111,7 @@ closed_enough m t nb turns a b p q cache cache' space space' end said said' last
     works_ok (subst (λ q'. Reaches t ((full m).ways a.number) (main_grown (suc turns) t nb a) (beside_arena p cache space) said q' last (beside_arena q cache' end)) ends f.reaches) f.balances
 
 pub closed_again : {P K : Type 0} (m : Means P K) (t : Tunables) (nb turns : ℕ) (a b : Plain) (p q : P) (cache cache' : CacheValue) (space space' end : Space K) (said said' last : List Said) (z : Stage (Outside P K)) (r : Result (Unit {0}) NoMemory) → let ok : Result Bool NoMemory = Ok true in
-    IsReady m t (stage a (beside_arena p cache space) said) → IsSearchable t → IsRequestSize nb → has_top_for a nb ≡ false → AsksFor m.kernel (break_of t nb a) space said ok space' said' →
+    IsMainReady m t (stage a (beside_arena p cache space) said) → IsSearchable t → IsRequestSize nb → has_top_for a nb ≡ false → AsksFor m.kernel (break_of t nb a) space said ok space' said' →
     Closes m t (break_rest a) (stage (break_taken a (main_growth t a nb)) (beside_arena p cache space') said') (Ok tt) (stage b (beside_arena q cache' end) last) → has_top_for b nb ≡ false →
     Grows m t (main_grown turns t nb b) (stage b (beside_arena q cache' end) last) r z → Grows m t (main_grown (suc turns) t nb a) (stage a (beside_arena p cache space) said) r z
 closed_again m t nb turns a b p q cache cache' space space' end said said' last z r ready tuned size short asked closes less w =
@@ -122,70 +122,10 @@ closed_again m t nb turns a b p q cache cache' space space' end said said' last 
     works_after r g (λ e. refl) w
 
 pub again_ready : {P K : Type 0} (m : Means P K) (t : Tunables) (nb turns : ℕ) (a b : Plain) (p q : P) (cache cache' : CacheValue) (space space' end : Space K) (said said' last : List Said) → let ok : Result Bool NoMemory = Ok true in
-    IsReady m t (stage a (beside_arena p cache space) said) → IsSearchable t → IsRequestSize nb → has_top_for a nb ≡ false → AsksFor m.kernel (break_of t nb a) space said ok space' said' →
-    Closes m t (break_rest a) (stage (break_taken a (main_growth t a nb)) (beside_arena p cache space') said') (Ok tt) (stage b (beside_arena q cache' end) last) → IsReady m t (stage b (beside_arena q cache' end) last)
+    IsMainReady m t (stage a (beside_arena p cache space) said) → IsSearchable t → IsRequestSize nb → has_top_for a nb ≡ false → AsksFor m.kernel (break_of t nb a) space said ok space' said' →
+    Closes m t (break_rest a) (stage (break_taken a (main_growth t a nb)) (beside_arena p cache space') said') (Ok tt) (stage b (beside_arena q cache' end) last) → IsMainReady m t (stage b (beside_arena q cache' end) last)
 again_ready m t nb turns a b p q cache cache' space space' end said said' last ready tuned size short asked closes =
-    ready_after t ready (closed_passes m t nb turns a b p q cache cache' space space' end said said' last ready tuned size short asked closes)
-
--- ---- a chunk is cut from top
-
-noted_balances : {O : Type 0} {l : Ledger O} {x : Stage O} {b : Plain} {o : O} {said : List Said} → Balances l x no_chunk no_chunk (stage b o said) → Balances l x no_chunk no_chunk (stage (noted b) o said)
-noted_balances {b = b} m = record {
-  sound = record { row = m.sound.row; one_top = m.sound.one_top; listed = record { once = m.sound.listed.once; width = m.sound.listed.width; bins = m.sound.listed.bins } };
-  number = m.number;
-  placed = λ p main. placed_beside b b.bins b.last (noted b).most (m.placed p main);
-  cached = m.cached;
-  others = m.others;
-  kept = m.kept;
-}
-
-pub noted_sound : {P K : Type 0} (m : Means P K) (t : Tunables) (nb : ℕ) (x : Stage (Outside P K)) (b : Plain) (o : Outside P K) (said : List Said) → Grows m t (main_grown 2 t nb x.arena) x (Ok tt) (stage b o said) → IsSound (noted b)
-noted_sound m t nb x b o said w = (noted_balances w.keeps).sound
-
-abbrev finish : ℕ → Plain → Rules growth.Took
-finish nb b = Stop (from_top nb (noted b))
-
-grown_main : (t : Tunables) (nb : ℕ) (tried : Bool) (a : Plain) → IsTrue (is_main a) → grown t nb tried a ≡ behind (main_grown 2 t nb a) (finish nb)
-grown_main t nb tried a main = ap (λ (b : Bool). cond b (behind (main_grown 2 t nb a) (finish nb))
-    (heaps_grown t nb a (if tried then finish nb a else maps_else nb a (heaps_grown t nb a (finish nb a) (finish nb))) (finish nb))) main
-
--- what a step took is what was found
-abbrev pub found_step : Step → Found
-found_step (steps.Taken c) = finds.InArena c
-found_step steps.Onward = finds.Nowhere
-
-abbrev took_step : search.Step → growth.Took
-took_step (search.Taken c a) = record { found = growth.InArena c; arena = a }
-took_step (search.Onward a) = record { found = growth.Nowhere; arena = a }
-
-from_topped : (nb : ℕ) (b c : Plain) (s : Step) → step_of s c ≡ topped nb b → from_top nb b ≡ took c (found_step s)
-from_topped nb b c s e =
-    let top : (h : Bool) → cond h (record { found = growth.InArena (record { at = top_start b; size = nb }); arena = cut_from_top b nb }) (record { found = growth.Nowhere; arena = b }) ≡ took_step (cond h (search.Taken (record { at = top_start b; size = nb }) (cut_from_top b nb)) (search.Onward b)) = elim [
-      | true ↦ refl
-      | false ↦ refl
-    ] in
-    let same : (s : Step) → took_step (step_of s c) ≡ took c (found_step s) = elim [ steps.Taken k ↦ refl | steps.Onward ↦ refl ] in
-    top (has_top_for b nb) ∙ (ap took_step (sym e) ∙ same s)
-
-chunks_same : (s : Step) (e : Chunk) → chunks_of s e ≡ chunks_found (found_step s) e
-chunks_same (steps.Taken c) e = refl
-chunks_same steps.Onward e = refl
-
-pub grow_ends : {P K : Type 0} (m : Means P K) (t : Tunables) (nb : ℕ) (tried : Bool) (x : Stage (Outside P K)) (b c : Plain) (o : Outside P K) (said : List Said) (s : Step) → IsRequestSize nb → IsTrue (is_main x.arena) → Grows m t (main_grown 2 t nb x.arena) x (Ok tt) (stage b o said) → step_of s c ≡ topped nb (noted b) →
-    Finds m t (grown t nb tried x.arena) x (Ok (found_step s)) (stage c o said)
-grow_ends m t nb tried x b c o said s size main w e =
-    let f = passes_behind (finish nb) tt w in
-    let y : Stage (Outside _ _) = stage (noted b) o said in
-    let noted_is : Balances (full m) x no_chunk no_chunk y = noted_balances w.keeps in
-    let ends : finish nb b ≡ Stop (took c (found_step s)) = ap (λ (k : growth.Took). Stop k) (from_topped nb (noted b) c s e) in
-    let reaches : Reaches t ((full m).ways x.arena.number) (grown t nb tried x.arena) x.outside x.said (Stop (took c (found_step s))) said o =
-    subst (λ r. Reaches t ((full m).ways x.arena.number) r x.outside x.said (Stop (took c (found_step s))) said o) (sym (grown_main t nb tried x.arena main))
-    (subst (λ q. Reaches t ((full m).ways x.arena.number) (behind (main_grown 2 t nb x.arena) (finish nb)) x.outside x.said q said o) ends f.reaches) in
-    works_ok reaches (balances_as (balances_then noted_is (topped_balances (full m) y nb said s c noted_is.sound size.chunk e)) (λ e. omega (arith, chunks_same s e)))
-
-pub grow_short : {P K : Type 0} (m : Means P K) (t : Tunables) (nb : ℕ) (tried : Bool) (x y : Stage (Outside P K)) (d : NoMemory) (r : Result Found NoMemory) → IsErr r → IsTrue (is_main x.arena) → Grows m t (main_grown 2 t nb x.arena) x (Err d) y → Finds m t (grown t nb tried x.arena) x r y
-grow_short m t nb tried x y d r is main w =
-    subst (λ rules. Finds m t rules x r y) (sym (grown_main t nb tried x.arena main)) (short_behind_works (finish nb) d r is w)
+    main_ready_after t ready (closed_passes m t nb turns a b p q cache cache' space space' end said said' last ready tuned size short asked closes)
 
 -- so many turns are one and the rest
 pub at_turns : {P K : Type 0} (m : Means P K) (t : Tunables) (nb turns rest : ℕ) (a : Plain) (x z : Stage (Outside P K)) (r : Result (Unit {0}) NoMemory) → turns ≡ suc rest → Grows m t (main_grown (suc rest) t nb a) x r z → Grows m t (main_grown turns t nb a) x r z

@@ -77,10 +77,10 @@ has_popped fast a p q nb at chunk b did =
 
 -- a port that gave none
 pub none_popped : {P : Type 0} (fast : Fast P) (a : Plain) (p q : P) (bin : ℕ) (c : CacheValue) (old new : List Said) → IsSound a → Did fast p (fasts.Pops bin None) q → Balances (near_ledger fast) (stage a (near p c) old) no_chunk no_chunk (stage a (near q c) new)
-none_popped fast a p q bin c old new s did = record { sound = s; number = refl; placed = λ p. p; cached = λ e. omega arith; others = λ n other e. refl; kept = λ e. omega (arith, did.stock e) }
+none_popped fast a p q bin c old new s did = record { sound = s; number = refl; windows = refl; placed = λ p. p; cached = λ e. omega arith; others = λ n other e. refl; kept = λ e. omega (arith, did.stock e) }
 
 one_popped : {P : Type 0} (fast : Fast P) (a : Plain) (p q : P) (c : Chunk) (cache : CacheValue) (old new : List Said) → IsSound a → HasPopped fast a p q c → Balances (near_ledger fast) (stage a (near p cache) old) no_chunk (λ e. once e c) (stage a (near q cache) new)
-one_popped fast a p q c cache old new s h = record { sound = s; number = refl; placed = λ p. p; cached = λ e. omega arith; others = λ n other e. refl; kept = λ e. omega (arith, h.stock e) }
+one_popped fast a p q c cache old new s h = record { sound = s; number = refl; windows = refl; placed = λ p. p; cached = λ e. omega arith; others = λ n other e. refl; kept = λ e. omega (arith, h.stock e) }
 
 -- ---- the loop
 
@@ -147,6 +147,7 @@ stash_near : {P : Type 0} (fast : Fast P) (a : Plain) (p : P) (c : Chunk) (cache
 stash_near fast a p c cache old new s stashed = record {
   sound = s;
   number = refl;
+  windows = refl;
   placed = λ p. p;
   cached = λ e. omega (arith, stashed.times e);
   others = stashed.others;

@@ -30,7 +30,7 @@ use Rattle.arena_core.proofs.Parts.{Passes}
 
 -- ---- the windows stay
 
-asked_windows : {K : Type 0} {kernel : Port K} {before now : Space K} {ask : Ask} {answer : Answer} (passes : Bool) → AsksWithin kernel before passes ask answer now → now.windows ≡ before.windows
+pub asked_windows : {K : Type 0} {kernel : Port K} {before now : Space K} {ask : Ask} {answer : Answer} (passes : Bool) → AsksWithin kernel before passes ask answer now → now.windows ≡ before.windows
 asked_windows {before = before} {now = now} true a = ap (λ (s : Space _). s.windows) (a.passed refl).1
 asked_windows {before = before} {now = now} false a = ap (λ (s : Space _). s.windows) (a.put refl).1
 
@@ -78,7 +78,7 @@ answer_flag : (ask : Ask) (granted : Bool) → flag_of (told.Asked ask (granted_
 answer_flag ask true = refl
 answer_flag ask false = refl
 
-fit_asked : {K : Type 0} {kernel : Port K} {space space' : Space K} (t : Tunables) (ask : Ask) (granted : Bool) → same_ask ask ask ≡ true → space.windows ≡ windows_of t → AsksWithin kernel space (passes_window space.windows ask) ask (granted_answer granted) space' →
+pub fit_asked : {K : Type 0} {kernel : Port K} {space space' : Space K} (t : Tunables) (ask : Ask) (granted : Bool) → same_ask ask ask ≡ true → space.windows ≡ windows_of t → AsksWithin kernel space (passes_window space.windows ask) ask (granted_answer granted) space' →
     fits t (Asks ask) (told.Asked ask (granted_answer granted)) ≡ true
 fit_asked {space = space} t ask granted same windows a =
     let refused : (passes : Bool) → passes_window space.windows ask ≡ passes → (not passes || is_refused (granted_answer granted)) ≡ true = elim [
@@ -99,7 +99,7 @@ asked_passes m t a ask granted port cache space space' said said' f s same windo
     let flagged = subst (λ b. Reaches t ((full m).ways a.number) (asks_for a ask f) (beside_arena port cache space) said (f b) (said ++ answer ∷ []) (beside_arena port cache space')) (answer_flag ask granted) reaches in
     record {
       reaches = subst (λ ss. Reaches t ((full m).ways a.number) (asks_for a ask f) (beside_arena port cache space) said (f granted) ss (beside_arena port cache space')) (sym asked.told) flagged;
-      balances = record { sound = s; number = refl; placed = λ p. p; cached = λ e. omega arith; others = λ n other e. refl; kept = λ e. refl };
+      balances = record { sound = s; number = refl; windows = refl; placed = λ p. p; cached = λ e. omega arith; others = λ n other e. refl; kept = λ e. refl };
     }
 
 pub asked_short : {P K A X E : Type 0} (m : Means P K) (t : Tunables) (a : Plain) (ask : Ask) (d : NoMemory) (port : P) (cache : CacheValue) (space space' : Space K) (said said' : List Said) (f : Bool → Rules A) (made : X → A) (out : X → Chunks) (r : Result X E) → let err : Result Bool NoMemory = Err d in

@@ -9,6 +9,9 @@ pub mod Lifting
 pub mod Looks
 pub mod BreakTurns
 pub mod MainGrowth
+mod HeapGrowth
+mod Cutting
+pub mod Opens
 pub mod Mapped
 pub mod Mappings
 pub mod Parts

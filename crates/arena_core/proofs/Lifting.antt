@@ -41,6 +41,7 @@ balances_put : {O Q : Type 0} {l : Ledger O} {m : Ledger Q} {put : O → Q} {x y
 balances_put {x = x} {y = y} p b = record {
   sound = b.sound;
   number = b.number;
+  windows = b.windows;
   placed = b.placed;
   cached = λ e. omega (arith, b.cached e, p.cached x.arena.number x.outside y.outside e);
   others = λ n other e. omega (arith, b.others n other e, p.cached n x.outside y.outside e);
@@ -51,6 +52,7 @@ loses_put : {O Q : Type 0} {l : Ledger O} {m : Ledger Q} {put : O → Q} {x y : 
 loses_put {x = x} {y = y} p b = record {
   sound = b.sound;
   number = b.number;
+  windows = b.windows;
   placed = b.placed;
   cached = λ e. omega (arith, b.cached e, p.cached x.arena.number x.outside y.outside e);
   others = λ n other e. omega (arith, b.others n other e, p.cached n x.outside y.outside e);
@@ -145,13 +147,13 @@ pub works_empties : {P X E : Type 0} {fast : Fast P} {rules : Rules Plain} {h n 
     Works (fast_ledger fast) t rules no_chunk (stage h.arena h.port h.said) (λ _. n.arena) (λ _. no_chunk) r (stage n.arena n.port n.said)
 works_empties {r = Ok x} t e = record {
   walk = e.walk t;
-  keeps = record { sound = e.keeps.sound; number = e.keeps.number; placed = e.keeps.placed; cached = λ c. omega arith; others = λ n other c. refl; kept = λ c. omega (arith, e.keeps.kept c) };
+  keeps = record { sound = e.keeps.sound; number = e.keeps.number; windows = e.keeps.windows; placed = e.keeps.placed; cached = λ c. omega arith; others = λ n other c. refl; kept = λ c. omega (arith, e.keeps.kept c) };
   spares = tt;
 }
 works_empties {r = Err y} t e = record {
   walk = e.walk t;
   keeps = tt;
-  spares = record { sound = e.keeps.sound; number = e.keeps.number; placed = e.keeps.placed; cached = λ c. omega arith; others = λ n other c. refl; kept = λ c. omega (arith, e.keeps.kept c) };
+  spares = record { sound = e.keeps.sound; number = e.keeps.number; windows = e.keeps.windows; placed = e.keeps.placed; cached = λ c. omega arith; others = λ n other c. refl; kept = λ c. omega (arith, e.keeps.kept c) };
 }
 
 abbrev stage_of : {P K : Type 0} → Hold P K → Stage (Outside P K)
@@ -161,11 +163,11 @@ pub works_carries : {P K A X E : Type 0} {m : Means P K} {t : Tunables} {rules :
     Carries m t rules given h made got r n → Works (full m) t rules given (stage_of h) made got r (stage_of n)
 works_carries {r = Ok x} c = record {
   walk = c.walk;
-  keeps = record { sound = c.keeps.sound; number = c.keeps.number; placed = c.keeps.placed; cached = c.keeps.cached; others = c.keeps.others; kept = c.keeps.kept };
+  keeps = record { sound = c.keeps.sound; number = c.keeps.number; windows = c.keeps.windows; placed = c.keeps.placed; cached = c.keeps.cached; others = c.keeps.others; kept = c.keeps.kept };
   spares = tt;
 }
 works_carries {r = Err e} c = record {
   walk = c.walk;
   keeps = tt;
-  spares = record { sound = c.spares.sound; number = c.spares.number; placed = c.spares.placed; cached = c.spares.cached; others = c.spares.others; kept = c.spares.kept };
+  spares = record { sound = c.spares.sound; number = c.spares.number; windows = c.spares.windows; placed = c.spares.placed; cached = c.spares.cached; others = c.spares.others; kept = c.spares.kept };
 }

@@ -64,7 +64,7 @@ flag_reaches fast {t = t} n p q a f b did =
     reaches_told {t = t} {w = fast_ways fast n} {a = a} {n = Flagged} {f = λ s. f (flag_of s)} {o = p} {z = q} (told.Flag b) refl did
 
 pub flag_balances : {P : Type 0} (fast : Fast P) (a : Plain) (p q : P) (old new : List Said) (b : Bool) → IsSound a → Did fast p (fasts.Flags b) q → Balances (fast_ledger fast) (stage a p old) no_chunk no_chunk (stage a q new)
-flag_balances fast a p q old new b s did = record { sound = s; number = refl; placed = λ p. p; cached = λ e. omega arith; others = λ n other e. refl; kept = λ e. omega (arith, did.stock e) }
+flag_balances fast a p q old new b s did = record { sound = s; number = refl; windows = refl; placed = λ p. p; cached = λ e. omega arith; others = λ n other e. refl; kept = λ e. omega (arith, did.stock e) }
 
 -- ---- consolidation first
 

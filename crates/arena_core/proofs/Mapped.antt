@@ -1,6 +1,6 @@
 -- What a hold leaves of its outside, and what it does to the mapped chunks that the port shows (public for the crates
 -- above).
-use Rattle.std.proofs.Common.{◌≡◌, ℕ, ◌+◌, ◌%◌, ◌≤◌, Bool, true, false, List, Some, None, IsTrue, inl, inr, refl, sym, ap, ◌∙◌, subst, arith}
+use Rattle.std.proofs.Common.{◌≡◌, ℕ, ◌+◌, ◌%◌, ◌≤◌, Bool, true, false, List, Option, Some, None, IsTrue, inl, inr, refl, sym, ap, ◌∙◌, subst, arith}
 use Rattle.std.specs.Prelude.{◌⊎◌}
 use Rattle.chunk_tags.specs.Pages.{mapping_length}
 use Rattle.chunk_tags.specs.declared.block.Block.{Block}
@@ -18,7 +18,7 @@ use Rattle.fast_bins.specs.FastPorts as fasts
 use Rattle.arena_rules.specs.declared.said.Said.{Said}
 use Rattle.arena_rules.specs.declared.said.Said.TheVariants as told
 use Rattle.arena_rules.specs.PlainArena.{Plain}
-use Rattle.arena_rules.specs.Growth.{Found, InArena, InMapping, Nowhere, Took}
+use Rattle.arena_rules.specs.Growth.{Found, InArena, InMapping, Nowhere, Took, opened}
 use Rattle.arena_rules.specs.Rules.{Rules, Stop, Misfit, Does, Needs, Need, Flagged, Pops, Owns, Rooms, Asks, Maps, Reads, Deed, Clears, Gathers, Pushes, Stashes, Draws, Gives, Counts, behind, mapping_place_in, place_told}
 use Rattle.arena_rules.specs.Mapped.{NeverMaps, MapsOnce, EndsMapped}
 use Rattle.arena_rules.specs.KeptMappings.{StopsAs, IsInMapping, GoesOnMapped, KeepsMapping}
@@ -26,12 +26,12 @@ use Rattle.arena_rules.specs.Align.{size_with_lead, align_of}
 use Rattle.arena_rules.specs.Search.{searched}
 use Rattle.arena_rules.specs.Walks as walks
 use Rattle.arena_rules.specs.Walks.{Walks}
-use Rattle.arena_rules.proofs.Mapped.{maps_once_behind, searched_maps_once, given_never_maps}
+use Rattle.arena_rules.proofs.Mapped.{maps_once_behind, searched_maps_once, given_never_maps, opened_never_maps}
 use Rattle.arena_rules.proofs.KeptMappings.{resize_maps_within, align_maps_once}
 use Rattle.consolidate_trim.specs.Outside as outside
 use Rattle.consolidate_trim.specs.Outside.{Means, Outside, Goes, ways}
 use Rattle.arena_core.specs.declared.journal.Act.{Act}
-use Rattle.arena_core.specs.declared.journal.Act.TheVariants.{Take, Give, Resize, Align}
+use Rattle.arena_core.specs.declared.journal.Act.TheVariants.{Open, Take, Give, Resize, Align}
 use Rattle.arena_core.specs.Replay.{rules_of, found_nothing, chunk_at}
 use Rattle.arena_core.specs.Shown.{MappedShown, ShowsMapped, EndsCounted, StopsCounted, IsCounted, counted_in}
 use Rattle.arena_rules.specs.Release.{given}
@@ -388,8 +388,9 @@ walked_short m number shown shows nb {o = o} {z = z} {left = left} {need = need}
 
 -- ---- the rules of an act
 
--- the bytes that an act asks for; one that gives a chunk asks for none
+-- the bytes of a mapping that an act may ask for; one that opens an arena or gives a chunk asks for none
 abbrev pub request_of : Act → ℕ
+request_of (Open bytes) = 0
 request_of (Take nb) = nb
 request_of (Give at size) = 0
 request_of (Resize at size nb) = nb
@@ -408,6 +409,10 @@ once_within nb (Needs a (Maps len) f) once = (once.0, λ s. (λ is. ends_within 
 once_within nb (Needs a n f) once = λ s. once_within nb (f s) (once s)
 
 pub rules_map_within : (t : Tunables) (act : Act) (a : Plain) → KeepsMapping (request_of act) (rules_of t act a)
+rules_map_within t (Open bytes) a =
+    let after : Option Plain → Rules Took = λ o. elim o [ Some b ↦ Stop (found_nothing b) | None ↦ Misfit ] in
+    let ends : (o : Option Plain) → MapsOnce 0 (after o) = elim [ None ↦ tt | Some b ↦ λ c is. absurd cc ] in
+    once_within 0 (behind (opened t bytes a) after) (maps_once_behind 0 (opened t bytes a) after (opened_never_maps t bytes a) ends)
 rules_map_within t (Take nb) a = once_within nb (searched t nb a) (searched_maps_once t nb a)
 rules_map_within t (Give at size) a =
     let r : Rules Plain = given t a (chunk_at at size) in

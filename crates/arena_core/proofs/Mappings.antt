@@ -51,7 +51,7 @@ pub reads_passes : {P A : Type 0} (fast : Fast P) (dials : Dialled P) (u : Tunab
     Passes (word_ledger fast dials) u (reads a which f) (stage a p old) no_chunk (f n) (stage a q (old ++ told.Dial n ∷ []))
 reads_passes fast dials u a which n p q old f apart s step = record {
   reaches = reaches_told {t = u} {w = (word_ledger fast dials).ways a.number} {a = a} {n = Reads which} {f = λ s. f (number_told s)} {o = p} {z = q} (told.Dial n) refl step;
-  balances = record { sound = s; number = refl; placed = λ p. p; cached = λ e. omega arith; others = λ n other e. refl; kept = λ e. omega (arith, apart.stock p q (dial_steps.Reads which n) step e) };
+  balances = record { sound = s; number = refl; windows = refl; placed = λ p. p; cached = λ e. omega arith; others = λ n other e. refl; kept = λ e. omega (arith, apart.stock p q (dial_steps.Reads which n) step e) };
 }
 
 abbrev after_threshold : Tunables → ℕ → Plain → ℕ → Rules Bool
@@ -115,7 +115,7 @@ mapping_refused m nb p space now old maps = record {
       let ask : Said = told.Asked (asks.Map (map_place space) (mapping_length nb)) Refused in
       let fit : fits t (Maps (mapping_length nb)) ask ≡ true = eq-eqb (mapping_length nb) (mapping_length nb) refl in
       works_ok (reaches_told {w = (full m).ways a.number} {o = beside_arena p cache space} {z = beside_arena p cache now} ask fit (record { place = refl; maps = maps; others = refl }))
-      (record { sound = s; number = refl; placed = λ p. p; cached = λ e. omega arith; others = λ n other e. refl; kept = λ e. omega arith });
+      (record { sound = s; number = refl; windows = refl; placed = λ p. p; cached = λ e. omega arith; others = λ n other e. refl; kept = λ e. omega arith });
 }
 
 pub mapping_granted : {P K : Type 0} (m : Means P K) (nb place : ℕ) (p q : P) (space now : Space K) (old : List Said) → Apart m.fast m.dials → MapsWithin m.kernel space (mapping_length nb) (Some place) now → m.dials.step p (dial_steps.Maps (mapping_length nb)) q →
@@ -131,5 +131,5 @@ mapping_granted m nb place p q space now old apart maps step = record {
       let counted : Reaches t ((full m).ways a.number) (Does (Counts len) (Stop (Some (record { at = map_place space; size = len })))) (beside_arena p cache now) (old ++ ask ∷ []) (Stop (Some (record { at = map_place space; size = len }))) (old ++ ask ∷ []) (beside_arena q cache now) =
       reaches_done {w = (full m).ways a.number} (record { step = step; others = refl }) in
       works_ok (reaches_then asked counted)
-      (record { sound = s; number = refl; placed = λ p. p; cached = λ e. omega arith; others = λ n other e. refl; kept = λ e. omega (arith, apart.stock p q (dial_steps.Maps len) step e) });
+      (record { sound = s; number = refl; windows = refl; placed = λ p. p; cached = λ e. omega arith; others = λ n other e. refl; kept = λ e. omega (arith, apart.stock p q (dial_steps.Maps len) step e) });
 }

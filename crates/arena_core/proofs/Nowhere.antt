@@ -1,12 +1,15 @@
 -- Nothing is found only where an ask was refused, for this crate: where none is, top suffices after two turns of the break
 -- at most.
-use Rattle.std.proofs.Common.{◌≡◌, ℕ, ◌+◌, ◌<◌, ◌≤◌, Bool, true, false, ◌&&◌, ◌||◌, not, cond, List, Option, Some, None, IsTrue, inl, inr, refl, sym, ap, ◌∙◌, subst, arith}
-use Rattle.std.specs.Prelude.{◌⊎◌, nat_lt, nat_le, if◌then◌else◌, Result, Ok, Err, IfOk}
-use Rattle.std.proofs.lemmas.Bool.{cond-true, leb-false, ltb-false, eq-eqb}
+use Rattle.std.proofs.Common.{◌≡◌, ℕ, ◌+◌, ◌<◌, ◌≤◌, Bool, true, false, ◌&&◌, ◌||◌, not, cond, List, [], ◌∷◌, Option, Some, None, IsTrue, inl, inr, refl, sym, ap, ◌∙◌, subst, arith}
+use Rattle.std.specs.Prelude.{◌⊎◌, nat_eq, nat_lt, nat_le, if◌then◌else◌, Result, Ok, Err, IfOk, IsSome}
+use Rattle.std.proofs.lemmas.Bool.{cond-true, leb-false, ltb-false, eq-eqb, le-leb, true≢false}
 use Rattle.chunk_tags.specs.Dials.{MappedCount}
 use Rattle.chunk_tags.specs.Pages.{mapping_length}
 use Rattle.chunk_tags.specs.Tunables.{main_limit}
 use Rattle.chunk_tags.specs.declared.tiles.Chunk.{Chunk}
+use Rattle.chunk_tags.specs.Tiles.{is_top, swapped, tile_at, top_of}
+use Rattle.chunk_tags.specs.declared.tiles.Tile.{Tile}
+use Rattle.chunk_tags.specs.declared.tiles.TileKind.TheVariants.{Top}
 use Rattle.chunk_tags.specs.declared.tunables.Tunables.{Tunables}
 use Rattle.address_space.specs.Ports.{Rose}
 use Rattle.address_space.specs.Spaces.{space_refusals, main_start}
@@ -14,10 +17,11 @@ use Rattle.address_space.specs.declared.asks.Ask.{Ask}
 use Rattle.address_space.specs.declared.asks.Ask.TheVariants as asks
 use Rattle.address_space.specs.declared.asks.Answer.TheVariants.{Granted, Refused}
 use Rattle.arena_rules.specs.PlainArena.{Plain, IsSound, is_main, once_of}
-use Rattle.arena_rules.specs.MainPlaces.{IsMainPlaced}
-use Rattle.arena_rules.specs.Moves.{top_size, top_end, top_start, cut_from_top, left_of_top}
+use Rattle.arena_rules.specs.Heaps.{heap_extended, last_heap, last_length}
+use Rattle.arena_rules.specs.MainPlaces.{IsMainPlaced, IsPlaced}
+use Rattle.arena_rules.specs.Moves.{tile_of, top_size, top_end, top_start, cut_from_top, left_of_top, with_tiles}
 use Rattle.arena_rules.specs.Growth as growth
-use Rattle.arena_rules.specs.Growth.{Took, closing, top_part, main_growth, has_top_for, break_taken, break_rest, is_top_at_break, main_grown, piece_grown, from_top, noted, mapping, maps_first, maps_else, grown, heaps_grown, system_asked}
+use Rattle.arena_rules.specs.Growth.{Took, closing, top_part, main_growth, has_top_for, break_taken, break_rest, is_top_at_break, main_grown, piece_grown, from_top, noted, mapping, maps_first, maps_else, grown, extension_bytes, next_heap_grown, heaps_grown, cut_from_grown, grown_again, other_grown, system_asked}
 use Rattle.arena_rules.specs.Rules.{Rules, Stop, Misfit, Does, Needs, Need, Flagged, Pops, Owns, Rooms, Asks, Maps, Reads, Counts, behind, reads, fits, flag_of, number_told, place_told, same_ask, passes_window, windows_of, is_refused}
 use Rattle.arena_rules.specs.Walks as walks
 use Rattle.arena_rules.specs.Walks.{Walks, Reaches}
@@ -26,6 +30,7 @@ use Rattle.arena_rules.specs.declared.said.Said.TheVariants as told
 use Rattle.arena_rules.proofs.Bins.{once_self}
 use Rattle.arena_rules.proofs.ChunkMoves.{own_from}
 use Rattle.arena_rules.proofs.MainPlaces.{IsGrowth, break_grown}
+use Rattle.arena_rules.proofs.Tops.{top_found}
 use Rattle.consolidate_trim.specs.Outside.{Means, Outside, Goes, ways}
 use Rattle.arena_core.specs.Asking.{IsReady, IsSearchable, found_of}
 use Rattle.arena_core.specs.Asking as asked
@@ -186,16 +191,74 @@ finds_in_top nb b enough nowhere =
     let is : growth.InArena (record { at = top_start (noted b); size = nb }) ≡ growth.Nowhere = sym (ap (λ (z : Took). z.found) (cond-true {A = Took} (has_top_for b nb) x y enough)) ∙ nowhere in
     absurd cc
 
-main_grows : (t : Tunables) (nb : ℕ) (a : Plain) (tried : Bool) → IsTrue (is_main a) → grown t nb tried a ≡ behind (main_grown 2 t nb a) (λ b. Stop (from_top nb (noted b)))
-main_grows t nb a tried main =
-    let finish : Plain → Rules Took = λ b. Stop (from_top nb (noted b)) in
-    cond-true {A = Rules Took} (is_main a) (behind (main_grown 2 t nb a) finish)
-    (heaps_grown t nb a (cond tried (finish a) (maps_else nb a (heaps_grown t nb a (finish a) finish))) finish) main
+main_finds : (t : Tunables) (nb : ℕ) (a : Plain) → Asking t nb a → EndsGranted t Finds (behind (main_grown 2 t nb a) (cut_from_grown nb))
+main_finds t nb a p = granted_behind t (Suffices nb) Finds (main_grown 2 t nb a) (cut_from_grown nb) (two_turns t nb a p) (λ b enough. finds_in_top nb b enough)
 
-grown_finds : (t : Tunables) (nb : ℕ) (a : Plain) (tried : Bool) → Asking t nb a → EndsGranted t Finds (grown t nb tried a)
+-- ---- another arena: its last heap is extended so far that top suffices
+
+top_resized : (ts : List Tile) (t x : Tile) → top_of ts ≡ Some t → tile_at t.addr ts ≡ Some t → is_top x ≡ true → top_of (swapped t.addr (x ∷ []) ts) ≡ Some x
+top_resized [] t x e found top = absurd cc
+top_resized (u ∷ us) t x e found top =
+    let cases : (b d : Bool) → nat_eq u.addr t.addr ≡ b → is_top u ≡ d → cond d (Some u) (top_of us) ≡ Some t → cond b (Some u) (tile_at t.addr us) ≡ Some t → top_of (cond b (x ∷ us) (u ∷ swapped t.addr (x ∷ []) us)) ≡ Some x = elim [
+      | true ↦ λ d here kind e found. ap (λ (c : Bool). cond c (Some x) (top_of us)) top
+      | false ↦ elim [
+        | true ↦ λ here kind e found. let same : u ≡ t = cc in absurd (true≢false (sym (eq-eqb u.addr t.addr (ap (λ (v : Tile). v.addr) same)) ∙ here))
+        | false ↦ λ here kind e found. ap (λ (c : Bool). cond c (Some u) (top_of (swapped t.addr (x ∷ []) us))) kind ∙ top_resized us t x e found top
+      ]
+    ] in
+    cases (nat_eq u.addr t.addr) (is_top u) refl refl e found
+
+extended_suffices : (nb : ℕ) (a : Plain) → IsSound a → IsSome (top_of a.tiles) → has_top_for (heap_extended a (extension_bytes a nb)) nb ≡ true
+extended_suffices nb a s some =
+    let growth : ℕ = extension_bytes a nb in
+    let now : ℕ = top_size a + growth in
+    let b : Plain = record a { system = a.system + growth } in
+    let sized : Option Tile → Plain = λ o. elim o [ None ↦ b | Some t ↦ with_tiles b t.addr (tile_of Top t.addr now ∷ []) ] in
+    let cases : (o : Option Tile) → top_of a.tiles ≡ o → IsSome o → has_top_for (heap_extended a growth) nb ≡ true = elim [
+      | None ↦ λ is none. absurd cc
+      | Some t ↦ λ is h.
+          let x : Tile = tile_of Top t.addr now in
+          let tiles : (heap_extended a growth).tiles ≡ swapped t.addr (x ∷ []) a.tiles = ap (λ (o : Option Tile). (sized o).tiles) is in
+          let top : top_of (heap_extended a growth).tiles ≡ Some x = ap top_of tiles ∙ top_resized a.tiles t x is (top_found t a.tiles s.row is).found refl in
+          let size : top_size (heap_extended a growth) ≡ now = ap (λ (o : Option Tile). elim o [ None ↦ 0 | Some t ↦ t.size ]) top in
+          le-leb (nb + 32) (top_size (heap_extended a growth)) (omega (arith, size))
+    ] in
+    cases (top_of a.tiles) refl some
+
+-- what the heaps came to suffices
+abbrev SufficesIn : ℕ → Option Plain → Type 0
+SufficesIn nb o = elim o [ None ↦ ⊥ | Some b ↦ Suffices nb b ]
+
+heaps_suffice : (t : Tunables) (nb : ℕ) (a : Plain) → IsSound a → IsSome (top_of a.tiles) → EndsGranted t (SufficesIn nb) (heaps_grown t nb a)
+heaps_suffice t nb a s some = λ said fit granted.
+    let k = fits_ask t (asks.GrowHeap a.number (last_heap a) (last_length a) (last_length a + extension_bytes a nb)) said fit granted in
+    subst (λ (x : Bool). EndsGranted t (SufficesIn nb) (if x then Stop (Some (heap_extended a (extension_bytes a nb))) else next_heap_grown t nb a)) (sym k.0) (extended_suffices nb a s some)
+
+other_finds : (t : Tunables) (nb : ℕ) (a : Plain) (tried : Bool) → IsSound a → IsSome (top_of a.tiles) → EndsGranted t Finds (other_grown t nb tried a)
+other_finds t nb a tried s some =
+    let after : Option Plain → Rules Took = λ o. elim o [ Some b ↦ cut_from_grown nb b | None ↦ if tried then cut_from_grown nb a else maps_else nb a (grown_again t nb a) ] in
+    let finds : (o : Option Plain) → SufficesIn nb o → EndsGranted t Finds (after o) = elim [
+      | None ↦ λ none. absurd none
+      | Some b ↦ λ enough. finds_in_top nb b enough
+    ] in
+    granted_behind t (SufficesIn nb) Finds (heaps_grown t nb a) after (heaps_suffice t nb a s some) finds
+
+-- ---- an arena that asks the system
+
+pub record AsksSystem (t : Tunables) (nb : ℕ) (a : Plain) : Type 0 where
+  pub sound : IsSound a
+  pub placed : IsPlaced a
+  pub top : is_main a ≡ false → IsSome (top_of a.tiles)
+  pub short : has_top_for a nb ≡ false
+  pub window : t.main_max ≤ main_limit
+
+grown_finds : (t : Tunables) (nb : ℕ) (a : Plain) (tried : Bool) → AsksSystem t nb a → EndsGranted t Finds (grown t nb tried a)
 grown_finds t nb a tried p =
-    subst (λ (r : Rules Took). EndsGranted t Finds r) (sym (main_grows t nb a tried p.main))
-    (granted_behind t (Suffices nb) Finds (main_grown 2 t nb a) (λ b. Stop (from_top nb (noted b))) (two_turns t nb a p) (λ b enough. finds_in_top nb b enough))
+    let cases : (b : Bool) → is_main a ≡ b → EndsGranted t Finds (if b then behind (main_grown 2 t nb a) (cut_from_grown nb) else other_grown t nb tried a) = elim [
+      | true ↦ λ is. main_finds t nb a (record { sound = p.sound; main = is; placed = p.placed is; short = p.short; window = p.window })
+      | false ↦ λ is. other_finds t nb a tried p.sound (p.top is)
+    ] in
+    cases (is_main a) refl
 
 -- a granted mapping has a chunk
 mapped_some : (t : Tunables) (nb : ℕ) (a : Plain) → EndsGranted t (λ (o : Option Chunk). o ≡ None → ⊥) (mapping nb a)
@@ -211,7 +274,7 @@ mapped_finds t nb a refused =
     ] in
     granted_behind t (λ (o : Option Chunk). o ≡ None → ⊥) Finds (mapping nb a) (λ o. elim o [ Some c ↦ Stop (record { found = growth.InMapping c; arena = a }) | None ↦ refused ]) (mapped_some t nb a) finds
 
-asked_finds : (t : Tunables) (nb : ℕ) (a : Plain) → Asking t nb a → EndsGranted t Finds (system_asked t nb a)
+asked_finds : (t : Tunables) (nb : ℕ) (a : Plain) → AsksSystem t nb a → EndsGranted t Finds (system_asked t nb a)
 asked_finds t nb a p =
     let whether : (x : Bool) → AllEnd (λ (b : Bool). Unit {0}) (if x then reads a MappedCount (λ count. Stop (nat_lt count t.mmaps_max)) else Stop false) = elim [ true ↦ λ s. tt | false ↦ tt ] in
     let after : (x : Bool) → EndsGranted t Finds (if x then maps_else nb a (grown t nb true a) else grown t nb false a) = elim [
@@ -223,18 +286,18 @@ asked_finds t nb a p =
 
 -- where the rules end with nothing, the count of refusals rose
 pub nowhere_rose : {P K : Type 0} {m : Means P K} {number : ℕ} {t : Tunables} {nb : ℕ} {a : Plain} {x : Took} {o z : Outside P K} {old new : List Said} →
-    Asking t nb a → Reaches t (ways m number) (system_asked t nb a) o old (Stop x) new z → x.found ≡ growth.Nowhere → Rose (refusals_of m o) (refusals_of m z)
+    AsksSystem t nb a → Reaches t (ways m number) (system_asked t nb a) o old (Stop x) new z → x.found ≡ growth.Nowhere → Rose (refusals_of m o) (refusals_of m z)
 nowhere_rose {m = m} {t = t} {nb = nb} {a = a} p reaches nowhere =
     elim (granted_or_rose {m = m} Finds reaches.walks (asked_finds t nb a p)) [
       | inl found ↦ absurd (found nowhere)
       | inr rose ↦ rose
     ]
 
-asking : {P K : Type 0} {m : Means P K} {t : Tunables} {nb : ℕ} {x : Stage (Outside P K)} → IsReady m t x → IsSearchable t → has_top_for x.arena nb ≡ false → Asking t nb x.arena
-asking ready tuned short = record { sound = ready.backed.sound; main = ready.main; placed = ready.placed ready.main; short = short; window = tuned.main }
+asking : {P K : Type 0} {m : Means P K} {t : Tunables} {nb : ℕ} {x : Stage (Outside P K)} → IsReady m t x → IsSearchable t → (is_main x.arena ≡ false → IsSome (top_of x.arena.tiles)) → has_top_for x.arena nb ≡ false → AsksSystem t nb x.arena
+asking ready tuned top short = record { sound = ready.backed.sound; placed = ready.placed; top = top; short = short; window = tuned.main }
 
 pub nowhere_refused : {P K : Type 0} {m : Means P K} {t : Tunables} {x y : Stage (Outside P K)} (nb : ℕ) (result : Result Found NoMemory) →
-    asked.Finds m t (system_asked t nb x.arena) x result y → IsReady m t x → IsSearchable t → has_top_for x.arena nb ≡ false →
+    asked.Finds m t (system_asked t nb x.arena) x result y → IsReady m t x → IsSearchable t → (is_main x.arena ≡ false → IsSome (top_of x.arena.tiles)) → has_top_for x.arena nb ≡ false →
     IfOk result (λ found. found ≡ Nowhere → Rose (space_refusals m.kernel x.outside.space) (space_refusals m.kernel y.outside.space))
-nowhere_refused nb (Ok found) f ready tuned short = λ nowhere. nowhere_rose (asking ready tuned short) f.walk.done (ap found_of nowhere)
-nowhere_refused nb (Err e) f ready tuned short = tt
+nowhere_refused nb (Ok found) f ready tuned top short = λ nowhere. nowhere_rose (asking ready tuned top short) f.walk.done (ap found_of nowhere)
+nowhere_refused nb (Err e) f ready tuned top short = tt

@@ -54,3 +54,6 @@ rose_on a b c rose le = omega (arith, rose, le)
 
 pub rose_from : (a b c : ℕ) → a ≤ b → Rose b c → Rose a c
 rose_from a b c le rose = omega (arith, rose, le)
+
+pub rose_twice : (a b c : ℕ) → Rose a b → Rose b c → Rose a c
+rose_twice a b c one two = omega (arith, one, two)

@@ -22,6 +22,7 @@ last_balances : {O : Type 0} {l : Ledger O} {x : Stage O} {a : Plain} {o : O} {s
 last_balances {a = a} last m = record {
   sound = record { row = m.sound.row; one_top = m.sound.one_top; listed = record { once = m.sound.listed.once; width = m.sound.listed.width; bins = m.sound.listed.bins } };
   number = m.number;
+  windows = m.windows;
   placed = λ p main. placed_beside a a.bins last a.most (m.placed p main);
   cached = m.cached;
   others = m.others;

@@ -241,7 +241,7 @@ scan_drawn nb (Some c) x y chunk b last reaches =
     let gone : IsDrawn n y.outside c (without_newest y.outside (cache_index_of nb)) = is_drawn n y.outside c (cache_index_of nb) last.sound lt last.newest in
     record {
       works = λ t. works_ok (reaches_then (reaches t) draw_reaches)
-          (record { sound = b.sound; number = b.number; placed = b.placed; cached = λ e. omega (arith, last.more e, gone.times e); others = λ k other e. b.others k other e ∙ gone.others k other e; kept = λ e. omega (arith, b.kept e, gone.times e) });
+          (record { sound = b.sound; number = b.number; windows = b.windows; placed = b.placed; cached = λ e. omega (arith, last.more e, gone.times e); others = λ k other e. b.others k other e ∙ gone.others k other e; kept = λ e. omega (arith, b.kept e, gone.times e) });
     }
 
 pub scan_ends : (nb sorted : ℕ) (stashed : Option Chunk) (x y : Stage CacheValue) → IsChunkSize nb → Scanning nb sorted stashed x y → oldest_of (unsorted_of y.arena) ≡ None →

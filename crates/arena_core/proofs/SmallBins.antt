@@ -75,6 +75,7 @@ stash_balances a c cache said said' s some stashed =
     record {
       sound = m.sound;
       number = refl;
+      windows = refl;
       placed = placed_still a (claimed a c) none (λ e. once e c) m refl;
       cached = λ e. omega (arith, stashed.times e);
       others = stashed.others;

@@ -1,5 +1,5 @@
 -- What a search meets that asks the system, and what its parts promise (this project's own).
-use Rattle.std.specs.Prelude.{◌≡◌, ℕ, ◌+◌, ◌%◌, ◌^◌, ◌<◌, ◌≤◌, Bool, true, false, IsTrue, Option, List, Result, IfOk, OnErr, [], ◌∷◌, ◌++◌}
+use Rattle.std.specs.Prelude.{◌≡◌, ℕ, ◌+◌, ◌%◌, ◌^◌, ◌<◌, ◌≤◌, Bool, true, false, IsTrue, Option, Some, None, if◌then◌else◌, List, Result, IfOk, OnErr, [], ◌∷◌, ◌++◌}
 use Rattle.chunk_tags.specs.BinOrder.{once}
 use Rattle.chunk_tags.specs.declared.refusals.NoMemory.{NoMemory}
 use Rattle.chunk_tags.specs.declared.tiles.Chunk.{Chunk}
@@ -17,9 +17,9 @@ use Rattle.mapped_chunks.specs.DialPorts as dial_steps
 use Rattle.mapped_chunks.specs.DialPorts.{Dialled}
 use Rattle.arena_rules.specs.declared.said.Said.{Said}
 use Rattle.arena_rules.specs.declared.said.Said.TheVariants as told
-use Rattle.arena_rules.specs.PlainArena.{Plain, IsSound, is_main, once_of}
+use Rattle.arena_rules.specs.PlainArena.{Plain, IsSound, is_main, once_of, times_used}
 use Rattle.arena_rules.specs.MainPlaces.{IsPlaced}
-use Rattle.arena_rules.specs.Rules.{Rules, windows_of, passes_window}
+use Rattle.arena_rules.specs.Rules.{Rules, windows_of, heap_windows_of, passes_window}
 use Rattle.arena_rules.specs.Growth as growth
 use Rattle.arena_rules.specs.Growth.{mapping, maps_first, closing}
 use Rattle.consolidate_trim.specs.Holds.{Chunks, no_chunk, IsBacked}
@@ -37,13 +37,21 @@ pub record IsSearchable (t : Tunables) : Type 0 where
   pub pad : t.top_pad < 2 ^ 31
   pub fast : t.max_fast ≤ 160
   pub main : t.main_max ≤ main_limit
+  pub heap : t.heap_max ≤ 67108864
 
 -- a mapping that doesn't pass its window may be counted
 pub record AllowsMaps {P K : Type 0} (dials : Dialled P) (port : P) (space : Space K) : Type 0 where
   pub allowed : (len : ℕ) → map_passes space len ≡ false → dials.allows port (dial_steps.Maps len)
 
--- What a hold of main has before each step that may ask the system.
+-- What a hold has before each step that may ask the system.
 pub record IsReady {P K : Type 0} (m : Means P K) (t : Tunables) (x : Stage (Outside P K)) : Type 0 where
+  pub backed : IsBacked m.fast x.arena x.outside.port no_chunk
+  pub placed : IsPlaced x.arena
+  pub heaps : is_main x.arena ≡ false → x.arena.windows ≡ heap_windows_of t
+  pub windows : x.outside.space.windows ≡ windows_of t
+
+-- the same of a hold of main
+pub record IsMainReady {P K : Type 0} (m : Means P K) (t : Tunables) (x : Stage (Outside P K)) : Type 0 where
   pub backed : IsBacked m.fast x.arena x.outside.port no_chunk
   pub main : IsTrue (is_main x.arena)
   pub placed : IsPlaced x.arena
@@ -119,3 +127,23 @@ Finds m t rules before result after = Works (full m) t rules no_chunk before (to
 -- the chunk of an option
 abbrev pub chunks_in : Option Chunk → Chunks
 chunks_in o e = once_of e o
+
+-- The most bytes that there were are raised, and a chunk is cut from top where that suffices.
+pub record CutsFromGrown (nb : ℕ) (a : Plain) (found : Found) (b : Plain) : Type 0 where
+  pub ends : growth.from_top nb (growth.noted a) ≡ took b found
+  pub sound : IsSound b
+  pub number : b.number ≡ a.number
+  pub windows : b.windows ≡ a.windows
+  pub placed : IsPlaced a → IsPlaced b
+  pub used : (e : Chunk) → times_used e b ≡ times_used e a + chunks_found found e
+
+-- the arena whose heaps grew, or none
+abbrev pub grown_of : Plain → Bool → Option Plain
+grown_of a grown = if grown then Some a else None
+
+-- Another arena's heaps grow; or both asks are refused, and it is as it was.
+pub record GrowsHeaps {P K : Type 0} (m : Means P K) (t : Tunables) (nb : ℕ) (before : Stage (Outside P K)) (result : Result Bool NoMemory) (after : Stage (Outside P K)) : Type 0 where
+  pub works : Works (full m) t (growth.heaps_grown t nb before.arena) no_chunk before (grown_of after.arena) (λ _. no_chunk) result after
+  pub same : IfOk result (λ grown. grown ≡ false → after.arena ≡ before.arena)
+  pub allows : AllowsMaps m.dials before.outside.port before.outside.space →
+      IfOk result (λ grown. grown ≡ false → AllowsMaps m.dials after.outside.port after.outside.space)

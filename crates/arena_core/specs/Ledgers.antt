@@ -47,6 +47,7 @@ KeepsCached l number o p = (e : Chunk) → times_cached number (l.cache o) e ≤
 pub record Balances {O : Type 0} (l : Ledger O) (before : Stage O) (given got : Chunks) (after : Stage O) : Type 0 where
   pub sound : IsSound after.arena
   pub number : after.arena.number ≡ before.arena.number
+  pub windows : after.arena.windows ≡ before.arena.windows
   pub placed : IsPlaced before.arena → IsPlaced after.arena
   pub cached : KeepsCached l before.arena.number before.outside after.outside
   pub others : KeepsOthers before.arena.number (l.cache before.outside) (l.cache after.outside)
@@ -57,6 +58,7 @@ pub record Balances {O : Type 0} (l : Ledger O) (before : Stage O) (given got : 
 pub record Loses {O : Type 0} (l : Ledger O) (before : Stage O) (given : Chunks) (after : Stage O) : Type 0 where
   pub sound : IsSound after.arena
   pub number : after.arena.number ≡ before.arena.number
+  pub windows : after.arena.windows ≡ before.arena.windows
   pub placed : IsPlaced before.arena → IsPlaced after.arena
   pub cached : KeepsCached l before.arena.number before.outside after.outside
   pub others : KeepsOthers before.arena.number (l.cache before.outside) (l.cache after.outside)

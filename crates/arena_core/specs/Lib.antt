@@ -8,5 +8,6 @@ pub mod Ledgers
 pub mod Steps
 pub mod Asking
 pub mod Arenas
+pub mod Opening
 pub mod Examples
 pub mod Shown

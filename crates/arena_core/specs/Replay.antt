@@ -1,17 +1,17 @@
 -- A journal is replayed: each entry's act goes through its rules with the answers that the entry has (this project's own).
-use Rattle.std.specs.Prelude.{◌≡◌, ℕ, ◌+◌, ◌-◌, ◌^◌, ◌%◌, Bool, true, false, ◌&&◌, nat_eq, nat_le, List, [], ◌∷◌, Option, Some, None, if◌then◌else◌}
+use Rattle.std.specs.Prelude.{◌≡◌, ℕ, ◌+◌, ◌-◌, ◌^◌, ◌%◌, Bool, true, false, ◌&&◌, not, length, nat_eq, nat_le, List, [], ◌∷◌, Option, Some, None, if◌then◌else◌}
 use Rattle.std.specs.Int.{is_power_of_two}
 use Rattle.chunk_tags.specs.declared.tiles.Chunk.{Chunk}
 use Rattle.chunk_tags.specs.declared.tunables.Tunables.{Tunables}
-use Rattle.arena_rules.specs.PlainArena.{Plain, is_own}
-use Rattle.arena_rules.specs.Rules.{Rules, Stop, behind, end_of_rules, left_by_rules}
+use Rattle.arena_rules.specs.PlainArena.{Plain, is_main, is_own}
+use Rattle.arena_rules.specs.Rules.{Rules, Stop, Misfit, behind, end_of_rules, left_by_rules}
 use Rattle.arena_rules.specs.Release.{given}
-use Rattle.arena_rules.specs.Growth.{Found, InArena, InMapping, Nowhere, Took}
+use Rattle.arena_rules.specs.Growth.{Found, InArena, InMapping, Nowhere, Took, opened}
 use Rattle.arena_rules.specs.Search.{searched}
 use Rattle.arena_rules.specs.Resize.{resize_of}
 use Rattle.arena_rules.specs.Align.{align_of, aligned_block, request_with_lead}
 use Rattle.arena_core.specs.declared.journal.Act.{Act}
-use Rattle.arena_core.specs.declared.journal.Act.TheVariants.{Take, Give, Resize, Align}
+use Rattle.arena_core.specs.declared.journal.Act.TheVariants.{Open, Take, Give, Resize, Align}
 use Rattle.arena_core.specs.declared.journal.Ended.{Ended}
 use Rattle.arena_core.specs.declared.journal.Ended.TheVariants.{Got, Done, Refused, Short}
 use Rattle.arena_rules.specs.declared.said.Said.{Said}
@@ -25,8 +25,9 @@ chunk_at at size = record { at = at; size = size }
 abbrev pub found_nothing : Plain → Took
 found_nothing a = record { found = Nowhere; arena = a }
 
--- the rules of an act
+-- the rules of an act; an arena that couldn't be opened has no journal
 abbrev pub rules_of : Tunables → Act → Plain → Rules Took
+rules_of t (Open bytes) a = behind (opened t bytes a) (λ o. elim o [ Some b ↦ Stop (found_nothing b) | None ↦ Misfit ])
 rules_of t (Take nb) a = searched t nb a
 rules_of t (Give at size) a = behind (given t a (chunk_at at size)) (λ b. Stop (found_nothing b))
 rules_of t (Resize at size nb) a = resize_of t a (chunk_at at size) nb
@@ -45,8 +46,9 @@ abbrev pub has_lead_in_range : ℕ → ℕ → Bool
 has_lead_in_range align nb = nat_le (request_with_lead align nb) (2 ^ 63 - 1)
 
 -- Whether an act meets the conditions of its call: its sizes are in range, its alignment is one of posix_memalign's, and its
--- chunk is a used one.
+-- chunk is a used one; what is opened is another arena without a heap.
 abbrev pub may_act : Act → Plain → Bool
+may_act (Open bytes) a = not (is_main a) && nat_eq (length a.tiles) 0
 may_act (Take nb) a = is_request_size nb
 may_act (Give at size) a = is_own a (chunk_at at size)
 may_act (Resize at size nb) a = is_request_size nb && is_own a (chunk_at at size)
@@ -54,6 +56,7 @@ may_act (Align align nb) a = is_request_size nb && (is_alignment align && has_le
 
 -- the chunks in hand when an act begins
 abbrev pub hand_of : Act → List Chunk
+hand_of (Open bytes) = []
 hand_of (Take nb) = []
 hand_of (Give at size) = chunk_at at size ∷ []
 hand_of (Resize at size nb) = chunk_at at size ∷ []
@@ -73,6 +76,7 @@ ended_aligned align Nowhere = Refused
 
 -- how an act ends that found this
 abbrev pub ended_of : Act → Found → Ended
+ended_of (Open bytes) found = Done
 ended_of (Take nb) found = ended_found found
 ended_of (Give at size) found = Done
 ended_of (Resize at size nb) found = ended_found found

@@ -1,15 +1,18 @@
 //! An arena with its journal.
 
-ghost use Rattle.std.specs.Prelude.{◌≡◌, ℕ, ◌<◌, ◌≤◌, [], ◌∷◌, ◌++◌, IsTrue, IsSome, IfOk, IfErr, OnOk, OnErr, None, Some, vec_len, vec_capacity};
+ghost use Rattle.std.specs.Prelude.{◌≡◌, ℕ, ◌^◌, ◌<◌, ◌≤◌, [], ◌∷◌, ◌++◌, IsTrue, IsNone, IsSome, IfOk, IfSome, IfErr, OnOk, OnErr, None, Some, vec_len, vec_capacity};
 ghost use Rattle.chunk_tags.specs.Sizes.{IsRequestSize};
+ghost use Rattle.chunk_tags.specs.Tunables.{IsTuned};
 ghost use Rattle.address_space.specs.Ports.{Rose};
 ghost use Rattle.address_space.specs.Spaces.{space_refusals};
 ghost use Rattle.thread_cache.specs.Caches.{CacheValue};
-ghost use Rattle.arena_rules.specs.PlainArena.{Plain, is_main};
+ghost use Rattle.arena_rules.specs.PlainArena.{Plain};
+ghost use Rattle.arena_rules.specs.Rules.{windows_of};
 ghost use Rattle.consolidate_trim.specs.Holds.{IsBacked, no_chunk, one_chunk};
 ghost use Rattle.consolidate_trim.specs.Outside.{Apart, means};
 ghost use Rattle.arena_core.specs.Ledgers.{stage};
 ghost use Rattle.arena_core.specs.Asking.{IsSearchable, IsReady, AllowsMaps, beside_arena, found_of};
+ghost use Rattle.arena_core.specs.Opening.{OpensAs, OpensShort, RefusesOpening, closed_arena};
 ghost use Rattle.arena_core.specs.Replay.{IsReplay, chunk_at, ended_found};
 ghost use Rattle.arena_core.specs.Arenas.{Takes, FitsRequest, FailsShort, GivesShort, Records, held, take_of, recorded};
 ghost use Rattle.arena_core.specs.declared.journal.Act.TheVariants as acts;
@@ -18,6 +21,7 @@ ghost use Rattle.arena_core.specs.declared.found.Found.TheVariants as finds;
 use crate::entry::{Entry, append};
 use crate::found::Found;
 use crate::journal::{Act, Ended, Who};
+use crate::opening::open_ground;
 use crate::searching::search;
 use crate::take::{GiveShort, Take};
 use address_space::{Kernel, Space};
@@ -153,7 +157,6 @@ impl<M: Moves> Arena<M> {
     ) -> Result<(), GiveShort>
         requires backed { IsBacked P.fast (M.plain self.old.ground) port.old (one_chunk (chunk_at b.addr b.size)) }
         requires apart { Apart P.fast P.dials }
-        requires main { IsTrue (is_main (M.plain self.old.ground)) }
         ensures given { (cache : CacheValue) → OnOk result
             (Records (means P.fast P.dials K.port) t.now who (acts.Give b.addr b.size)
             (held (M.plain self.old.ground) port.old cache space.old self.old.journal.items)
@@ -199,6 +202,45 @@ impl<M: Moves> Arena<M> {
                 append(&mut self.journal, who, act, said, Ended::Short);
                 Err(GiveShort { back: None })
             }
+        }
+    }
+}
+
+impl<M: Moves + Drop> Arena<M> {
+    /// Opens another arena, under a number and for a thread that asks for so many bytes, and records this as its first hold
+    /// (glibc's `_int_new_arena`). `None` exactly where both asks for heap 0 were refused; that leaves no entry.
+    pub fn open<K: Kernel>(
+        alloc: Global,
+        who: Who,
+        number: u8,
+        bytes: u64,
+        space: &mut Space<K>,
+        t: &Tunables,
+    ) -> Result<Option<Arena<M>>, NoMemory>
+        requires other { 0 < number }
+        requires number { number < 64 }
+        requires tuned { IsTuned t.now }
+        requires bytes { bytes ≤ 2 ^ 63 }
+        requires windows { space.old.windows ≡ windows_of t.now }
+        ensures opened { IfOk result (λ o. IfSome o (λ a.
+            OpensAs M.plain K.port t.now who number bytes space.old a.ground a.journal.items space.new)) }
+        ensures refused { IfOk result (λ o. IsNone o
+            → RefusesOpening K.port t.now number bytes space.old space.new) }
+        ensures short { OnErr result (OpensShort K.port t.now number bytes space.old space.new) }
+
+        // The arena is what the replay of its journal gives.
+        ensures replay { IfOk result (λ o. IfSome o (λ a.
+            IsReplay t.now (closed_arena t.now number) a.journal.items (M.plain a.ground))) }
+    {
+        let mut journal = Vec::new(alloc);
+        make_room(&mut journal)?;
+        let mut said = Vec::new(alloc);
+        match open_ground(alloc, number, bytes, space, t, &mut said)? {
+            Some(ground) => {
+                append(&mut journal, who, Act::Open { bytes }, said, Ended::Done);
+                Ok(Some(Arena { ground, journal }))
+            }
+            None => Ok(None),
         }
     }
 }

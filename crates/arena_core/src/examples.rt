@@ -1,10 +1,11 @@
 //! Worked examples on the definitions alone. Nothing runs; the check computes them.
 
 ghost use Rattle.std.specs.Prelude.{◌≡◌, ℕ, [], ◌∷◌, Some, None, true, false};
-ghost use Rattle.address_space.specs.declared.asks.Ask.TheVariants.{Break, Map};
-ghost use Rattle.address_space.specs.declared.asks.Answer.TheVariants.{Granted};
+ghost use Rattle.chunk_tags.specs.Tunables.{serial_values};
+ghost use Rattle.address_space.specs.declared.asks.Ask.TheVariants.{Break, NewHeap, GrowHeap, Map};
+ghost use Rattle.address_space.specs.declared.asks.Answer.TheVariants.{Granted, Refused};
 ghost use Rattle.arena_rules.specs.declared.said.Said.TheVariants.{Flag, Popped, Own, Room, Asked, Dial};
-ghost use Rattle.arena_core.specs.Examples.{takes_at, gives_at, resizes_at, aligns_at, aligns_mapped, main_after, last_after, bytes_after};
+ghost use Rattle.arena_core.specs.Examples.{takes_at, maps_at, finds_none, opens_for, gives_at, resizes_at, aligns_at, aligns_mapped, main_after, last_after, bytes_after, bytes_of_other, with_windows};
 
 /// A small request is cut from a larger free chunk, and the next one from what is left of it, the last remainder.
 #[tactic(auto, unfolding(arena_rules::specs::PlainArena::empty_bins, arena_rules::specs::Search::most_stashed))]
@@ -128,4 +129,69 @@ fn an_aligned_mapping_is_recorded_behind_its_lead()
     ensures start { main_after (takes_at 656 (Flag false ∷ Dial 131072 ∷ Asked (Break 0x555555559000 0x55555557a000) Granted ∷ []) 0x555555559000
         ∷ aligns_mapped 4096 200000 (Flag false ∷ Flag false ∷ Dial 131072 ∷ Dial 0 ∷ Asked (Map 0x7f8000000000 204800) Granted ∷ []) 0x7f8000000000 204800
         ∷ []) ≡ None }
+{}
+
+/// Another arena's heap 0 is for a request and the pad, and of its bytes 2928 are in use with a chunk of 32: its header and its
+/// record, the structure of a cache, and the chunk. Where that is refused, the least heap 0 is asked for.
+#[tactic(auto, unfolding(arena_rules::specs::PlainArena::empty_bins, arena_rules::specs::Search::most_stashed))]
+fn another_arena_is_opened_for_a_request()
+    ensures granted { bytes_of_other serial_values (opens_for 640 (Asked (NewHeap 1 0 135168) Granted ∷ [])
+        ∷ takes_at 656 [] 0x7f00000008c0
+        ∷ takes_at 32 (Popped None ∷ []) 0x7f0000000b50
+        ∷ []) ≡ Some (135168, 135168, 132240) }
+    ensures again { bytes_of_other (with_windows 131072 2)
+        (opens_for 40000 (Asked (NewHeap 1 0 45056) Refused ∷ Asked (NewHeap 1 0 32768) Granted ∷ [])
+        ∷ []) ≡ Some (32768, 32768, 30528) }
+{}
+
+/// A heap is extended to its window's end at most; then one more comes, and what is left of the old top before its fence is
+/// released. Where the chunk in it is given back, that heap goes, and the end of the one before is top.
+#[tactic(auto, unfolding(arena_rules::specs::PlainArena::empty_bins, arena_rules::specs::Search::most_stashed))]
+fn another_arena_grows_by_a_heap_and_drops_it()
+    ensures grown { bytes_of_other (with_windows 131072 64) (opens_for 640 (Asked (NewHeap 1 0 32768) Granted ∷ [])
+        ∷ takes_at 656 [] 0x7f00000008c0
+        ∷ takes_at 100016 (Flag false ∷ Flag false ∷ Dial 131072 ∷ Asked (GrowHeap 1 0 32768 106496) Granted ∷ []) 0x7f0000000b50
+        ∷ takes_at 100016 (Flag false ∷ Flag false ∷ Dial 131072 ∷ Asked (GrowHeap 1 0 106496 204800) Refused
+        ∷ Asked (NewHeap 1 1 102400) Granted ∷ Room false ∷ []) 0x7f0000020020
+        ∷ []) ≡ Some (208896, 208896, 2352) }
+    ensures dropped { bytes_of_other (with_windows 131072 64) (opens_for 640 (Asked (NewHeap 1 0 32768) Granted ∷ [])
+        ∷ takes_at 656 [] 0x7f00000008c0
+        ∷ takes_at 100016 (Flag false ∷ Flag false ∷ Dial 131072 ∷ Asked (GrowHeap 1 0 32768 106496) Granted ∷ []) 0x7f0000000b50
+        ∷ takes_at 100016 (Flag false ∷ Flag false ∷ Dial 131072 ∷ Asked (GrowHeap 1 0 106496 204800) Refused
+        ∷ Asked (NewHeap 1 1 102400) Granted ∷ Room false ∷ []) 0x7f0000020020
+        ∷ gives_at 0x7f0000020020 100016 (Flag false ∷ Dial 131072 ∷ [])
+        ∷ []) ≡ Some (106496, 208896, 3584) }
+{}
+
+/// Where no window is left a mapping is asked for, though the size is below the threshold; where that is refused the heaps are
+/// asked for once more. No second mapping is asked for where one was tried first.
+#[tactic(auto, unfolding(arena_rules::specs::PlainArena::empty_bins, arena_rules::specs::Search::most_stashed))]
+fn another_arena_maps_at_the_end_of_its_windows()
+    ensures mapped { bytes_of_other (with_windows 65536 1) (opens_for 640 (Asked (NewHeap 1 0 32768) Granted ∷ [])
+        ∷ takes_at 656 [] 0x7f00000008c0
+        ∷ takes_at 60016 (Flag false ∷ Flag false ∷ Dial 131072 ∷ Asked (GrowHeap 1 0 32768 65536) Granted ∷ []) 0x7f0000000b50
+        ∷ maps_at 60016 (Flag false ∷ Flag false ∷ Dial 131072 ∷ Asked (GrowHeap 1 0 65536 126976) Refused
+        ∷ Asked (NewHeap 1 1 61440) Refused ∷ Asked (Map 0x601000000000 61440) Granted ∷ []) 0x601000000000 61440
+        ∷ []) ≡ Some (65536, 65536, 2624) }
+    ensures refused { bytes_of_other (with_windows 65536 1) (opens_for 640 (Asked (NewHeap 1 0 32768) Granted ∷ [])
+        ∷ finds_none 60016 (Flag false ∷ Flag false ∷ Dial 131072 ∷ Asked (GrowHeap 1 0 32768 65536) Refused
+        ∷ Asked (NewHeap 1 1 61440) Refused ∷ Asked (Map 0x601000000000 61440) Refused
+        ∷ Asked (GrowHeap 1 0 32768 65536) Refused ∷ Asked (NewHeap 1 1 61440) Refused ∷ [])
+        ∷ []) ≡ Some (32768, 32768, 30528) }
+    ensures tried { bytes_of_other (with_windows 65536 1) (opens_for 640 (Asked (NewHeap 1 0 32768) Granted ∷ [])
+        ∷ finds_none 200016 (Flag false ∷ Flag false ∷ Dial 131072 ∷ Dial 0 ∷ Asked (Map 0x601000000000 200704) Refused
+        ∷ Asked (GrowHeap 1 0 32768 204800) Refused ∷ Asked (NewHeap 1 1 200704) Refused ∷ [])
+        ∷ []) ≡ Some (32768, 32768, 30528) }
+{}
+
+/// Where the release of an old top drops the new heap again, nothing is found, and the most bytes don't count that heap.
+#[tactic(auto, unfolding(arena_rules::specs::PlainArena::empty_bins, arena_rules::specs::Search::most_stashed))]
+fn a_new_heap_is_dropped_as_the_old_top_is_closed()
+    ensures { bytes_of_other (with_windows 131072 2) (opens_for 640 (Asked (NewHeap 1 0 32768) Granted ∷ [])
+        ∷ takes_at 656 [] 0x7f00000008c0
+        ∷ takes_at 70016 (Flag false ∷ Flag false ∷ Dial 131072 ∷ Asked (GrowHeap 1 0 32768 73728) Granted ∷ []) 0x7f0000000b50
+        ∷ gives_at 0x7f0000000b50 70016 (Flag false ∷ Dial 131072 ∷ [])
+        ∷ finds_none 130992 (Flag false ∷ Flag false ∷ Dial 131072 ∷ Asked (GrowHeap 1 0 73728 135168) Refused
+        ∷ Asked (NewHeap 1 1 131072) Granted ∷ Room false ∷ Flag false ∷ Dial 131072 ∷ [])
+        ∷ []) ≡ Some (73728, 73728, 70832) }
 {}

@@ -1,49 +1,23 @@
-//! Main grows, and a chunk is cut from its top.
+//! An arena grows, and a chunk is cut from its top.
 
-ghost use Rattle.std.specs.Prelude.{◌≡◌, ◌≤◌, false, Bool, IsTrue, IfOk};
+ghost use Rattle.std.specs.Prelude.{◌≡◌, false, IfOk};
 ghost use Rattle.chunk_tags.specs.Sizes.{IsRequestSize};
-ghost use Rattle.arena_rules.specs.PlainArena.{is_main};
 ghost use Rattle.arena_rules.specs.Growth.{has_top_for, piece_grown, main_grown, grown};
-ghost use Rattle.consolidate_trim.specs.Holds.{IsBacked};
 ghost use Rattle.consolidate_trim.specs.Outside.{Apart, means};
 ghost use Rattle.arena_core.specs.Ledgers.{stage};
-ghost use Rattle.arena_core.specs.Asking.{IsSearchable, IsReady, Closes, Grows, Finds, FitsFound, beside_arena, chunks_in};
+ghost use Rattle.arena_core.specs.Asking.{IsSearchable, IsReady, IsMainReady, AllowsMaps, Grows, Finds, FitsFound, beside_arena};
 
-use crate::binned::{has_top_for, take_top};
+use crate::binned::has_top_for;
+use crate::closing::{close, cut_from_grown};
 use crate::found::Found;
+use crate::grow_heaps::grow_other;
 use crate::growth::{ask_break, ask_piece, growth_for, piece_for};
-use crate::step::Step;
 use address_space::{Kernel, Space};
 use arena_rules::{Moves, Said};
-use chunk_tags::{Chunk, NoMemory, Size, Tunables};
-use consolidate_trim::release;
+use chunk_tags::{NoMemory, Size, Tunables};
 use fast_bins::FastPort;
 use mapped_chunks::Dials;
 use thread_cache::Cache;
-
-/// Releases what is left of a closed top.
-fn close<M: Moves, K: Kernel, P: FastPort + Dials>(
-    g: &mut M,
-    rest: Option<Chunk>,
-    cache: &mut Cache,
-    port: &mut P,
-    space: &mut Space<K>,
-    t: &Tunables,
-    said: &mut Vec<Said>,
-) -> Result<(), NoMemory>
-    requires backed { IsBacked P.fast (M.plain g.old) port.old (chunks_in rest) }
-    requires apart { Apart P.fast P.dials }
-    requires main { IsTrue (is_main (M.plain g.old)) }
-    requires fast { t.now.max_fast ≤ 160 }
-    ensures { Closes (means P.fast P.dials K.port) t.now rest
-        (stage (M.plain g.old) (beside_arena port.old cache.old space.old) said.old.items)
-        result (stage (M.plain g.new) (beside_arena port.new cache.new space.new) said.new.items) }
-{
-    match rest {
-        Some(c) => release(g, c, cache, port, space, t, said),
-        None => Ok(()),
-    }
-}
 
 /// Where the break is refused, a piece is asked for, which becomes top.
 fn grow_piece<M: Moves, K: Kernel, P: FastPort + Dials>(
@@ -55,7 +29,7 @@ fn grow_piece<M: Moves, K: Kernel, P: FastPort + Dials>(
     t: &Tunables,
     said: &mut Vec<Said>,
 ) -> Result<(), NoMemory>
-    requires ready { IsReady (means P.fast P.dials K.port) t.now
+    requires ready { IsMainReady (means P.fast P.dials K.port) t.now
         (stage (M.plain g.old) (beside_arena port.old cache.old space.old) said.old.items) }
     requires apart { Apart P.fast P.dials }
     requires tuned { IsSearchable t.now }
@@ -85,7 +59,7 @@ fn grow_main<M: Moves, K: Kernel, P: FastPort + Dials>(
     said: &mut Vec<Said>,
     turns: u8,
 ) -> Result<(), NoMemory>
-    requires ready { IsReady (means P.fast P.dials K.port) t.now
+    requires ready { IsMainReady (means P.fast P.dials K.port) t.now
         (stage (M.plain g.old) (beside_arena port.old cache.old space.old) said.old.items) }
     requires apart { Apart P.fast P.dials }
     requires tuned { IsSearchable t.now }
@@ -110,10 +84,12 @@ fn grow_main<M: Moves, K: Kernel, P: FastPort + Dials>(
     grow_main(g, nb, cache, port, space, t, said, turns - 1)
 }
 
-/// Main grows, and a chunk is cut from its top where that suffices then (the part of glibc's `sysmalloc` for main).
+/// An arena grows, main by its break or a piece, another one by its heaps, and a chunk is cut from its top where that
+/// suffices then. `tried` says whether a mapping was asked for (the part of glibc's `sysmalloc` behind that).
 pub fn grow<M: Moves, K: Kernel, P: FastPort + Dials>(
     g: &mut M,
     nb: Size,
+    tried: bool,
     cache: &mut Cache,
     port: &mut P,
     space: &mut Space<K>,
@@ -122,19 +98,19 @@ pub fn grow<M: Moves, K: Kernel, P: FastPort + Dials>(
 ) -> Result<Found, NoMemory>
     requires ready { IsReady (means P.fast P.dials K.port) t.now
         (stage (M.plain g.old) (beside_arena port.old cache.old space.old) said.old.items) }
+    requires allows { tried ≡ false → AllowsMaps P.dials port.old space.old }
     requires apart { Apart P.fast P.dials }
     requires tuned { IsSearchable t.now }
     requires size { IsRequestSize nb }
     requires short { has_top_for (M.plain g.old) nb ≡ false }
-    ensures finds { (tried : Bool) → Finds (means P.fast P.dials K.port) t.now (grown t.now nb tried (M.plain g.old))
+    ensures finds { Finds (means P.fast P.dials K.port) t.now (grown t.now nb tried (M.plain g.old))
         (stage (M.plain g.old) (beside_arena port.old cache.old space.old) said.old.items)
         result (stage (M.plain g.new) (beside_arena port.new cache.new space.new) said.new.items) }
     ensures fits { IfOk result (FitsFound nb) }
 {
-    grow_main(g, nb, cache, port, space, t, said, 2)?;
-    g.note_most();
-    match take_top(g, nb) {
-        Step::Taken(c) => Ok(Found::InArena(c)),
-        Step::Onward => Ok(Found::Nowhere),
+    if g.number() != 0 {
+        return grow_other(g, nb, tried, cache, port, space, t, said);
     }
+    grow_main(g, nb, cache, port, space, t, said, 2)?;
+    Ok(cut_from_grown(g, nb))
 }

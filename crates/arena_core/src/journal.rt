@@ -12,6 +12,8 @@ pub struct Who {
 /// What a hold is for (this project's own).
 #[derive(Clone, Copy, Debug, PartialEq, Eq)]
 pub enum Act {
+    /// An arena is opened, for a thread that asks for so many bytes.
+    Open { bytes: u64 },
     /// A chunk of this size is searched for.
     Take { nb: Size },
     /// A used chunk is given back to its arena.

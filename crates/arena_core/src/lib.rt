@@ -8,16 +8,20 @@ mod arena;
 mod begin;
 mod binned;
 mod carve;
+mod closing;
 mod entry;
 #[cfg(test)]
 mod examples;
 mod fast;
 mod found;
 mod grow;
+mod grow_heaps;
 mod growth;
+mod heap_asks;
 mod journal;
 mod look;
 mod mapping;
+mod opening;
 mod room;
 mod scan;
 mod searching;
@@ -32,3 +36,6 @@ pub use found::Found;
 pub use journal::{Act, Ended, Who};
 pub use searching::search;
 pub use take::{GiveShort, Take};
+
+#[cfg(test)]
+mod tests;

@@ -19,7 +19,7 @@ use fast_bins::FastPort;
 use mapped_chunks::Dials;
 use thread_cache::Cache;
 
-/// A mapping is asked for; where that is refused, main grows.
+/// A mapping is asked for; where that is refused, the arena grows.
 fn map_or_grow<M: Moves, K: Kernel, P: FastPort + Dials>(
     g: &mut M,
     nb: Size,
@@ -44,12 +44,12 @@ fn map_or_grow<M: Moves, K: Kernel, P: FastPort + Dials>(
 {
     match ask_mapping(nb, port, space, said)? {
         Some(c) => Ok(Found::InMapping(c)),
-        None => grow(g, nb, cache, port, space, t, said),
+        None => grow(g, nb, true, cache, port, space, t, said),
     }
 }
 
 /// Asks the system for `nb` bytes: for a mapping first, where the size reaches the threshold and there aren't too many; else,
-/// and where that is refused, main grows (glibc's `sysmalloc`). Nothing is found only where an ask was refused.
+/// and where that is refused, the arena grows (glibc's `sysmalloc`). Nothing is found only where an ask was refused.
 pub fn ask_system<M: Moves, K: Kernel, P: FastPort + Dials>(
     g: &mut M,
     nb: Size,
@@ -73,8 +73,9 @@ pub fn ask_system<M: Moves, K: Kernel, P: FastPort + Dials>(
     ensures refused { IfOk result (λ found. found ≡ Found.Nowhere
         → Rose (space_refusals K.port space.old) (space_refusals K.port space.new)) }
 {
+    g.top_law();
     if maps_first(nb, port, t, said)? {
         return map_or_grow(g, nb, cache, port, space, t, said);
     }
-    grow(g, nb, cache, port, space, t, said)
+    grow(g, nb, false, cache, port, space, t, said)
 }

@@ -21,7 +21,7 @@ use Rattle.arena_rules.proofs.Resizes.{next_tile, joined_with_moved}
 use Rattle.heap_top.specs.declared.regions.Regions.{Regions}
 use Rattle.arena_ground.specs.Grounds.{arena_with, bins_at}
 use Rattle.arena_ground.proofs.Bridges.{agree, listed_times, bins_without}
-use Rattle.arena_ground.proofs.Keeping.{top_fused, IsSoundGround, lists_of, IsDone, done, same_top}
+use Rattle.arena_ground.proofs.Keeping.{top_fused, IsSoundGround, lists_of, IsDone, done}
 use Rattle.arena_ground.proofs.Moving.{own_tile, used_unlinked}
 
 -- ---- a free neighbour
@@ -108,8 +108,8 @@ pair_done r w l m last t u f c size came p moved lists links =
     let now : List Tile = fused t.addr (tile_of Used t.addr size) w.tiles in
     let new : Plain = record (unlinked a (chunk_of f)) { tiles = now } in
     let bins : bins_at now m.lists ≡ new.bins = ap (bins_at now) lists ∙ pair_bins r w l last t u f c size p in
-    done r r w (record w { tiles = now }) l m last last new _ _ p.held.ground moved refl (record { tiles = refl; links = links }) (λ i. record new { bins = bins i })
-    (same_top r w l last now p.held.ground moved.sound.row (top_fused t.addr (tile_of Used t.addr size) t u w.tiles p.found p.behind p.low p.low2 refl))
+    done r w (record w { tiles = now }) l m last new _ _ p.held.ground moved refl (record { tiles = refl; links = links }) (λ i. record new { bins = bins i })
+    (top_fused t.addr (tile_of Used t.addr size) t u w.tiles p.found p.behind p.low p.low2 refl)
 
 -- ---- the two joins
 
@@ -202,5 +202,5 @@ join_used_done r w l last c d g own own_d next =
     let bins : bins_at now l.lists ≡ a.bins = agree w.tiles now l.lists (λ n listed.
     ap size_in (fused_other c.at n u x w.tiles (λ e. omega (arith, listed, used_unlinked r w l last c g found, ap (λ m. times_linked m l.lists) e))
     (λ e. omega (arith, listed, used_unlinked r w l last d g (own_tile r w l last d g own_d), ap (λ m. times_linked m l.lists) e)) refl behind)) in
-    done r r w (record w { tiles = now }) l l last last new _ _ g.ground moved refl (record { tiles = refl; links = refl }) (λ i. record new { bins = bins i })
-    (same_top r w l last now g.ground moved.sound.row (top_fused c.at x (tile_of Used c.at c.size) u w.tiles found behind refl refl refl))
+    done r w (record w { tiles = now }) l l last new _ _ g.ground moved refl (record { tiles = refl; links = refl }) (λ i. record new { bins = bins i })
+    (top_fused c.at x (tile_of Used c.at c.size) u w.tiles found behind refl refl refl)

@@ -1,24 +1,31 @@
 -- A ground after a move: it is the moved arena, and what is always so is so again.
-use Rattle.std.proofs.Common.{◌≡◌, ℕ, ◌≤◌, Bool, true, false, cond, List, [], ◌∷◌, ◌++◌, Option, Some, None, refl, sym, ap, ◌∙◌, subst, inl, inr, arith}
-use Rattle.std.specs.Prelude.{nat_eq, drop}
+use Rattle.std.proofs.Common.{◌≡◌, ℕ, ◌<◌, ◌≤◌, ◌/◌, ◌^◌, ◌⊎◌, Bool, true, false, cond, List, [], ◌∷◌, ◌++◌, Option, Some, None, IsTrue, refl, sym, ap, ◌∙◌, subst, inl, inr, arith}
+use Rattle.std.specs.Prelude.{nat_eq, drop, sum_by, vec_capacity}
 use Rattle.std.proofs.lemmas.Bool.{cases_lt}
 use Rattle.chunk_tags.specs.declared.tiles.Chunk.{Chunk}
-use Rattle.chunk_tags.specs.Tiles.{is_top, Row, swapped, fused, tile_at, tile_behind, top_of}
+use Rattle.chunk_tags.specs.Tiles.{is_top, end_of, Row, swapped, fused, tile_at, tile_behind, top_of}
 use Rattle.chunk_tags.specs.declared.tiles.Tile.{Tile}
 use Rattle.part_words.specs.Extents.{Covers}
 use Rattle.bin_links.specs.Lists.{Linked}
 use Rattle.chunk_image.specs.Rows.{TileRow}
 use Rattle.address_space.specs.Spaces.{main_start}
-use Rattle.arena_rules.specs.PlainArena.{Plain, IsSound, beside}
+use Rattle.arena_rules.specs.PlainArena.{Plain, HeapWindows, IsSound, beside, is_main}
+use Rattle.arena_rules.specs.Heaps.{heap_start}
+use Rattle.arena_rules.specs.HeapPlaces.{IsHeapPlaced}
+use Rattle.arena_rules.specs.Moves.{top_end}
 use Rattle.arena_rules.specs.MainPlaces.{times_covered, IsMainPlaced}
 use Rattle.arena_rules.proofs.Changes.{tile_is}
 use Rattle.arena_rules.proofs.Covered.{covered_by, covers_one}
+use Rattle.arena_rules.proofs.HeapPlaces.{heap_still}
+use Rattle.arena_rules.proofs.HeapTiles.{all_from, bytes_bounded}
 use Rattle.arena_rules.proofs.Moved.{Moved, nothing}
 use Rattle.arena_rules.proofs.Rows.{addr_at}
 use Rattle.heap_top.specs.declared.regions.Regions.{Regions}
-use Rattle.heap_top.specs.Regions.{address_of, KnowsTop}
-use Rattle.arena_rules.proofs.MainPlaces.{placed_along, uncovered}
-use Rattle.arena_ground.specs.Grounds.{GroundView, arena_with, view_of, IsGround}
+use Rattle.heap_top.specs.Regions.{address_of, bare_arena, IsOther, KnowsTop}
+use Rattle.heap_top.proofs.TopLaws.{heaps_beside, main_bytes}
+use Rattle.arena_rules.proofs.MainPlaces.{placed_along, placed_beside, uncovered}
+use Rattle.arena_rules.proofs.TopMoves.{all_at}
+use Rattle.arena_ground.specs.Grounds.{GroundView, arena_with, part_bytes, view_of, words_start, IsGround, IsPlacedIn}
 use Rattle.arena_ground.proofs.Bridges.{AreBins}
 
 -- ---- top where other tiles change
@@ -79,18 +86,65 @@ held r w l last v g is s = record { ground = g; sound = subst (λ (v : GroundVie
 pub lists_of : (r : Regions) (w : TileRow) (l : Linked) (last : Option ℕ) → IsSoundGround r w l last → AreBins (arena_with r w l last) l.lists
 lists_of r w l last g = record { bins = refl; sound = g.sound }
 
+-- ---- main, and other arenas
+
+pub kinds : (b : Bool) → IsTrue b ⊎ (b ≡ false)
+kinds true = inl refl
+kinds false = inr refl
+
+pub in_beside : (a : Plain) (closed : List ℕ) (bins : List (List Chunk)) (last : Option ℕ) (most : ℕ) → IsPlacedIn a closed → IsPlacedIn (record a { bins = bins; last = last; most = most }) closed
+in_beside a closed bins last most p = record {
+  main = λ is. placed_beside a bins last most (p.main is);
+  other = λ is. heaps_beside a closed bins last most (p.other is);
+}
+
+-- a move that takes and gives no bytes
+pub in_still : (a new : Plain) (left came : Chunk → ℕ) (closed : List ℕ) → Moved a new left came nothing nothing → beside new ≡ beside a → top_end new ≡ top_end a → IsPlacedIn a closed → IsPlacedIn new closed
+in_still a new left came closed moved same end p =
+    let kind : is_main a ≡ is_main new = ap (λ (x : Plain). is_main x) (sym same) in
+    record {
+      main = λ is. placed_along a new left came moved same (p.main (kind ∙ is));
+      other = λ is. heap_still a new left came closed moved same end (p.other (kind ∙ is));
+    }
+
 -- a tile lies where main begins, or behind
 pub high_tile : (r : Regions) (w : TileRow) (l : Linked) (last : Option ℕ) (n : ℕ) (t : Tile) → IsSoundGround r w l last → tile_at n w.tiles ≡ Some t → main_start ≤ n
 high_tile r w l last n t g found =
     let a : Plain = arena_with r w l last in
+    let here : t.addr ≡ n = addr_at n t w.tiles found in
+    let in_main : IsTrue (is_main a) → main_start ≤ n = λ is.
     elim (cases_lt n main_start) [
       | inr ge ↦ ge
       | inl lt ↦
-          let out : times_covered n a ≡ 0 = uncovered a n g.ground.placed (record { break = inl lt; pieces = inl (omega (arith, lt)) }) in
-          let here : t.addr ≡ n = addr_at n t w.tiles found in
+          let out : times_covered n a ≡ 0 = uncovered a n (g.ground.placed.main is) (record { break = inl lt; pieces = inl (omega (arith, lt)) }) in
           let size : 32 ≤ t.size = (tile_is t w.tiles g.sound.row (ap (λ m. tile_at m w.tiles) here ∙ found)).size.0 in
           absurd (omega (arith, out, covered_by n n t w.tiles found, covers_one n t.addr t.size (omega (arith, here)) (omega (arith, here, size))))
+    ] in
+    elim (kinds (is_main a)) [
+      | inl is ↦ in_main is
+      | inr is ↦ omega (arith, here, all_at (λ u. heap_start a 0 ≤ u.addr) n t w.tiles (all_from a r.closed.items g.sound.row (g.ground.placed.other is)) found)
     ]
+
+-- all tiles together have less than 16 GiB
+pub ground_below : (r : Regions) (w : TileRow) (l : Linked) (last : Option ℕ) → IsGround r w l last → sum_by (λ (t : Tile). t.size) w.tiles < 2 ^ 34
+ground_below r w l last g =
+    let a : Plain = arena_with r w l last in
+    elim (kinds (is_main a)) [
+      | inl is ↦ omega (arith, main_bytes a (g.placed.main is))
+      | inr is ↦ omega (arith, bytes_bounded a r.closed.items (g.placed.other is))
+    ]
+
+-- main, seen without its bins
+pub bare_main : (r : Regions) (w : TileRow) (l : Linked) (last : Option ℕ) → IsGround r w l last → IsTrue (is_main (arena_with r w l last)) → IsMainPlaced (bare_arena r w.tiles)
+bare_main r w l last g is = placed_beside (arena_with r w l last) [] None r.most (g.placed.main is)
+
+-- the regions of another arena, seen without its bins
+pub other_of : (r : Regions) (w : TileRow) (l : Linked) (last : Option ℕ) → IsGround r w l last → is_main (arena_with r w l last) ≡ false → IsOther r w.tiles
+other_of r w l last g is = record {
+  known = g.known;
+  placed = heaps_beside (arena_with r w l last) r.closed.items [] None r.most (g.placed.other is);
+  room = g.room;
+}
 
 -- ---- a ground after a move
 
@@ -103,24 +157,35 @@ pub record AreWordsKept (w v : TileRow) (l m : Linked) : Type 0 where
   pub tiles : v.extent ≡ w.extent
   pub links : m.extent ≡ l.extent
 
-pub kept_words : (r s : Regions) (w v : TileRow) (l m : Linked) (last now : Option ℕ) → IsGround r w l last → AreWordsKept w v l m → s.number ≡ r.number → KnowsTop s.top v.tiles → IsMainPlaced (arena_with s v m now) → IsGround s v m now
-kept_words r s w v l m last now g k number known placed = record {
-  number = number ∙ g.number;
-  known = known;
-  placed = placed;
-  covers = subst (λ e. Covers e m.extent) (sym k.tiles) (subst (Covers w.extent) (sym k.links) g.covers);
-  base = ap (λ e. e.base) k.tiles ∙ g.base;
-  width = ap (λ e. e.width) k.tiles ∙ g.width;
-}
+abbrev pub windows_of : Regions → HeapWindows
+windows_of r = record { heap_max = r.heap_max; heaps = r.heaps }
 
--- after a move that takes and gives no bytes
-pub done : (r s : Regions) (w v : TileRow) (l m : Linked) (last now : Option ℕ) (new : Plain) (left came : Chunk → ℕ) → IsGround r w l last → Moved (arena_with r w l last) new left came nothing nothing → beside new ≡ beside (arena_with r w l last) → AreWordsKept w v l m → arena_with s v m now ≡ new → KnowsTop s.top v.tiles → IsDone s v m now new
-done r s w v l m last now new left came g moved same k is known = record {
-  is = is;
-  kept = kept_words r s w v l m last now g k (ap (λ (x : Plain). x.number) is ∙ ap (λ (x : Plain). x.number) same) known
-      (subst IsMainPlaced (sym is) (placed_along (arena_with r w l last) new left came moved same g.placed));
-}
+-- it is the same arena, with as much room for lengths
+pub record AreRegionsKept (r s : Regions) : Type 0 where
+  pub number : s.number ≡ r.number
+  pub windows : windows_of s ≡ windows_of r
+  pub room : vec_capacity r.closed ≤ vec_capacity s.closed
 
--- where top is the same tile as before
-pub same_top : (r : Regions) (w : TileRow) (l : Linked) (last : Option ℕ) (ts : List Tile) → IsGround r w l last → Row ts → top_of ts ≡ top_of w.tiles → KnowsTop r.top ts
-same_top r w l last ts g row e = record { row = row; is = ap address_of e ∙ g.known.is }
+pub kept_words : (r s : Regions) (w v : TileRow) (l m : Linked) (last now : Option ℕ) → IsGround r w l last → AreWordsKept w v l m → AreRegionsKept r s → KnowsTop s.top v.tiles → IsPlacedIn (arena_with s v m now) s.closed.items → IsGround s v m now
+kept_words r s w v l m last now g k same known placed =
+    let like : ℕ → HeapWindows → Plain = λ number windows. record (arena_with s v m now) { number = number; windows = windows } in
+    record {
+      known = known;
+      placed = placed;
+      room = omega (arith, g.room, same.room, ap (λ (x : HeapWindows). x.heaps) same.windows);
+      covers = subst (λ e. Covers e m.extent) (sym k.tiles) (subst (Covers w.extent) (sym k.links) g.covers);
+      base = ap (λ e. e.base) k.tiles ∙ (g.base ∙ λ i. words_start (like (sym same.number i) (sym same.windows i)));
+      width = ap (λ e. e.width) k.tiles ∙ (g.width ∙ λ i. part_bytes (like (sym same.number i) (sym same.windows i)) / 16);
+    }
+
+-- after a move that takes and gives no bytes, and leaves top as it is
+pub done : (r : Regions) (w v : TileRow) (l m : Linked) (last : Option ℕ) (new : Plain) (left came : Chunk → ℕ) → IsGround r w l last → Moved (arena_with r w l last) new left came nothing nothing → beside new ≡ beside (arena_with r w l last) → AreWordsKept w v l m → arena_with r v m last ≡ new → top_of v.tiles ≡ top_of w.tiles → IsDone r v m last new
+done r w v l m last new left came g moved same k is top =
+    let tiles : new.tiles ≡ v.tiles = ap (λ (x : Plain). x.tiles) (sym is) in
+    let end : top_end new ≡ top_end (arena_with r w l last) = ap (λ (o : Option Tile). elim o [ None ↦ 0 | Some t ↦ end_of t ]) (ap top_of tiles ∙ top) in
+    record {
+      is = is;
+      kept = kept_words r r w v l m last last g k (record { number = refl; windows = refl; room = omega arith })
+          (record { row = subst Row tiles moved.sound.row; is = ap address_of top ∙ g.known.is })
+          (subst (λ x. IsPlacedIn x r.closed.items) (sym is) (in_still (arena_with r w l last) new left came r.closed.items moved same end g.placed));
+    }

@@ -18,7 +18,7 @@ use Rattle.heap_top.specs.declared.regions.Regions.{Regions}
 use Rattle.heap_top.proofs.TopLaws.{none_inside}
 use Rattle.arena_ground.specs.Grounds.{arena_with, chunk_at, chunks_at, bins_at}
 use Rattle.arena_ground.proofs.Bridges.{agree, size_kept, bin_is, bin_set, unlinked_at, bins_without}
-use Rattle.arena_ground.proofs.Keeping.{top_swapped, IsSoundGround, lists_of, IsDone, done, same_top}
+use Rattle.arena_ground.proofs.Keeping.{top_swapped, IsSoundGround, lists_of, IsDone, done}
 
 -- a used chunk is the tile at its address, and in no bin
 pub own_tile : (r : Regions) (w : TileRow) (l : Linked) (last : Option ℕ) (c : Chunk) → IsSoundGround r w l last → IsTrue (is_own (arena_with r w l last) c) → tile_at c.at w.tiles ≡ Some (tile_of Used c.at c.size)
@@ -42,8 +42,8 @@ claim_done r w l m last c g some lists links =
     ap (bins_at now) lists
     ∙ (agree w.tiles now (map (apart_from c.at) l.lists) (λ n some. size_kept c.at n t x w.tiles found refl refl)
     ∙ bins_without a l.lists c (lists_of r w l last g) some) in
-    done r r w v l m last last (claimed a c) _ _ g.ground moved refl (record { tiles = refl; links = links }) (λ i. record (claimed a c) { bins = bins i })
-    (same_top r w l last now g.ground moved.sound.row (top_swapped c.at (x ∷ []) t w.tiles found refl refl))
+    done r w v l m last (claimed a c) _ _ g.ground moved refl (record { tiles = refl; links = links }) (λ i. record (claimed a c) { bins = bins i })
+    (top_swapped c.at (x ∷ []) t w.tiles found refl refl)
 
 -- ---- a used chunk is shelved
 
@@ -63,8 +63,8 @@ shelve_done r w l m last c g own alone lists links =
     ∙ (agree w.tiles now (put_front 1 c.at l.lists) (λ n some. sizes n)
     ∙ (bin_set w.tiles l.lists 1 (c.at ∷ list_at 1 l.lists)
     ∙ ap (λ cs. set (bins_at w.tiles l.lists) 1 cs) (ap (λ d. d ∷ chunks_at w.tiles (list_at 1 l.lists)) here ∙ ap (λ cs. c ∷ cs) (sym (bin_is w.tiles l.lists 1))))) in
-    done r r w v l m last last (shelved a c) _ _ g.ground moved refl (record { tiles = refl; links = links }) (λ i. record (shelved a c) { bins = bins i })
-    (same_top r w l last now g.ground moved.sound.row (top_swapped c.at (x ∷ []) t w.tiles found refl refl))
+    done r w v l m last (shelved a c) _ _ g.ground moved refl (record { tiles = refl; links = links }) (λ i. record (shelved a c) { bins = bins i })
+    (top_swapped c.at (x ∷ []) t w.tiles found refl refl)
 
 -- ---- a used chunk is parted
 
@@ -86,5 +86,5 @@ part_done r w l last c nb g own first rest =
     ap size_in (swapped_other c.at n (x ∷ y ∷ []) w.tiles ne
     (ap (λ b. cond b (Some x) (tile_at n (y ∷ []))) (ne_eqb c.at n (λ e. ne (sym e))) ∙ ap (λ b. cond b (Some y) None) (ne_eqb (c.at + nb) n (λ e. ne2 (sym e))))) in
     let bins : bins_at now l.lists ≡ a.bins = agree w.tiles now l.lists apart in
-    done r r w v l l last last (parted a c nb) _ _ g.ground moved refl (record { tiles = refl; links = refl }) (λ i. record (parted a c nb) { bins = bins i })
-    (same_top r w l last now g.ground moved.sound.row (top_swapped c.at (x ∷ y ∷ []) t w.tiles found refl refl))
+    done r w v l l last (parted a c nb) _ _ g.ground moved refl (record { tiles = refl; links = refl }) (λ i. record (parted a c nb) { bins = bins i })
+    (top_swapped c.at (x ∷ y ∷ []) t w.tiles found refl refl)

@@ -126,8 +126,8 @@ sort_done r w l m last c g some lists links =
     let a : Plain = arena_with r w l last in
     let moved = (sorted_moved a c g.sound some).moved in
     let bins : bins_at w.tiles m.lists ≡ (sorted_in a c).bins = ap (bins_at w.tiles) lists ∙ sorted_bins r w l last c g some in
-    done r r w w l m last last (sorted_in a c) _ _ g.ground moved (beside_sorted a c) (record { tiles = refl; links = links })
-    (ap (λ bins. record a { bins = bins }) bins ∙ sorted_else a c) g.ground.known
+    done r w w l m last (sorted_in a c) _ _ g.ground moved (beside_sorted a c) (record { tiles = refl; links = links })
+    (ap (λ bins. record a { bins = bins }) bins ∙ sorted_else a c) refl
 
 -- ---- the first bin that has a chunk
 

@@ -1,6 +1,6 @@
--- A ground after a move of top, or of main's ranges.
-use Rattle.std.proofs.Common.{◌≡◌, ℕ, ◌+◌, ◌-◌, false, List, [], ◌∷◌, Option, Some, None, IsTrue, refl, sym, ap, ◌∙◌, subst, arith}
-use Rattle.std.specs.Prelude.{sum_by}
+-- A ground after a move of top, of main's ranges, or of its words.
+use Rattle.std.proofs.Common.{◌≡◌, ℕ, ◌+◌, ◌-◌, ◌≤◌, false, List, [], ◌∷◌, Option, Some, None, IsTrue, refl, sym, ap, ◌∙◌, subst, arith, true≢false}
+use Rattle.std.specs.Prelude.{nat_eq, sum_by, vec_capacity}
 use Rattle.chunk_tags.specs.declared.tiles.Chunk.{Chunk}
 use Rattle.chunk_tags.specs.BinOrder.{times_in}
 use Rattle.chunk_tags.specs.Sizes.{IsChunkSize}
@@ -13,8 +13,8 @@ use Rattle.part_words.specs.Extents.{Covers}
 use Rattle.chunk_image.specs.Rows.{TileRow}
 use Rattle.address_space.specs.Spaces.{main_start, piece_start}
 use Rattle.large_bins.specs.SeenChunks.{size_in}
-use Rattle.arena_rules.specs.PlainArena.{Plain, IsSound, is_own, beside}
-use Rattle.arena_rules.specs.Moves.{tile_of, with_tiles, absorbed, cut_from_top, is_before_top, is_free_tile}
+use Rattle.arena_rules.specs.PlainArena.{Plain, IsSound, is_main, is_own, beside}
+use Rattle.arena_rules.specs.Moves.{tile_of, with_tiles, absorbed, cut_from_top, is_before_top, is_free_tile, top_end}
 use Rattle.arena_rules.specs.Growth.{break_taken, has_top_for, noted, piece_taken}
 use Rattle.arena_rules.specs.Trim.{main_cut, CanCutMain}
 use Rattle.arena_rules.specs.Resize.{fits_with_top, grown_into_top}
@@ -24,15 +24,15 @@ use Rattle.arena_rules.proofs.Merging.{HasTopBehind, has_top_behind, absorbed_mo
 use Rattle.arena_rules.proofs.Resizes.{grown_into_top_moved, beside_grown_into_top}
 use Rattle.arena_rules.proofs.Tops.{top_at}
 use Rattle.heap_top.specs.declared.regions.Regions.{Regions}
-use Rattle.heap_top.specs.Regions.{arena_of, bare_arena, HasTop, KnowsTop}
+use Rattle.heap_top.specs.Regions.{arena_of, HasTop, KnowsTop}
 use Rattle.heap_top.specs.MainRanges.{IsNewRange}
-use Rattle.arena_rules.specs.MainPlaces.{IsMainPlaced}
-use Rattle.arena_rules.proofs.MainPlaces.{placed_along, placed_beside}
-use Rattle.heap_top.proofs.MainMoves.{IsMainKept, cut_kept, break_kept, piece_kept, trim_kept}
+use Rattle.arena_rules.proofs.Moved.{Moved, nothing}
+use Rattle.arena_rules.proofs.TopEnds.{absorbed_end, grown_into_top_end}
+use Rattle.heap_top.proofs.MainMoves.{IsCutOff, IsMainKept, cut_off, break_kept, piece_kept, trim_kept}
 use Rattle.heap_top.proofs.TopLaws.{knows_top}
-use Rattle.arena_ground.specs.Grounds.{arena_with, bins_at, chunk_at, IsGround}
+use Rattle.arena_ground.specs.Grounds.{arena_with, bins_at, chunk_at, IsGround, IsPlacedIn}
 use Rattle.arena_ground.proofs.Bridges.{agree, times_all}
-use Rattle.arena_ground.proofs.Keeping.{IsSoundGround, IsDone, kept_words}
+use Rattle.arena_ground.proofs.Keeping.{in_beside, in_still, windows_of, AreRegionsKept, IsSoundGround, IsDone, kept_words}
 use Rattle.arena_ground.proofs.Moving.{own_tile}
 
 -- ---- in general
@@ -43,30 +43,79 @@ top_bins b ts lists s same =
     agree ts b.tiles lists (λ n some.
     ap size_in (listed_tile b (chunk_at ts n) s (omega (arith, some, times_all ts n lists, ap (sum_by (times_in (chunk_at ts n))) same))))
 
+-- what a change of the regions did
+pub record IsChangedTo (r s : Regions) (w v : TileRow) (l m : Linked) (last : Option ℕ) (new : Plain) : Type 0 where
+  pub arena : arena_of s v.tiles (bins_at w.tiles m.lists) last ≡ new
+  pub top : HasTop s.top v.tiles
+  pub extent : v.extent ≡ w.extent
+  pub links : m.extent ≡ l.extent
+  pub room : vec_capacity r.closed ≤ vec_capacity s.closed
+
+-- what is so of the arena after it
+pub record IsKeptIn (r : Regions) (w : TileRow) (m : Linked) (closed : List ℕ) (new : Plain) : Type 0 where
+  pub sound : IsSound new
+  pub placed : IsPlacedIn new closed
+  pub bins : new.bins ≡ bins_at w.tiles m.lists
+  pub number : new.number ≡ r.number
+  pub windows : new.windows ≡ windows_of r
+
+pub change_done : (r s : Regions) (w v : TileRow) (l m : Linked) (last : Option ℕ) (new : Plain) → IsGround r w l last → IsChangedTo r s w v l m last new → IsKeptIn r w m s.closed.items new → IsDone s v m last new
+change_done r s w v l m last new g t k =
+    let bins : bins_at v.tiles m.lists ≡ bins_at w.tiles m.lists =
+    ap (λ (x : Plain). bins_at x.tiles m.lists) t.arena ∙ top_bins new w.tiles m.lists k.sound k.bins in
+    let is : arena_with s v m last ≡ new = ap (λ bins. arena_of s v.tiles bins last) bins ∙ t.arena in
+    let same : AreRegionsKept r s = record {
+      number = ap (λ (x : Plain). x.number) t.arena ∙ k.number;
+      windows = ap (λ (x : Plain). x.windows) t.arena ∙ k.windows;
+      room = t.room;
+    } in
+    record {
+      is = is;
+      kept = kept_words r s w v l m last last g (record { tiles = t.extent; links = t.links }) same
+          (knows_top (arena_with s v m last) s.top (subst IsSound (sym is) k.sound) t.top) (subst (λ x. IsPlacedIn x s.closed.items) (sym is) k.placed);
+    }
+
 -- what a move of top did
 pub record IsTopMoved (r s : Regions) (w v : TileRow) (l : Linked) (last : Option ℕ) (new : Plain) : Type 0 where
   pub arena : arena_of s v.tiles (bins_at w.tiles l.lists) last ≡ new
   pub top : HasTop s.top v.tiles
   pub extent : v.extent ≡ w.extent
+  pub closed : s.closed ≡ r.closed
 
-top_done : (r s : Regions) (w v : TileRow) (l : Linked) (last : Option ℕ) (new : Plain) → IsGround r w l last → IsTopMoved r s w v l last new → IsSound new → IsMainPlaced new → new.bins ≡ bins_at w.tiles l.lists → new.number ≡ r.number → IsDone s v l last new
-top_done r s w v l last new g m sound placed same number =
-    let bins : bins_at v.tiles l.lists ≡ bins_at w.tiles l.lists =
-    ap (λ (x : Plain). bins_at x.tiles l.lists) m.arena ∙ top_bins new w.tiles l.lists sound same in
-    let is : arena_with s v l last ≡ new = ap (λ bins. arena_of s v.tiles bins last) bins ∙ m.arena in
-    record {
-      is = is;
-      kept = kept_words r s w v l l last last g (record { tiles = m.extent; links = refl }) (ap (λ (x : Plain). x.number) m.arena ∙ number)
-          (knows_top (arena_with s v l last) s.top (subst IsSound (sym is) sound) m.top) (subst IsMainPlaced (sym is) placed);
-    }
+pub top_done : (r s : Regions) (w v : TileRow) (l : Linked) (last : Option ℕ) (new : Plain) → IsGround r w l last → IsTopMoved r s w v l last new → IsKeptIn r w l r.closed.items new → IsDone s v l last new
+top_done r s w v l last new g m k =
+    change_done r s w v l l last new g (record { arena = m.arena; top = m.top; extent = m.extent; links = refl; room = omega (arith, ap (λ x. vec_capacity x) m.closed) })
+    (record { sound = k.sound; placed = subst (λ x. IsPlacedIn new x.items) (sym m.closed) k.placed; bins = k.bins; number = k.number; windows = k.windows })
+
+-- a move that takes and gives no bytes
+still_done : (r s : Regions) (w v : TileRow) (l : Linked) (last : Option ℕ) (new : Plain) (left came : Chunk → ℕ) → IsGround r w l last → IsTopMoved r s w v l last new → Moved (arena_with r w l last) new left came nothing nothing → beside new ≡ beside (arena_with r w l last) → top_end new ≡ top_end (arena_with r w l last) → new.bins ≡ bins_at w.tiles l.lists → IsDone s v l last new
+still_done r s w v l last new left came g m moved same end bins =
+    top_done r s w v l last new g m (record {
+      sound = moved.sound;
+      placed = in_still (arena_with r w l last) new left came r.closed.items moved same end g.placed;
+      bins = bins;
+      number = ap (λ (x : Plain). x.number) same;
+      windows = ap (λ (x : Plain). x.windows) same;
+    })
+
+-- a move of main
+main_done : (r s : Regions) (w v : TileRow) (l : Linked) (last : Option ℕ) (new : Plain) → IsGround r w l last → IsTrue (is_main (arena_with r w l last)) → IsTopMoved r s w v l last new → IsMainKept (arena_with r w l last) new → IsDone s v l last new
+main_done r s w v l last new g main m k =
+    top_done r s w v l last new g m (record {
+      sound = k.sound;
+      placed = record { main = λ is. k.placed; other = λ not. absurd (true≢false (sym main ∙ (ap (λ n. nat_eq n 0) (sym k.number) ∙ not))) };
+      bins = k.bins;
+      number = k.number;
+      windows = k.windows;
+    })
 
 -- ---- a chunk is cut off
 
 pub cut_done : (r s : Regions) (w v : TileRow) (l : Linked) (last : Option ℕ) (nb : ℕ) → IsSoundGround r w l last → IsChunkSize nb → IsTrue (has_top_for (arena_with r w l last) nb) → IsTopMoved r s w v l last (cut_from_top (arena_with r w l last) nb) → IsDone s v l last (cut_from_top (arena_with r w l last) nb)
 cut_done r s w v l last nb g chunk room m =
     let a : Plain = arena_with r w l last in
-    let kept : IsMainKept a (cut_from_top a nb) = cut_kept a nb g.sound g.ground.placed chunk room in
-    top_done r s w v l last (cut_from_top a nb) g.ground m kept.sound kept.placed kept.bins kept.number
+    let c : IsCutOff a nb = cut_off a nb g.sound chunk room in
+    still_done r s w v l last (cut_from_top a nb) _ c.came g.ground m c.moved (ap (λ (x : Plain). record x { bins = [] }) c.same) c.end (ap (λ (x : Plain). x.bins) c.same)
 
 -- ---- a chunk becomes part of it
 
@@ -81,7 +130,7 @@ pub absorb_done : (r s : Regions) (w v : TileRow) (l : Linked) (last : Option �
 absorb_done r s w v l last c g own before top m =
     let a : Plain = arena_with r w l last in
     let moved = absorbed_moved a c g.sound own top (free_not_found (tile_before c.at w.tiles) before) in
-    top_done r s w v l last (absorbed a c) g.ground m moved.sound (placed_along a (absorbed a c) _ _ moved refl g.ground.placed) refl refl
+    still_done r s w v l last (absorbed a c) _ _ g.ground m moved refl (absorbed_end a c g.sound own top) refl
 
 -- ---- a chunk grows into it
 
@@ -95,52 +144,47 @@ grown_bins a c nb =
 pub grow_done : (r s : Regions) (w v : TileRow) (l : Linked) (last : Option ℕ) (c : Chunk) (nb : ℕ) → IsSoundGround r w l last → IsTrue (is_own (arena_with r w l last) c) → IsChunkSize nb → IsTrue (fits_with_top (arena_with r w l last) c nb) → IsTopMoved r s w v l last (grown_into_top (arena_with r w l last) c nb) → IsDone s v l last (grown_into_top (arena_with r w l last) c nb)
 grow_done r s w v l last c nb g own chunk room m =
     let a : Plain = arena_with r w l last in
-    let new : Plain = grown_into_top a c nb in
-    let same : beside new ≡ beside a = beside_grown_into_top a c nb in
     let moved = grown_into_top_moved a c nb g.sound own room chunk in
-    top_done r s w v l last new g.ground m moved.sound (placed_along a new _ _ moved same g.ground.placed) (grown_bins a c nb) (ap (λ (x : Plain). x.number) same)
+    still_done r s w v l last (grown_into_top a c nb) _ _ g.ground m moved (beside_grown_into_top a c nb) (grown_into_top_end a c nb g.sound own room) (grown_bins a c nb)
 
 -- ---- main grows
 
-pub break_done : (r s : Regions) (w v : TileRow) (l : Linked) (last : Option ℕ) (growth : ℕ) → IsSoundGround r w l last → IsNewRange w.extent r.break_at growth (main_start + main_limit) → IsTopMoved r s w v l last (break_taken (arena_with r w l last) growth) → IsDone s v l last (break_taken (arena_with r w l last) growth)
-break_done r s w v l last growth g range m =
+pub break_done : (r s : Regions) (w v : TileRow) (l : Linked) (last : Option ℕ) (growth : ℕ) → IsSoundGround r w l last → IsTrue (is_main (arena_with r w l last)) → IsNewRange w.extent r.break_at growth (main_start + main_limit) → IsTopMoved r s w v l last (break_taken (arena_with r w l last) growth) → IsDone s v l last (break_taken (arena_with r w l last) growth)
+break_done r s w v l last growth g main range m =
     let a : Plain = arena_with r w l last in
-    let kept : IsMainKept a (break_taken a growth) = break_kept a growth g.sound g.ground.placed range.some range.pages range.window in
-    top_done r s w v l last (break_taken a growth) g.ground m kept.sound kept.placed kept.bins kept.number
+    main_done r s w v l last (break_taken a growth) g.ground main m (break_kept a growth g.sound (g.ground.placed.main main) range.some range.pages range.window)
 
-pub piece_done : (r s : Regions) (w v : TileRow) (l : Linked) (last : Option ℕ) (len : ℕ) → IsSoundGround r w l last → IsNewRange w.extent r.next_piece len (piece_start + main_limit) → IsTopMoved r s w v l last (piece_taken (arena_with r w l last) len) → IsDone s v l last (piece_taken (arena_with r w l last) len)
-piece_done r s w v l last len g range m =
+pub piece_done : (r s : Regions) (w v : TileRow) (l : Linked) (last : Option ℕ) (len : ℕ) → IsSoundGround r w l last → IsTrue (is_main (arena_with r w l last)) → IsNewRange w.extent r.next_piece len (piece_start + main_limit) → IsTopMoved r s w v l last (piece_taken (arena_with r w l last) len) → IsDone s v l last (piece_taken (arena_with r w l last) len)
+piece_done r s w v l last len g main range m =
     let a : Plain = arena_with r w l last in
-    let kept : IsMainKept a (piece_taken a len) = piece_kept a len g.sound g.ground.placed range.some range.pages range.window in
-    top_done r s w v l last (piece_taken a len) g.ground m kept.sound kept.placed kept.bins kept.number
+    main_done r s w v l last (piece_taken a len) g.ground main m (piece_kept a len g.sound (g.ground.placed.main main) range.some range.pages range.window)
 
 -- ---- the end of the break is given back
 
-pub trim_done : (r s : Regions) (w v : TileRow) (l : Linked) (last : Option ℕ) (bytes : ℕ) → IsSoundGround r w l last → CanCutMain (arena_with r w l last) bytes → IsTopMoved r s w v l last (main_cut (arena_with r w l last) bytes) → IsDone s v l last (main_cut (arena_with r w l last) bytes)
-trim_done r s w v l last bytes g can m =
+pub trim_done : (r s : Regions) (w v : TileRow) (l : Linked) (last : Option ℕ) (bytes : ℕ) → IsSoundGround r w l last → IsTrue (is_main (arena_with r w l last)) → CanCutMain (arena_with r w l last) bytes → IsTopMoved r s w v l last (main_cut (arena_with r w l last) bytes) → IsDone s v l last (main_cut (arena_with r w l last) bytes)
+trim_done r s w v l last bytes g main can m =
     let a : Plain = arena_with r w l last in
-    let kept : IsMainKept a (main_cut a bytes) = trim_kept a bytes g.sound g.ground.placed can in
-    top_done r s w v l last (main_cut a bytes) g.ground m kept.sound kept.placed kept.bins kept.number
+    main_done r s w v l last (main_cut a bytes) g.ground main m (trim_kept a bytes g.sound (g.ground.placed.main main) can)
 
 -- ---- other numbers, and more words
 
-placed_noted : (a : Plain) → IsMainPlaced a → IsMainPlaced (noted a)
-placed_noted a f = placed_beside a a.bins a.last (noted a).most f
-
-pub noted_kept : (r s : Regions) (w : TileRow) (l : Linked) (last : Option ℕ) → IsGround r w l last → s.top ≡ r.top → arena_with s w l last ≡ noted (arena_with r w l last) → IsGround s w l last
-noted_kept r s w l last g top is =
-    kept_words r s w w l l last last g (record { tiles = refl; links = refl }) (ap (λ (x : Plain). x.number) is)
-    (record { row = g.known.row; is = g.known.is ∙ sym top }) (subst IsMainPlaced (sym is) (placed_noted (arena_with r w l last) g.placed))
-
--- seen without its bins
-pub bare_placed : (r : Regions) (w : TileRow) (l : Linked) (last : Option ℕ) → IsGround r w l last → IsMainPlaced (bare_arena r w.tiles)
-bare_placed r w l last g = placed_beside (arena_with r w l last) [] None r.most g.placed
+pub noted_kept : (r s : Regions) (w : TileRow) (l : Linked) (last : Option ℕ) → IsGround r w l last → s.top ≡ r.top → s.closed ≡ r.closed → arena_with s w l last ≡ noted (arena_with r w l last) → IsGround s w l last
+noted_kept r s w l last g top closed is =
+    let a : Plain = arena_with r w l last in
+    let same : AreRegionsKept r s = record {
+      number = ap (λ (x : Plain). x.number) is;
+      windows = ap (λ (x : Plain). x.windows) is;
+      room = omega (arith, ap (λ x. vec_capacity x) closed);
+    } in
+    let placed : IsPlacedIn (noted a) r.closed.items = in_beside a r.closed.items a.bins a.last (noted a).most g.placed in
+    kept_words r s w w l l last last g (record { tiles = refl; links = refl }) same
+    (record { row = g.known.row; is = g.known.is ∙ sym top }) (subst (λ x. IsPlacedIn x s.closed.items) (sym is) (subst (λ x. IsPlacedIn (noted a) x.items) (sym closed) placed))
 
 pub opened_kept : (r : Regions) (w v : TileRow) (l m : Linked) (last : Option ℕ) → IsGround r w l last → v.tiles ≡ w.tiles → m.lists ≡ l.lists → Covers v.extent m.extent → v.extent.base ≡ w.extent.base → v.extent.width ≡ w.extent.width → IsGround r v m last
 opened_kept r w v l m last g tiles lists covers base width = record {
-  number = g.number;
   known = subst (KnowsTop r.top) (sym tiles) g.known;
-  placed = subst IsMainPlaced (λ i. arena_of r (sym tiles i) (bins_at (sym tiles i) (sym lists i)) last) g.placed;
+  placed = subst (λ x. IsPlacedIn x r.closed.items) (λ i. arena_of r (sym tiles i) (bins_at (sym tiles i) (sym lists i)) last) g.placed;
+  room = g.room;
   covers = covers;
   base = base ∙ g.base;
   width = width ∙ g.width;

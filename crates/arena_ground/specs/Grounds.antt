@@ -1,6 +1,6 @@
 -- A plain arena as words say it: tiles by address, and bins of addresses, whose sizes are those of the tiles (this
 -- project's own).
-use Rattle.std.specs.Prelude.{◌≡◌, ℕ, ◌-◌, ◌/◌, List, Option, map, if◌then◌else◌}
+use Rattle.std.specs.Prelude.{◌≡◌, ℕ, ◌-◌, ◌/◌, ◌≤◌, false, List, Option, Some, None, map, if◌then◌else◌, IsTrue, vec_capacity}
 use Rattle.chunk_tags.specs.declared.tiles.Chunk.{Chunk}
 use Rattle.chunk_tags.specs.declared.tiles.Tile.{Tile}
 use Rattle.chunk_tags.specs.Sizes.{is_small_size, small_index_of}
@@ -9,10 +9,12 @@ use Rattle.bin_links.specs.Lists.{Linked, put_front, without}
 use Rattle.chunk_image.specs.Rows.{TileRow}
 use Rattle.large_bins.specs.SeenChunks.{size_at, put_large}
 use Rattle.address_space.specs.Spaces.{main_start, piece_start}
-use Rattle.arena_rules.specs.PlainArena.{Plain}
+use Rattle.arena_rules.specs.PlainArena.{Plain, is_main}
 use Rattle.heap_top.specs.declared.regions.Regions.{Regions}
 use Rattle.heap_top.specs.Regions.{arena_of, KnowsTop}
 use Rattle.arena_rules.specs.MainPlaces.{IsMainPlaced}
+use Rattle.arena_rules.specs.Heaps.{heap_start}
+use Rattle.arena_rules.specs.HeapPlaces.{IsHeapPlaced}
 
 -- the arena, and which addresses have words
 pub record GroundView : Type 0 where
@@ -42,12 +44,30 @@ arena_with r w l last = arena_of r w.tiles (bins_at w.tiles l.lists) last
 abbrev pub view_of : Regions → TileRow → Linked → Option ℕ → GroundView
 view_of r w l last = record { arena = arena_with r w l last; extent = w.extent }
 
--- what is always so: it is main, whose tiles fill its ranges; the regions know its top; each tile's address has a link
--- word; and the words begin where main does, its pieces in the second part
+-- where the words of an arena begin, and how many bytes lie from the beginning of a part to that of the next: main's
+-- pieces are its second part, and each heap of another arena is a part
+abbrev pub words_start : Plain → ℕ
+words_start a = if is_main a then main_start else heap_start a 0
+
+abbrev pub part_bytes : Plain → ℕ
+part_bytes a = if is_main a then piece_start - main_start else a.windows.heap_max
+
+-- main fills its ranges, and another arena its heaps, of which these are closed
+pub record IsPlacedIn (a : Plain) (closed : List ℕ) : Type 0 where
+  pub main : IsTrue (is_main a) → IsMainPlaced a
+  pub other : is_main a ≡ false → IsHeapPlaced a closed
+
+-- what is always so: the regions know its top and have room for the lengths of all heaps; each tile's address has a link
+-- word; and the words begin where the arena does
 pub record IsGround (r : Regions) (w : TileRow) (l : Linked) (last : Option ℕ) : Type 0 where
-  pub number : r.number ≡ 0
   pub known : KnowsTop r.top w.tiles
-  pub placed : IsMainPlaced (arena_with r w l last)
+  pub placed : IsPlacedIn (arena_with r w l last) r.closed.items
+  pub room : r.heaps ≤ vec_capacity r.closed
   pub covers : Covers w.extent l.extent
-  pub base : w.extent.base ≡ main_start
-  pub width : w.extent.width ≡ (piece_start - main_start) / 16
+  pub base : w.extent.base ≡ words_start (arena_with r w l last)
+  pub width : w.extent.width ≡ part_bytes (arena_with r w l last) / 16
+
+-- the lists without the free chunk at the end of a heap
+abbrev pub lists_without : Option Tile → List (List ℕ) → List (List ℕ)
+lists_without None lists = lists
+lists_without (Some u) lists = map (without u.addr) lists

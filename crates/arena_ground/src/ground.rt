@@ -1,20 +1,22 @@
 //! An arena in its words.
 
-ghost use Rattle.std.specs.Prelude.{◌≡◌, ℕ, ◌≤◌, ◌+◌, map, ◌<◌, IfOk, OnOk};
+ghost use Rattle.std.specs.Prelude.{◌≡◌, ℕ, ◌≤◌, ◌+◌, map, ◌<◌, false, List, IfOk, OnOk};
 ghost use Rattle.chunk_tags.specs.Tunables.{main_limit};
 ghost use Rattle.address_space.specs.Spaces.{main_start, piece_start};
 ghost use Rattle.part_words.specs.Extents.{AreOpen, IsWithinPart};
-ghost use Rattle.arena_rules.specs.PlainArena.{bin_at, empty_main};
+ghost use Rattle.arena_rules.specs.PlainArena.{bin_at, empty_main, is_main};
 ghost use Rattle.chunk_tags.specs.declared.tiles.Chunk.{Chunk as Piece};
-ghost use Rattle.arena_rules.specs.MainPlaces.{IsMainPlaced};
+ghost use Rattle.arena_rules.specs.MainPlaces.{IsPlaced};
+ghost use Rattle.arena_rules.specs.HeapPlaces.{IsHeapPlaced};
+ghost use Rattle.heap_top.specs.HeapRanges.{IsHeapGrowth, IsNewHeap};
 ghost use Rattle.heap_top.specs.MainRanges.{IsNewRange};
 
 use crate::steps::{
     UNSORTED, addresses, best, bin_of, claim, first_oldest_from, is_free, is_top, join, oldest_in,
-    part, shelve, sort_in,
+    part, shelve, sort_in, unlink_end,
 };
 use address_space::{MAIN_START, PIECE_START};
-use arena_rules::Moves;
+use arena_rules::{HeapEnd, Moves};
 use bin_links::LinkWords;
 use chunk_image::TileWords;
 use chunk_tags::{Addr, Chunk, NoMemory, Size, Tile, TileKind, small_index};
@@ -23,7 +25,7 @@ use std::alloc::Global;
 use std::marker::Model;
 
 /// One arena: the words that say where its tiles are and which bins its free chunks are in, and the numbers of its
-/// regions. It is main now.
+/// regions. It is main, or another arena with its heaps.
 #[derive(Drop)]
 pub struct Ground {
     tiles: TileWords,
@@ -56,7 +58,7 @@ impl Ground {
         Ok(Ground {
             tiles: TileWords::new(alloc, Addr(MAIN_START), stride),
             links,
-            regions: Regions::main(),
+            regions: Regions::main(alloc),
             last: None,
             alloc,
         })
@@ -92,16 +94,18 @@ impl Ground {
         self.regions.most
     }
 
-    /// A law; the call does nothing. The tiles of main fill its break and its pieces.
+    /// A law; the call does nothing. The tiles of main fill its break and its pieces, and those of another arena its heaps,
+    /// of which some are closed.
     pub fn laws(&self)
-        ensures number { self.now.arena.number ≡ 0 }
-        ensures placed { IsMainPlaced self.now.arena }
+        ensures main { IsPlaced self.now.arena }
+        ensures heaps { is_main self.now.arena ≡ false
+            → (closed : List ℕ) × IsHeapPlaced self.now.arena closed }
     {
         let _ = &self.tiles;
     }
 
     /// Opens the words of a range: those of links first, so that each tile's address has one.
-    fn open(&mut self, at: u64, len: u64) -> Result<(), NoMemory>
+    fn open_words(&mut self, at: u64, len: u64) -> Result<(), NoMemory>
         requires { IsWithinPart self.old.extent at len }
         ensures room { OnOk result (AreOpen self.new.extent at len) }
         ensures arena { self.new.arena ≡ self.old.arena }
@@ -117,6 +121,10 @@ impl Moves for Ground {
     ghost break_room = { λ g growth. IsNewRange g.extent g.arena.break_at growth (main_start + main_limit) };
 
     ghost piece_room = { λ g len. IsNewRange g.extent g.arena.next_piece len (piece_start + main_limit) };
+
+    ghost extension_room = { λ g growth. IsHeapGrowth g.extent g.arena growth };
+
+    ghost heap_room = { λ g len. IsNewHeap g.extent g.arena len };
 
     fn number(&self) -> u8 {
         self.regions.number
@@ -257,7 +265,7 @@ impl Moves for Ground {
 
     fn make_break_room(&mut self, growth: u64) -> Result<(), NoMemory> {
         let at = self.regions.break_at;
-        self.open(at, growth)
+        self.open_words(at, growth)
     }
 
     fn take_break(&mut self, growth: u64) -> Option<Chunk> {
@@ -266,7 +274,7 @@ impl Moves for Ground {
 
     fn make_piece_room(&mut self, len: u64) -> Result<(), NoMemory> {
         let at = self.regions.next_piece;
-        self.open(at, len)
+        self.open_words(at, len)
     }
 
     fn take_piece(&mut self, len: u64) -> Option<Chunk> {
@@ -279,5 +287,85 @@ impl Moves for Ground {
 
     fn cut_main(&mut self, bytes: u64) {
         self.regions.cut_main(&mut self.tiles, bytes);
+    }
+
+    fn system(&self) -> u64 {
+        self.regions.system
+    }
+
+    fn top_law(&self) {
+        let _ = &self.tiles;
+    }
+
+    fn open(
+        alloc: Global,
+        number: u8,
+        heap_max: u64,
+        heaps: u16,
+        len: u64,
+    ) -> Result<Ground, NoMemory> {
+        let mut regions = Regions::other(alloc, number, heap_max, heaps)?;
+        let start = regions.heap_start(0);
+        let mut links = LinkWords::new(alloc, start, heap_max)?;
+        links.open(alloc, Addr(start), len)?;
+        let mut tiles = TileWords::new(alloc, Addr(start), heap_max);
+        tiles.open(alloc, Addr(start), len)?;
+        regions.open_heap(&mut tiles, len);
+        Ok(Ground {
+            tiles,
+            links,
+            regions,
+            last: None,
+            alloc,
+        })
+    }
+
+    fn heap_max(&self) -> u64 {
+        self.regions.heap_max
+    }
+
+    fn heaps(&self) -> u16 {
+        self.regions.heaps
+    }
+
+    fn last_heap(&self) -> u16 {
+        self.regions.last_heap()
+    }
+
+    fn last_length(&self) -> u64 {
+        self.regions.last_length(&self.tiles)
+    }
+
+    fn make_extension_room(&mut self, growth: u64) -> Result<(), NoMemory> {
+        let heap = u64::from(self.regions.last_heap());
+        let at = self.regions.heap_start(heap) + self.regions.last_length(&self.tiles);
+        self.open_words(at, growth)
+    }
+
+    fn extend_heap(&mut self, growth: u64) {
+        self.regions.extend_heap(&mut self.tiles, growth);
+    }
+
+    fn make_heap_room(&mut self, len: u64) -> Result<(), NoMemory> {
+        let heap = u64::from(self.regions.last_heap()) + 1;
+        let at = self.regions.heap_start(heap);
+        self.open_words(at, len)
+    }
+
+    fn add_heap(&mut self, len: u64) -> Option<Chunk> {
+        self.regions.add_heap(&mut self.tiles, len)
+    }
+
+    fn end_before(&self) -> Option<HeapEnd> {
+        self.regions.end_before(&self.tiles)
+    }
+
+    fn drop_heap(&mut self, end: &HeapEnd) {
+        unlink_end(&mut self.links, end);
+        self.regions.drop_heap(&mut self.tiles, end);
+    }
+
+    fn shorten_heap(&mut self, bytes: u64) {
+        self.regions.shorten_heap(&mut self.tiles, bytes);
     }
 }

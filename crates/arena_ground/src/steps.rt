@@ -3,15 +3,17 @@
 ghost use Rattle.std.specs.Prelude.{◌≡◌, ◌+◌, ◌-◌, ◌^◌, ◌<◌, ◌≤◌, false, drop, map, [], ◌∷◌, Some, IsSome, IfOk};
 ghost use Rattle.chunk_tags.specs.BinOrder.{IsFalling, best_of, oldest_of};
 ghost use Rattle.chunk_tags.specs.declared.tiles.Chunk.{Chunk as Piece};
+ghost use Rattle.chunk_tags.specs.declared.tiles.Tile.{Tile as Square};
 ghost use Rattle.chunk_tags.specs.Sizes.{IsChunkSize, bin_of as bin_index};
 ghost use Rattle.chunk_tags.specs.Tiles.{Row, is_edge, is_free as is_free_tile, is_top as is_top_tile, fused, swapped, tile_at, tile_behind};
 ghost use Rattle.part_words.specs.Extents.{Covers};
 ghost use Rattle.bin_links.specs.Lists.{bin_count, list_at, put_front, times_listed, without};
 ghost use Rattle.large_bins.specs.SeenChunks.{large_chunks, HaveTiles};
 ghost use Rattle.arena_rules.specs.Moves.{tile_of};
-ghost use Rattle.arena_ground.specs.Grounds.{bins_at, chunk_at, chunks_at, sorted_lists};
+ghost use Rattle.arena_ground.specs.Grounds.{bins_at, chunk_at, chunks_at, lists_without, sorted_lists};
 ghost use Rattle.arena_rules.specs.Search.{first_oldest};
 
+use arena_rules::HeapEnd;
 use bin_links::LinkWords;
 use chunk_image::TileWords;
 use chunk_tags::{Addr, Chunk, NoMemory, Size, Tile, TileKind, is_small, large_index, small_index};
@@ -116,6 +118,18 @@ pub(crate) fn claim(tiles: &mut TileWords, links: &mut LinkWords, c: Chunk)
         },
         TileKind::Used,
     );
+}
+
+/// The free chunk at the end of a heap leaves its bin.
+pub(crate) fn unlink_end(links: &mut LinkWords, end: &HeapEnd)
+    requires { (u : Square) → end.now.before ≡ Some u → 1 ≤ times_listed u.addr links.old.lists }
+    ensures lists { links.new.lists ≡ lists_without end.now.before links.old.lists }
+    ensures extent { links.new.extent ≡ links.old.extent }
+{
+    match end.before {
+        None => (),
+        Some(chunk) => links.unlink(chunk.addr),
+    }
 }
 
 /// A used chunk is free, in front of unsorted.

@@ -1,17 +1,21 @@
 //! The calls with ample memory.
 
 ghost use Rattle.std.specs.Prelude.{◌≡◌, IfOk};
+ghost use Rattle.heap_top.specs.HeapScenes.{one_heap, two_heaps, free_rest, heap_again};
 ghost use Rattle.arena_ground.specs.Scenes.{two_chunks, grown_behind_free};
 
 use super::*;
-use arena_rules::Moves;
-use chunk_tags::{Addr, Chunk, NoMemory, Size, TileKind};
+use arena_rules::{HeapEnd, Moves};
+use chunk_tags::{Addr, Chunk, NoMemory, Size, Tile, TileKind};
 use std::alloc::Global;
 use std::process::Abort;
 use std::test::Fail;
 
 /// Where main begins.
 const START: u64 = 0x5555_5555_9000;
+
+/// Where heap 0 of arena 1 begins.
+const HEAP: u64 = 0x7f00_0000_0000;
 
 /// Main with a chunk off its first growth, with what was to be released of an old top, and where the chunk is.
 fn with_a_chunk(alloc: Global) -> Result<(Ground, Option<Chunk>, Addr), NoMemory> {
@@ -69,6 +73,71 @@ fn join_the_next(ground: &mut Ground) -> Chunk
             size: Size(32),
         },
     )
+}
+
+/// Arena 1 with a chunk of 1024 bytes in its heap 0, and where that is.
+fn with_a_heap(alloc: Global) -> Result<(Ground, Addr), NoMemory>
+    ensures { IfOk result (λ x. x.0.arena ≡ one_heap) }
+{
+    let mut ground = Ground::open(alloc, 1, 65536, 2, 8192)?;
+    let at = ground.cut_top(Size(1024));
+    Ok((ground, at))
+}
+
+/// Heap 0 becomes a page longer, a second heap of two pages comes, and what is left of the old top is given.
+fn grow_heaps(ground: &mut Ground) -> Result<Option<Chunk>, NoMemory>
+    requires { ground.old.arena ≡ one_heap }
+    ensures { IfOk result (λ rest. ground.new.arena ≡ two_heaps) }
+{
+    ground.make_extension_room(4096)?;
+    ground.extend_heap(4096);
+    ground.make_heap_room(8192)?;
+    Ok(ground.add_heap(8192))
+}
+
+/// What is left of the old top is free.
+fn free_the_rest(ground: &mut Ground)
+    requires { ground.old.arena ≡ two_heaps }
+    ensures { ground.new.arena ≡ free_rest }
+{
+    ground.shelve(Chunk {
+        at: Addr(HEAP + 3264),
+        size: Size(8992),
+    });
+}
+
+/// The end of heap 0.
+fn end_of_first(ground: &Ground) -> Option<HeapEnd>
+    requires { ground.now.arena ≡ free_rest }
+{
+    ground.end_before()
+}
+
+/// The second heap is dropped.
+fn drop_second(ground: &mut Ground)
+    requires { ground.old.arena ≡ free_rest }
+    ensures { ground.new.arena ≡ heap_again }
+{
+    ground.drop_heap(&HeapEnd {
+        fence: Tile {
+            addr: Addr(HEAP + 12_256),
+            size: Size(32),
+            kind: TileKind::Fence,
+        },
+        before: Some(Tile {
+            addr: Addr(HEAP + 3264),
+            size: Size(8992),
+            kind: TileKind::Free,
+        }),
+        room: 53_248,
+    });
+}
+
+/// The heap that is left becomes a page shorter.
+fn shorten_first(ground: &mut Ground)
+    requires { ground.old.arena ≡ heap_again }
+{
+    ground.shorten_heap(4096);
 }
 
 /// The tiles are these, by place, size and kind.
@@ -131,5 +200,60 @@ fn a_chunk_grows_and_is_joined(rt: HostRuntime) -> Result<(), Fail> {
         ],
     )?;
     assert_eq!(rt; ground.bin(rt.alloc(), 1)?.len(), 1);
+    Ok(())
+}
+
+/// What the second heap changes.
+fn two_heaps_stand(
+    rt: &impl Abort,
+    alloc: Global,
+    ground: &Ground,
+    rest: Option<Chunk>,
+) -> Result<(), NoMemory> {
+    let want = Chunk {
+        at: Addr(HEAP + 3264),
+        size: Size(8992),
+    };
+    assert_eq!(rt; rest, Some(want));
+    assert_eq!(rt; ground.system(), 20_480);
+    expect_tiles(
+        rt,
+        alloc,
+        ground,
+        &[
+            (HEAP + 2240, 1024, TileKind::Used),
+            (HEAP + 3264, 8992, TileKind::Used),
+            (HEAP + 12_256, 32, TileKind::Fence),
+            (HEAP + 65_568, 8160, TileKind::Top),
+        ],
+    )
+}
+
+#[test]
+fn heaps_come_and_go(rt: HostRuntime) -> Result<(), Fail> {
+    let (mut ground, at) = with_a_heap(rt.alloc())?;
+    assert_eq!(rt; at, Addr(HEAP + 2240));
+    let rest = grow_heaps(&mut ground)?;
+    two_heaps_stand(&rt, rt.alloc(), &ground, rest)?;
+    free_the_rest(&mut ground);
+    assert_eq!(rt; ground.bin(rt.alloc(), 1)?.len(), 1);
+    let end = end_of_first(&ground).expect(&rt, "an end");
+    assert_eq!(rt; end.fence.addr, Addr(HEAP + 12_256));
+    assert_eq!(rt; end.fence.size, Size(32));
+    assert_eq!(rt; end.before.map(|t| t.addr), Some(Addr(HEAP + 3264)));
+    assert_eq!(rt; end.room, 53_248);
+    drop_second(&mut ground);
+    assert_eq!(rt; ground.bin(rt.alloc(), 1)?.len(), 0);
+    shorten_first(&mut ground);
+    assert_eq!(rt; ground.system(), 8192);
+    expect_tiles(
+        &rt,
+        rt.alloc(),
+        &ground,
+        &[
+            (HEAP + 2240, 1024, TileKind::Used),
+            (HEAP + 3264, 4928, TileKind::Top),
+        ],
+    )?;
     Ok(())
 }

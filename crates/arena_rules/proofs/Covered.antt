@@ -27,7 +27,7 @@ covers_adds n = record { adds = λ at m k. grind (arith, nat_tests) }
 abbrev pub weight_byte : ℕ → Tile → ℕ
 weight_byte n t = covers n t.addr t.size
 
-none_from : (n : ℕ) (us : List Tile) → Begins (n + 1) us → sum_by (weight_byte n) us ≡ 0
+pub none_from : (n : ℕ) (us : List Tile) → Begins (n + 1) us → sum_by (weight_byte n) us ≡ 0
 none_from n [] b = refl
 none_from n (u ∷ us) b = omega (arith, sum_by-cons (weight_byte n) u us, covers_none n u.addr u.size (inl (omega (arith, b.0))), none_from n us b.1)
 

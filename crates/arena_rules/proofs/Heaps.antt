@@ -1,16 +1,16 @@
 -- Laws of heaps that are dropped, for this crate and those above it: the heap of top, which is its only tile, goes, and
 -- the end of the heap before is top.
-use Rattle.std.proofs.Common.{◌≡◌, ℕ, ◌+◌, ◌<◌, ◌≤◌, Bool, true, false, ◌&&◌, ◌||◌, cond, List, [], ◌∷◌, Option, Some, None, refl, sym, ap, ◌∙◌, subst, inl, inr, arith}
+use Rattle.std.proofs.Common.{◌≡◌, ℕ, ◌+◌, ◌-◌, ◌<◌, ◌≤◌, Bool, true, false, ◌&&◌, ◌||◌, cond, List, [], ◌∷◌, Option, Some, None, refl, sym, ap, ◌∙◌, subst, inl, inr, arith}
 use Rattle.std.specs.Prelude.{slice_get}
 use Rattle.std.proofs.lemmas.Bool.{and_left, or_parts, and_cases, true≢false}
-use Rattle.chunk_tags.specs.declared.tunables.Tunables.{Tunables}
 use Rattle.chunk_tags.specs.Tiles.{is_free, is_top, is_edge, end_of, IsTile, Meets, Leads, Row, swapped, tile_before, top_of}
 use Rattle.chunk_tags.specs.declared.tiles.Tile.{Tile}
 use Rattle.chunk_tags.specs.declared.tiles.TileKind.{TileKind}
 use Rattle.chunk_tags.specs.declared.tiles.TileKind.TheVariants.{Used, Free, Top, Fence}
 use Rattle.arena_rules.specs.PlainArena.{Plain, unlinked, IsSound}
-use Rattle.arena_rules.specs.Moves.{tile_of}
-use Rattle.arena_rules.specs.Trim.{HeapEnd, free_part, heap_end_before, end_bytes, without_heap}
+use Rattle.arena_rules.specs.Moves.{tile_of, top_start}
+use Rattle.arena_rules.specs.declared.heap_end.HeapEnd.{HeapEnd}
+use Rattle.arena_rules.specs.Heaps.{free_part, end_before, end_bytes, end_start, heap_length, without_heap}
 use Rattle.arena_rules.proofs.Rows.{onto, at_place, first_is, Ends, front_ends, swapped_here, read, row_behind, Led, led, led_as, found_also, if_found, NotFree, MayLead, may_lead_behind}
 use Rattle.arena_rules.proofs.Counts.{same_tile}
 use Rattle.arena_rules.proofs.Changes.{IsChanged, changed_at, AreNeighbours, neighbours_before, resized_leads}
@@ -177,11 +177,11 @@ none_free (Some u) e =
     ] in
     cases (is_free u) refl e
 
-record IsFreePart (u : Tile) (o : Option Tile) : Type 0 where
-  found : o ≡ Some u
-  free : is_free u ≡ true
+pub record IsFreePart (u : Tile) (o : Option Tile) : Type 0 where
+  pub found : o ≡ Some u
+  pub free : is_free u ≡ true
 
-free_part_is : (u : Tile) (o : Option Tile) → Some u ≡ free_part o → IsFreePart u o
+pub free_part_is : (u : Tile) (o : Option Tile) → Some u ≡ free_part o → IsFreePart u o
 free_part_is u None e = absurd cc
 free_part_is u (Some v) e =
     let cases : (b : Bool) → is_free v ≡ b → Some u ≡ cond b (Some v) None → IsFreePart u (Some v) = elim [
@@ -190,42 +190,45 @@ free_part_is u (Some v) e =
     ] in
     cases (is_free v) refl e
 
-dropped : (t : Tunables) (a : Plain) (top f : Tile) (o : Option Tile) → IsSound a → AreNeighbours (tile_of Fence f.addr f.size) (tile_of Top top.addr top.size) a.tiles → o ≡ free_part (tile_before f.addr a.tiles) → Moved a (without_heap t a top (record { fence = f; before = o })) none none (λ v. v top.addr top.size) nothing
-dropped t a top f None s next e =
-    let end : HeapEnd = record { fence = f; before = None } in
-    whole_dropped a (without_heap t a top end) f.addr f.size top.addr top.size (end_bytes end) s next (none_free (tile_before f.addr a.tiles) e) (omega arith) refl refl
-dropped t a top f (Some u) s next e =
-    let end : HeapEnd = record { fence = f; before = Some u } in
+dropped : (a : Plain) (top f : Tile) (o : Option Tile) (room : ℕ) → IsSound a → top_start a ≡ top.addr → AreNeighbours (tile_of Fence f.addr f.size) (tile_of Top top.addr top.size) a.tiles → o ≡ free_part (tile_before f.addr a.tiles) → Moved a (without_heap a (record { fence = f; before = o; room = room })) none none (λ v. v top.addr top.size) nothing
+dropped a top f None room s start next e =
+    let end : HeapEnd = record { fence = f; before = None; room = room } in
+    whole_dropped a (without_heap a end) f.addr f.size top.addr top.size (end_bytes end) s next (none_free (tile_before f.addr a.tiles) e) (omega arith)
+    (ap (λ n. swapped f.addr (tile_of Top (end_start end) (end_bytes end) ∷ []) (swapped n [] a.tiles)) start) refl
+dropped a top f (Some u) room s start next e =
+    let end : HeapEnd = record { fence = f; before = Some u; room = room } in
     let p : IsFreePart u (tile_before f.addr a.tiles) = free_part_is u (tile_before f.addr a.tiles) e in
     let fence : Tile = tile_of Fence f.addr f.size in
     let before : AreNeighbours (tile_of Free u.addr u.size) fence a.tiles = neighbours_before (tile_of Free u.addr u.size) fence a.tiles s.row next.first (p.found ∙ ap (λ (x : Tile). Some x) (free_is u p.free)) in
-    free_end_dropped a (without_heap t a top end) u.addr u.size f.addr f.size top.addr top.size (end_bytes end) s before next refl refl refl
+    free_end_dropped a (without_heap a end) u.addr u.size f.addr f.size top.addr top.size (end_bytes end) s before next refl
+    (ap (λ n. swapped f.addr (tile_of Top (end_start end) (end_bytes end) ∷ []) (swapped n [] (swapped u.addr [] a.tiles))) start) refl
 
-record IsEndBefore (a : Plain) (top : Tile) (e : HeapEnd) : Type 0 where
-  fence : tile_before top.addr a.tiles ≡ Some e.fence
-  before : e.before ≡ free_part (tile_before e.fence.addr a.tiles)
+pub record IsEndBefore (a : Plain) (top : Tile) (e : HeapEnd) : Type 0 where
+  pub fence : tile_before top.addr a.tiles ≡ Some e.fence
+  pub before : e.before ≡ free_part (tile_before e.fence.addr a.tiles)
+  pub room : e.room ≡ a.windows.heap_max - heap_length a e.fence
 
-end_before : (a : Plain) (top : Tile) (e : HeapEnd) → heap_end_before a top ≡ Some e → IsEndBefore a top e
-end_before a top e is =
-    let cases : (o : Option Tile) → tile_before top.addr a.tiles ≡ o → elim o [ None ↦ None | Some f ↦ Some (record { fence = f; before = free_part (tile_before f.addr a.tiles) }) ] ≡ Some e → IsEndBefore a top e = elim [
+pub end_is : (a : Plain) (top : Tile) (e : HeapEnd) → end_before a top ≡ Some e → IsEndBefore a top e
+end_is a top e is =
+    let cases : (o : Option Tile) → tile_before top.addr a.tiles ≡ o → elim o [ None ↦ None | Some f ↦ Some (record { fence = f; before = free_part (tile_before f.addr a.tiles); room = a.windows.heap_max - heap_length a f }) ] ≡ Some e → IsEndBefore a top e = elim [
       | None ↦ λ found h. absurd cc
       | Some f ↦ λ found h.
-          let made : HeapEnd = record { fence = f; before = free_part (tile_before f.addr a.tiles) } in
-          let same : made ≡ e = end_is made e h in
-          subst (λ x. IsEndBefore a top x) same (record { fence = found; before = refl })
+          let made : HeapEnd = record { fence = f; before = free_part (tile_before f.addr a.tiles); room = a.windows.heap_max - heap_length a f } in
+          let same : made ≡ e = same_end made e h in
+          subst (λ x. IsEndBefore a top x) same (record { fence = found; before = refl; room = refl })
     ] in
     cases (tile_before top.addr a.tiles) refl is
   where
-    end_is : (d e : HeapEnd) → let o : Option HeapEnd = Some d in o ≡ Some e → d ≡ e
-    end_is d e h = cc
+    same_end : (d e : HeapEnd) → let o : Option HeapEnd = Some d in o ≡ Some e → d ≡ e
+    same_end d e h = cc
 
 -- The heap of top goes, which is a gap away from the tile before it.
-pub heap_dropped : (t : Tunables) (a : Plain) (top : Tile) (e : HeapEnd) → IsSound a → top_of a.tiles ≡ Some top → heap_end_before a top ≡ Some e → end_of e.fence < top.addr → Moved a (without_heap t a top e) none none (λ v. v top.addr top.size) nothing
-heap_dropped t a top e s is ends gap =
-    let b : IsEndBefore a top e = end_before a top e ends in
+pub heap_dropped : (a : Plain) (top : Tile) (e : HeapEnd) → IsSound a → top_of a.tiles ≡ Some top → end_before a top ≡ Some e → end_of e.fence < top.addr → Moved a (without_heap a e) none none (λ v. v top.addr top.size) nothing
+heap_dropped a top e s is ends gap =
+    let b : IsEndBefore a top e = end_is a top e ends in
     let f : IsTopOf top a.tiles = top_found top a.tiles s.row is in
     let next : AreNeighbours e.fence top a.tiles = neighbours_before e.fence top a.tiles s.row f.found b.fence in
     let fence : e.fence ≡ tile_of Fence e.fence.addr e.fence.size = fence_before a e.fence top s is next gap in
     let both : AreNeighbours (tile_of Fence e.fence.addr e.fence.size) (tile_of Top top.addr top.size) a.tiles =
     subst (λ x. AreNeighbours x (tile_of Top top.addr top.size) a.tiles) fence (subst (λ x. AreNeighbours e.fence x a.tiles) f.is next) in
-    dropped t a top e.fence e.before s both b.before
+    dropped a top e.fence e.before e.room s (ap (λ o. elim o [ None ↦ 0 | Some t ↦ t.addr ]) is) both b.before

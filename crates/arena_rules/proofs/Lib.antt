@@ -7,6 +7,10 @@ pub mod ChunkMoves
 pub mod Counts
 pub mod Covered
 pub mod Entries
+pub mod HeapEnds
+pub mod HeapPlaces
+pub mod HeapRanges
+pub mod HeapTiles
 pub mod Heaps
 pub mod KeptMappings
 pub mod Lookups
@@ -14,10 +18,12 @@ pub mod MainPlaces
 pub mod Mapped
 pub mod Merging
 pub mod Moved
+pub mod NewTops
 pub mod Own
 pub mod Resizes
 pub mod Rows
 pub mod Sorting
+pub mod TopEnds
 pub mod TopMoves
 pub mod Tops
 pub mod Walks

@@ -4,17 +4,17 @@ use Rattle.std.specs.Prelude.{if◌then◌else◌, nat_lt, nat_le, nat_eq}
 use Rattle.chunk_tags.specs.Pages.{mapping_length}
 use Rattle.chunk_tags.specs.BinOrder.{oldest_of, fast_chunk}
 use Rattle.chunk_tags.specs.Sizes.{is_small_size, small_index_of, fast_index_of}
-use Rattle.chunk_tags.specs.Tiles.{top_of}
 use Rattle.chunk_tags.specs.declared.tiles.Chunk.{Chunk}
 use Rattle.chunk_tags.specs.declared.tiles.Tile.{Tile}
 use Rattle.chunk_tags.specs.declared.tunables.Tunables.{Tunables}
 use Rattle.arena_rules.specs.declared.said.Said.{Said}
 use Rattle.arena_rules.specs.PlainArena.{Plain, unsorted_of, is_main, is_own, bin_at}
-use Rattle.arena_rules.specs.Moves.{claimed, left_of_top, top_start, cut_from_top, with_moved_top}
+use Rattle.arena_rules.specs.Moves.{claimed, left_of_top, top_start, cut_from_top}
 use Rattle.arena_rules.specs.Rules.{Rules, Stop, Misfit, Does, Needs, Maps, Counts, behind, flag_of, place_told, chunk_told, number_told}
-use Rattle.arena_rules.specs.Trim.{trimmed, trimmed_main, trimmed_heaps, heap_start, dropped_heaps, heap_cut, spare_bytes, main_spare, heap_end_before, drops_heap, without_heap}
+use Rattle.arena_rules.specs.Trim.{trimmed, trimmed_main, trimmed_heaps, dropped_heaps, heap_cut, spare_bytes, main_spare, is_enough_end}
+use Rattle.arena_rules.specs.Heaps.{end_before_heap, heap_added, without_heap}
 use Rattle.arena_rules.specs.Release.{Merging, merged, merging_bin, merging_bins, consolidated, consolidated_if, trimmed_by_threshold, settled, given, released, settling_size}
-use Rattle.arena_rules.specs.Growth.{Found, InArena, InMapping, Nowhere, Took, closing, break_rest, break_taken, main_growth, main_grown, piece_grown, first_length, last_heap, heap_added, heaps_grown, from_top, noted, has_top_for, maps_first, maps_else, grown, system_asked}
+use Rattle.arena_rules.specs.Growth.{Found, InArena, InMapping, Nowhere, Took, closing, break_rest, break_taken, main_growth, main_grown, piece_grown, first_length, next_heap_grown, heaps_grown, opened, from_top, noted, has_top_for, cut_from_grown, grown_again, other_grown, maps_first, maps_else, grown, system_asked}
 use Rattle.arena_rules.specs.Search.{Step, Taken, Onward, next_step, most_stashed, stashing_fast, fast_taken, stashing_small, small_taken, consolidated_first, splits_remainder, most_sorted, sorted_in, scan_end, scanned, scanned_all, best_taken, larger_taken, top_taken, looked, rounds, searched}
 use Rattle.arena_rules.specs.Mapped.{NeverMaps, MapsOnce, EndsMapped}
 
@@ -51,12 +51,12 @@ once_if nb false x y h k = k
 -- ---- trimming and release
 
 heap_cut_never : (t : Tunables) (threshold : ℕ) (a : Plain) → NeverMaps (heap_cut t threshold a)
-heap_cut_never t threshold a = never_option (top_of a.tiles) _ _ tt (λ top. never_if (nat_lt 0 (spare_bytes t a threshold)) _ _ tt tt)
+heap_cut_never t threshold a = never_if (nat_lt 0 (spare_bytes t a threshold)) _ _ tt tt
 
 dropped_never : (n : ℕ) (t : Tunables) (a : Plain) (go : Plain → Rules Plain) → ((b : Plain) → NeverMaps (go b)) → NeverMaps (dropped_heaps n t a go)
 dropped_never zero t a go h = h a
 dropped_never (suc n) t a go h =
-    never_option (top_of a.tiles) _ _ (h a) (λ top. never_option (heap_end_before a top) _ _ (h a) (λ e. never_if (drops_heap t a top e) _ _ (dropped_never n t (without_heap t a top e) go h) (h a)))
+    never_option (end_before_heap a) _ _ (h a) (λ e. never_if (is_enough_end t e) _ _ (dropped_never n t (without_heap a e) go h) (h a))
 
 trimmed_never : (t : Tunables) (a : Plain) (threshold : ℕ) → NeverMaps (trimmed t a threshold)
 trimmed_never t a threshold =
@@ -106,14 +106,16 @@ main_never (suc n) t nb a = λ s.
     let after : Plain → Rules Plain = λ b. if has_top_for b nb then Stop b else main_grown n t nb b in
     never_if (flag_of s) _ _ (never_behind (closing t (break_rest a) taken) after (closing_never t (break_rest a) taken) (λ b. never_if (has_top_for b nb) _ _ tt (main_never n t nb b))) (piece_never t nb a)
 
-heap_added_once : (t : Tunables) (nb : ℕ) (a : Plain) (refused : Rules Took) (go : Plain → Rules Took) → MapsOnce nb refused → ((b : Plain) → MapsOnce nb (go b)) → MapsOnce nb (heap_added t nb a refused go)
-heap_added_once t nb a refused go h k = λ s.
-    let len : ℕ = first_length t (nb + 64) in
-    let added : Plain = with_moved_top (record a { system = a.system + len }) (heap_start t a.number (last_heap t a + 1) + 32) (len - 32) in
-    once_if nb (flag_of s) _ _ (maps_once_behind nb (closing t (left_of_top a) added) go (closing_never t (left_of_top a) added) k) h
+next_heap_never : (t : Tunables) (nb : ℕ) (a : Plain) → NeverMaps (next_heap_grown t nb a)
+next_heap_never t nb a = λ s.
+    let added : Plain = heap_added a (first_length t (nb + 64)) in
+    never_if (flag_of s) _ _ (never_behind (closing t (left_of_top a) added) (λ b. Stop (Some b)) (closing_never t (left_of_top a) added) (λ b. tt)) tt
 
-heaps_once : (t : Tunables) (nb : ℕ) (a : Plain) (refused : Rules Took) (go : Plain → Rules Took) → MapsOnce nb refused → ((b : Plain) → MapsOnce nb (go b)) → MapsOnce nb (heaps_grown t nb a refused go)
-heaps_once t nb a refused go h k = λ s. once_if nb (flag_of s) _ _ (k _) (heap_added_once t nb a refused go h k)
+heaps_never : (t : Tunables) (nb : ℕ) (a : Plain) → NeverMaps (heaps_grown t nb a)
+heaps_never t nb a = λ s. never_if (flag_of s) _ _ tt (next_heap_never t nb a)
+
+pub opened_never_maps : (t : Tunables) (bytes : ℕ) (a : Plain) → NeverMaps (opened t bytes a)
+opened_never_maps t bytes a = λ s. never_if (flag_of s) _ _ tt (λ u. never_if (flag_of u) _ _ tt tt)
 
 maps_first_never : (t : Tunables) (nb : ℕ) (a : Plain) → NeverMaps (maps_first t nb a)
 maps_first_never t nb a = λ s. never_if (nat_le (number_told s) nb) _ _ (λ u. tt) tt
@@ -135,14 +137,20 @@ from_top_once nb a =
     ] in
     cases (has_top_for a nb)
 
+again_once : (t : Tunables) (nb : ℕ) (a : Plain) → MapsOnce nb (grown_again t nb a)
+again_once t nb a = maps_once_behind nb (heaps_grown t nb a) _ (heaps_never t nb a) (λ o. from_top_once nb (noted (elim o [ Some b ↦ b | None ↦ a ])))
+
+other_once : (t : Tunables) (nb : ℕ) (tried : Bool) (a : Plain) → MapsOnce nb (other_grown t nb tried a)
+other_once t nb tried a =
+    let after : (o : Option Plain) → MapsOnce nb (elim o [ Some b ↦ cut_from_grown nb b | None ↦ if tried then cut_from_grown nb a else maps_else nb a (grown_again t nb a) ]) = elim [
+      | None ↦ once_if nb tried _ _ (from_top_once nb (noted a)) (maps_else_once nb a (grown_again t nb a) (again_once t nb a))
+      | Some b ↦ from_top_once nb (noted b)
+    ] in
+    maps_once_behind nb (heaps_grown t nb a) _ (heaps_never t nb a) after
+
 grown_once : (t : Tunables) (nb : ℕ) (tried : Bool) (a : Plain) → MapsOnce nb (grown t nb tried a)
 grown_once t nb tried a =
-    let finish : Plain → Rules Took = λ b. Stop (from_top nb (noted b)) in
-    let ends : (b : Plain) → MapsOnce nb (finish b) = λ b. from_top_once nb (noted b) in
-    let again : Rules Took = heaps_grown t nb a (finish a) finish in
-    let refused : Rules Took = if tried then finish a else maps_else nb a again in
-    let goes : MapsOnce nb refused = once_if nb tried _ _ (ends a) (maps_else_once nb a again (heaps_once t nb a (finish a) finish (ends a) ends)) in
-    once_if nb (is_main a) _ _ (maps_once_behind nb (main_grown 2 t nb a) finish (main_never 2 t nb a) ends) (heaps_once t nb a refused finish goes ends)
+    once_if nb (is_main a) _ _ (maps_once_behind nb (main_grown 2 t nb a) (cut_from_grown nb) (main_never 2 t nb a) (λ b. from_top_once nb (noted b))) (other_once t nb tried a)
 
 system_once : (t : Tunables) (nb : ℕ) (a : Plain) → MapsOnce nb (system_asked t nb a)
 system_once t nb a =

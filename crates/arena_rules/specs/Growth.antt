@@ -3,14 +3,13 @@
 use Rattle.std.specs.Prelude.{ℕ, ◌+◌, ◌-◌, suc, zero, max, Bool, true, false, nat_eq, nat_lt, nat_le, List, [], ◌∷◌, Option, Some, None, if◌then◌else◌}
 use Rattle.chunk_tags.specs.declared.tiles.Chunk.{Chunk}
 use Rattle.chunk_tags.specs.Pages.{page_up_of, mapping_length}
-use Rattle.chunk_tags.specs.Tiles.{top_of}
 use Rattle.chunk_tags.specs.Dials.{MmapThreshold, MappedCount}
 use Rattle.chunk_tags.specs.declared.tunables.Tunables.{Tunables}
 use Rattle.address_space.specs.declared.asks.Ask.TheVariants as asks
 use Rattle.arena_rules.specs.PlainArena.{Plain, is_main}
 use Rattle.arena_rules.specs.Moves.{top_size, top_start, top_end, with_top_size, with_moved_top, left_of_top, cut_from_top}
 use Rattle.arena_rules.specs.Rules.{Rules, Stop, Does, Needs, Counts, Maps, behind, asks_for, reads, flag_of, place_told}
-use Rattle.arena_rules.specs.Trim.{heap_start, heap_index, heap_length}
+use Rattle.arena_rules.specs.Heaps.{heap_added, heap_extended, last_heap, last_length, opened_arena}
 use Rattle.arena_rules.specs.Release.{released}
 
 -- what was found: a chunk of the arena, a mapped chunk, or nothing
@@ -99,33 +98,34 @@ first_length t need = page_up_of (
     else (if nat_le (need + t.top_pad) t.heap_max then need + t.top_pad
     else (if nat_le need t.heap_max then t.heap_max else need)))
 
--- the heap that top is in
-abbrev pub last_heap : Tunables → Plain → ℕ
-last_heap t a = elim (top_of a.tiles) [ None ↦ 0 | Some top ↦ heap_index t a.number top.addr ]
-
-abbrev pub last_length : Tunables → Plain → ℕ
-last_length t a = elim (top_of a.tiles) [ None ↦ 0 | Some top ↦ heap_length t a.number top ]
-
 -- Where the last heap can't be extended a new one is asked for; behind its header, of 32 bytes, the rest is top.
-abbrev pub heap_added : Tunables → ℕ → Plain → Rules Took → (Plain → Rules Took) → Rules Took
-heap_added t nb a refused go =
-    let heap = last_heap t a + 1 in
+abbrev pub next_heap_grown : Tunables → ℕ → Plain → Rules (Option Plain)
+next_heap_grown t nb a =
     let len = first_length t (nb + 64) in
-    asks_for a (asks.NewHeap a.number heap len) (λ granted.
-    if granted
-    then behind (closing t (left_of_top a)
-    (with_moved_top (record a { system = a.system + len }) (heap_start t a.number heap + 32) (len - 32))) go
-    else refused)
+    asks_for a (asks.NewHeap a.number (last_heap a + 1) len) (λ granted.
+    if granted then behind (closing t (left_of_top a) (heap_added a len)) (λ b. Stop (Some b)) else Stop None)
 
--- The last heap is extended so far that top suffices; else a heap is added.
-abbrev pub heaps_grown : Tunables → ℕ → Plain → Rules Took → (Plain → Rules Took) → Rules Took
-heaps_grown t nb a refused go =
-    let growth = page_up_of (nb + 32 - top_size a) in
-    let len = last_length t a in
-    asks_for a (asks.GrowHeap a.number (last_heap t a) len (len + growth)) (λ granted.
-    if granted
-    then go (with_top_size (record a { system = a.system + growth }) (top_size a + growth))
-    else heap_added t nb a refused go)
+-- by how much the last heap is extended, so that top suffices
+abbrev pub extension_bytes : Plain → ℕ → ℕ
+extension_bytes a nb = page_up_of (nb + 32 - top_size a)
+
+-- The last heap is extended; else a heap is added. None is the refusal of both.
+abbrev pub heaps_grown : Tunables → ℕ → Plain → Rules (Option Plain)
+heaps_grown t nb a =
+    let len = last_length a in
+    let growth = extension_bytes a nb in
+    asks_for a (asks.GrowHeap a.number (last_heap a) len (len + growth)) (λ granted.
+    if granted then Stop (Some (heap_extended a growth)) else next_heap_grown t nb a)
+
+-- A new arena asks for its heap 0, with a need; behind its header and its record all is top.
+abbrev pub first_heap : Tunables → ℕ → Plain → Rules (Option Plain) → Rules (Option Plain)
+first_heap t need a refused =
+    let len = first_length t need in
+    asks_for a (asks.NewHeap a.number 0 len) (λ granted. if granted then Stop (Some (opened_arena a len)) else refused)
+
+-- The need is that of a request of so many bytes; where that is refused, the least.
+abbrev pub opened : Tunables → ℕ → Plain → Rules (Option Plain)
+opened t bytes a = first_heap t (bytes + 2248) a (first_heap t 2248 a (Stop None))
 
 -- All arenas.
 
@@ -154,14 +154,24 @@ maps_else nb a refused = behind (mapping nb a) (λ mapped. elim mapped [
   | None ↦ refused
 ])
 
--- the arena grows, and a chunk is cut from its top
+-- The arena grows, and a chunk is cut from its top.
+
+abbrev pub cut_from_grown : ℕ → Plain → Rules Took
+cut_from_grown nb a = Stop (from_top nb (noted a))
+
+-- another arena's extension and its new heap are tried once more
+abbrev pub grown_again : Tunables → ℕ → Plain → Rules Took
+grown_again t nb a = behind (heaps_grown t nb a) (λ grown. cut_from_grown nb (elim grown [ Some b ↦ b | None ↦ a ]))
+
+-- where both are refused a mapping is asked for, unless one was, and then both once more
+abbrev pub other_grown : Tunables → ℕ → Bool → Plain → Rules Took
+other_grown t nb tried a = behind (heaps_grown t nb a) (λ grown. elim grown [
+  | Some b ↦ cut_from_grown nb b
+  | None ↦ if tried then cut_from_grown nb a else maps_else nb a (grown_again t nb a)
+])
+
 abbrev pub grown : Tunables → ℕ → Bool → Plain → Rules Took
-grown t nb tried a =
-    let finish = λ (b : Plain). Stop (from_top nb (noted b)) in
-    if is_main a then behind (main_grown 2 t nb a) finish
-    else heaps_grown t nb a
-    (if tried then finish a else maps_else nb a (heaps_grown t nb a (finish a) finish))
-    finish
+grown t nb tried a = if is_main a then behind (main_grown 2 t nb a) (cut_from_grown nb) else other_grown t nb tried a
 
 -- whether a mapping is asked for first: the size reaches the threshold, and there aren't too many
 abbrev pub maps_first : Tunables → ℕ → Plain → Rules Bool

@@ -5,6 +5,8 @@ pub use Rattle.chunk_tags.specs.Tiles
 pub mod MainPlaces
 pub mod PlainArena
 pub mod Moves
+pub mod Heaps
+pub mod HeapPlaces
 pub mod Rules
 pub mod Walks
 pub mod Trim

@@ -1,6 +1,6 @@
 -- What rules of a hold do about mappings (this project's own): none is asked for, or one is granted at most, which is
 -- counted at once and is what the hold ends with.
-use Rattle.std.specs.Prelude.{◌≡◌, ℕ, Bool, true, false}
+use Rattle.std.specs.Prelude.{◌≡◌, ℕ, true, false}
 use Rattle.chunk_tags.specs.Pages.{mapping_length}
 use Rattle.chunk_tags.specs.declared.tiles.Chunk.{Chunk}
 use Rattle.arena_rules.specs.declared.said.Said.{Said}

@@ -1,12 +1,12 @@
 -- The moves of which every rule is made. Each keeps an arena sound: glibc 2.31 malloc/malloc.c, unlink_chunk and the
 -- writes of heads and of top in _int_malloc, _int_free and sysmalloc.
-use Rattle.std.specs.Prelude.{◌≡◌, ℕ, ◌+◌, ◌-◌, Bool, false, true, nat_lt, List, [], ◌∷◌, Option, Some, None, if◌then◌else◌}
+use Rattle.std.specs.Prelude.{◌≡◌, ℕ, ◌+◌, ◌-◌, Bool, false, nat_lt, List, [], ◌∷◌, Option, Some, None, if◌then◌else◌}
 use Rattle.chunk_tags.specs.declared.tiles.Chunk.{Chunk}
 use Rattle.chunk_tags.specs.Tiles.{is_free, is_top, swapped, fused, entered, tile_before, tile_behind, top_of, end_of}
 use Rattle.chunk_tags.specs.declared.tiles.Tile.{Tile}
 use Rattle.chunk_tags.specs.declared.tiles.TileKind.{TileKind}
 use Rattle.chunk_tags.specs.declared.tiles.TileKind.TheVariants.{Used, Free, Top, Fence}
-use Rattle.arena_rules.specs.PlainArena.{Plain, with_front, unlinked}
+use Rattle.arena_rules.specs.PlainArena.{Plain, IsSound, with_front, unlinked, times_used, once_of}
 
 abbrev pub tile_of : TileKind → ℕ → ℕ → Tile
 tile_of kind at size = record { addr = at; size = size; kind = kind }
@@ -126,3 +126,8 @@ left_of_top a = elim (top_of a.tiles) [
   | None ↦ None
   | Some t ↦ if nat_lt t.size 64 then None else Some (record { at = t.addr; size = t.size - 32 })
 ]
+
+-- A move after which the arena is sound, and its used chunks are those that there were, with one that may have come.
+pub record Gains (a : Plain) (came : Option Chunk) (b : Plain) : Type 0 where
+  pub sound : IsSound b
+  pub used : (e : Chunk) → times_used e b ≡ times_used e a + once_of e came

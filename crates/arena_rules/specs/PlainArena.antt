@@ -1,19 +1,28 @@
 -- What one arena consists of, in plain lists: glibc 2.31 malloc/malloc.c, malloc_state, seen without words and links.
-use Rattle.std.specs.Prelude.{◌≡◌, ℕ, ◌+◌, ◌-◌, ◌≤◌, ◌<◌, Bool, true, false, ◌&&◌, not, nat_eq, nat_lt, nat_le, List, [], ◌∷◌, map, length, replicate, Option, Some, None, is_some, if◌then◌else◌, count_by, sum_by, slice_index_or, slice_set}
+use Rattle.std.specs.Prelude.{◌≡◌, ℕ, ◌≤◌, Bool, true, ◌&&◌, nat_eq, nat_lt, List, [], ◌∷◌, map, length, replicate, Option, Some, None, if◌then◌else◌, count_by, sum_by, slice_index_or, slice_set}
 use Rattle.std.specs.List.{AllByRecursion}
 use Rattle.chunk_tags.specs.Sizes.{bin_of}
-use Rattle.chunk_tags.specs.BinOrder.{IsFalling, once, same_chunk, times_in, without}
+use Rattle.chunk_tags.specs.BinOrder.{IsFalling, once, times_in, without}
 use Rattle.chunk_tags.specs.declared.tiles.Chunk.{Chunk}
 use Rattle.chunk_tags.specs.Tiles.{is_used, is_free, is_top, Row}
 use Rattle.chunk_tags.specs.declared.tiles.Tile.{Tile}
 use Rattle.address_space.specs.Spaces.{main_start, piece_start}
 
--- One arena. Its number (main is 0), its tiles by address, and its bins by index: 1 is unsorted, 2 to 63 are small, 64
+-- The windows of an arena's heaps: how long each is, in bytes, and how many there may be. Main has none.
+pub record HeapWindows : Type 0 where
+  pub heap_max : ℕ
+  pub heaps : ℕ
+
+abbrev pub no_windows : HeapWindows
+no_windows = record { heap_max = 0; heaps = 0 }
+
+-- One arena. Its number (main is 0), the windows of its heaps, its tiles by address, and its bins by index: 1 is unsorted, 2 to 63 are small, 64
 -- to 126 large, each with its front first. Then the address of the last remainder; whether main is contiguous, the
 -- break, and the next place for a piece, which other arenas leave as they are; and the bytes from the system, with the
 -- most that there were.
 pub record Plain : Type 0 where
   pub number : ℕ
+  pub windows : HeapWindows
   pub tiles : List Tile
   pub bins : List (List Chunk)
   pub last : Option ℕ
@@ -31,6 +40,7 @@ empty_bins = replicate 127 []
 abbrev pub empty_main : Plain
 empty_main = record {
   number = 0;
+  windows = no_windows;
   tiles = [];
   bins = empty_bins;
   last = None;

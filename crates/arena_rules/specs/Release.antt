@@ -1,12 +1,12 @@
 -- A chunk is given up under an arena's lock: glibc 2.31 malloc/malloc.c, _int_free and malloc_consolidate.
-use Rattle.std.specs.Prelude.{ℕ, ◌+◌, ◌-◌, suc, zero, Bool, true, false, nat_lt, nat_le, List, [], ◌∷◌, length, Option, Some, None, if◌then◌else◌}
+use Rattle.std.specs.Prelude.{ℕ, ◌+◌, suc, zero, Bool, true, false, nat_lt, nat_le, length, Some, None, if◌then◌else◌}
 use Rattle.chunk_tags.specs.BinOrder.{fast_chunk}
 use Rattle.chunk_tags.specs.declared.tiles.Chunk.{Chunk}
-use Rattle.chunk_tags.specs.Sizes.{fast_index_of, fast_size_at}
+use Rattle.chunk_tags.specs.Sizes.{fast_index_of}
 use Rattle.chunk_tags.specs.Dials.{TrimThreshold}
 use Rattle.chunk_tags.specs.declared.tunables.Tunables.{Tunables}
 use Rattle.arena_rules.specs.PlainArena.{Plain, is_own}
-use Rattle.arena_rules.specs.Moves.{Hand, joined_before, joined_behind, is_before_top, absorbed, shelved, top_size}
+use Rattle.arena_rules.specs.Moves.{joined_before, joined_behind, is_before_top, absorbed, shelved, top_size}
 use Rattle.arena_rules.specs.Rules.{Rules, Stop, Misfit, Does, Clears, Gathers, Pushes, Stashes, behind, asks_flag, asks_room, pops_own, reads}
 use Rattle.arena_rules.specs.Trim.{trimmed}
 

@@ -1,7 +1,7 @@
 -- The rules of a hold of an arena, as a tree over the answers that it is told (this project's own form). It is
 -- written once, and read in several ways: replayed against a list of answers, left where memory is short, and walked
 -- by what the outside answers and is given.
-use Rattle.std.specs.Prelude.{ℕ, ◌+◌, Bool, true, false, ◌&&◌, not, nat_eq, List, [], ◌∷◌, ◌++◌, Option, Some, None, if◌then◌else◌}
+use Rattle.std.specs.Prelude.{ℕ, Bool, true, false, ◌&&◌, ◌||◌, not, nat_eq, List, [], ◌∷◌, Option, Some, None, if◌then◌else◌}
 use Rattle.chunk_tags.specs.declared.tiles.Chunk.{Chunk}
 use Rattle.chunk_tags.specs.Dials.{Dial}
 use Rattle.chunk_tags.specs.declared.tunables.Tunables.{Tunables}
@@ -12,13 +12,12 @@ use Rattle.address_space.specs.declared.asks.Back.{Back}
 use Rattle.address_space.specs.declared.asks.Answer.{Answer}
 use Rattle.address_space.specs.declared.asks.Answer.TheVariants.{Granted, Refused}
 use Rattle.address_space.specs.declared.space.Windows.{Windows}
-use Rattle.address_space.specs.Spaces.{break_passes, piece_passes}
+use Rattle.address_space.specs.Spaces.{break_passes, piece_passes, new_heap_passes, heap_growth_passes}
 use Rattle.arena_rules.specs.declared.said.Said.{Said}
 use Rattle.arena_rules.specs.declared.said.Said.TheVariants as told
-use Rattle.arena_rules.specs.PlainArena.{Plain}
+use Rattle.arena_rules.specs.PlainArena.{Plain, HeapWindows}
 use Rattle.thread_cache.specs.Caches.{CacheValue, with_newest, without_newest}
 use Rattle.chunk_tags.specs.Sizes.{cache_index_of}
-use Rattle.std.specs.Prelude.{nat_lt, ◌||◌, nat_le}
 
 -- What the rules need to be told: the flag; a chunk popped from a fast bin; the next chunk of its private list; whether
 -- the cache has room for a size; an answer to an ask; a mapping of so many bytes; a word.
@@ -146,12 +145,16 @@ is_mapping len (asks.Remap old_addr old_len new_addr new_len) = false
 abbrev pub windows_of : Tunables → Windows
 windows_of t = record { main_max = t.main_max; heap_max = t.heap_max; heaps = t.heaps }
 
+-- the windows of the heaps of another arena
+abbrev pub heap_windows_of : Tunables → HeapWindows
+heap_windows_of t = record { heap_max = t.heap_max; heaps = t.heaps }
+
 -- an ask that would pass its window; the place of a mapping is the port's
 abbrev pub passes_window : Windows → Ask → Bool
 passes_window w (asks.Break old new) = break_passes w new
 passes_window w (asks.Piece addr len) = piece_passes w addr len
-passes_window w (asks.NewHeap arena heap len) = nat_lt w.heap_max len || nat_le w.heaps heap
-passes_window w (asks.GrowHeap arena heap old new) = nat_lt w.heap_max new
+passes_window w (asks.NewHeap arena heap len) = new_heap_passes w heap len
+passes_window w (asks.GrowHeap arena heap old new) = heap_growth_passes w new
 passes_window w (asks.Map addr len) = false
 passes_window w (asks.Remap old_addr old_len new_addr new_len) = false
 

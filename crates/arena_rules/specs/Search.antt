@@ -1,6 +1,6 @@
 -- The search for a chunk in an arena: glibc 2.31 malloc/malloc.c, _int_malloc. At most two consolidations when top
 -- doesn't suffice are this project's own.
-use Rattle.std.specs.Prelude.{◌≡◌, ℕ, ◌+◌, ◌-◌, suc, zero, Bool, true, false, ◌&&◌, nat_eq, nat_lt, nat_le, List, [], ◌∷◌, drop, reverse, Option, Some, None, if◌then◌else◌}
+use Rattle.std.specs.Prelude.{ℕ, ◌+◌, ◌-◌, suc, zero, Bool, false, ◌&&◌, nat_eq, nat_lt, nat_le, List, [], ◌∷◌, drop, reverse, Option, Some, None, if◌then◌else◌}
 use Rattle.chunk_tags.specs.BinOrder.{oldest_of, inserted, best_of, fast_chunk}
 use Rattle.chunk_tags.specs.declared.tiles.Chunk.{Chunk}
 use Rattle.chunk_tags.specs.Sizes.{is_small_size, small_index_of, large_index_of, bin_of, fast_index_of}

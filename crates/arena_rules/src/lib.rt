@@ -6,8 +6,10 @@
 
 #[cfg(test)]
 mod examples;
+mod heap_end;
 mod moves;
 mod said;
 
+pub use heap_end::HeapEnd;
 pub use moves::Moves;
 pub use said::Said;

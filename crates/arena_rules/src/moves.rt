@@ -1,24 +1,28 @@
 //! An arena as the bodies of its rules change it.
 
-ghost use Rattle.std.specs.Prelude.{◌≡◌, ℕ, ◌+◌, ◌-◌, ◌%◌, ◌<◌, ◌≤◌, ◌^◌, false, nat_eq, drop, length, Some, IsTrue, IsNone, OnOk, OnErr};
+ghost use Rattle.std.specs.Prelude.{◌≡◌, ℕ, ◌+◌, ◌-◌, ◌%◌, ◌<◌, ◌≤◌, ◌^◌, false, nat_eq, drop, length, Some, None, IsTrue, IsNone, IsSome, IfOk, OnOk, OnErr};
 ghost use Rattle.address_space.specs.Spaces.{main_start, piece_start};
 ghost use Rattle.chunk_tags.specs.Tunables.{main_limit};
 ghost use Rattle.chunk_tags.specs.Sizes.{IsChunkSize, is_small_size, small_index_of, large_index_of, bin_of};
 ghost use Rattle.chunk_tags.specs.BinOrder.{times_in, oldest_of, best_of};
 ghost use Rattle.chunk_tags.specs.Tiles.{tile_before, tile_behind, top_of};
 ghost use Rattle.arena_rules.specs.PlainArena.{Plain, IsSound, is_main, is_own, bin_at, unsorted_of, times_listed};
-ghost use Rattle.arena_rules.specs.Moves.{hand, joined_before, joined_behind, is_before_top, is_free_tile, absorbed, shelved, claimed, parted, cut_from_top, left_of_top, top_size, top_start, StandsAlone};
+ghost use Rattle.arena_rules.specs.Heaps.{unopened, opened_arena, heap_added, heap_extended, heap_shortened, end_before_heap, without_heap, last_heap, last_length};
+ghost use Rattle.arena_rules.specs.HeapPlaces.{AreHeapWindows, IsHeapLength};
+ghost use Rattle.arena_rules.specs.Moves.{hand, joined_before, joined_behind, is_before_top, is_free_tile, absorbed, shelved, claimed, parted, cut_from_top, left_of_top, top_size, top_start, Gains, StandsAlone};
 ghost use Rattle.arena_rules.specs.Trim.{main_cut, CanCutMain};
 ghost use Rattle.arena_rules.specs.Growth.{has_top_for, break_taken, break_rest, piece_taken, noted};
 ghost use Rattle.arena_rules.specs.Search.{sorted_in, first_oldest};
 ghost use Rattle.arena_rules.specs.Resize.{fits_with_top, grown_into_top, is_next_to, joined_with};
 
+use crate::heap_end::HeapEnd;
 use chunk_tags::{Addr, Chunk, NoMemory, Size, Tile};
+use std::alloc::Global;
 
 /// An arena that can be moved through its rules, however it is kept (the program's is `Ground` of arena_ground).
 /// Contracts see the plain arena that it is; each call is one look or one move of the definitions (`Moves`, and for
-/// resizing, sorting, growing and trimming `Resize`, `Search`, `Growth`, `Trim`). None but those that make room takes
-/// memory.
+/// resizing, sorting, growing and trimming `Resize`, `Search`, `Growth`, `Trim`, `Heaps`). None but `open` and those that
+/// make room takes memory.
 pub trait Moves {
     ghost plain: { Self → Plain };
 
@@ -26,6 +30,11 @@ pub trait Moves {
     ghost break_room: { Self → ℕ → Type 0 };
 
     ghost piece_room: { Self → ℕ → Type 0 };
+
+    /// Whether there is room for an extension of another arena's last heap, and for one heap more, of so many bytes.
+    ghost extension_room: { Self → ℕ → Type 0 };
+
+    ghost heap_room: { Self → ℕ → Type 0 };
 
     /// The arena's number; main is 0.
     fn number(&self) -> u8
@@ -167,6 +176,10 @@ pub trait Moves {
         ensures at { result ≡ top_start (plain self.old) }
         ensures arena { plain self.new ≡ cut_from_top (plain self.old) nb };
 
+    /// The bytes from the system (glibc's `system_mem`).
+    fn system(&self) -> u64
+        ensures { result ≡ (plain self.now).system };
+
     // Growing and trimming main.
 
     /// Whether main's chunks have been side by side so far (glibc's `contiguous`).
@@ -225,4 +238,114 @@ pub trait Moves {
         requires main { IsTrue (is_main (plain self.old)) }
         requires spare { CanCutMain (plain self.old) bytes }
         ensures { plain self.new ≡ main_cut (plain self.old) bytes };
+
+    // The heaps of another arena.
+
+    /// A law; the call does nothing. Another arena has a top.
+    fn top_law(&self)
+        ensures { is_main (plain self.now) ≡ false → IsSome (top_of (plain self.now).tiles) };
+
+    /// Another arena with its heap 0, of so many bytes; `heap_max` and `heaps` are the length of its heaps' windows, in bytes,
+    /// and their number.
+    fn open(
+        alloc: Global,
+        number: u8,
+        heap_max: u64,
+        heaps: u16,
+        len: u64,
+    ) -> Result<Self, NoMemory>
+        requires other { 0 < number }
+        requires number { number < 64 }
+        requires windows { AreHeapWindows (record { heap_max = heap_max; heaps = heaps }) }
+        requires length { IsHeapLength (record { heap_max = heap_max; heaps = heaps }) len }
+        requires count { 0 < heaps }
+        ensures arena { IfOk result (λ g. plain g
+            ≡ opened_arena (unopened number (record { heap_max = heap_max; heaps = heaps })) len) }
+        ensures sound { IfOk result (λ g. IsSound (plain g)) };
+
+    /// The length of a heap's window, in bytes.
+    fn heap_max(&self) -> u64
+        requires { is_main (plain self.now) ≡ false }
+        ensures length { result ≡ (plain self.now).windows.heap_max }
+        ensures most { result ≤ 67108864 };
+
+    /// How many heaps there may be.
+    fn heaps(&self) -> u16
+        requires { is_main (plain self.now) ≡ false }
+        ensures count { result ≡ (plain self.now).windows.heaps }
+        ensures most { result ≤ 64 };
+
+    /// The heap that top is in.
+    fn last_heap(&self) -> u16
+        requires { is_main (plain self.now) ≡ false }
+        ensures heap { result ≡ last_heap (plain self.now) }
+        ensures one { result < (plain self.now).windows.heaps }
+        ensures few { result < 64 };
+
+    /// The length of that heap, in bytes.
+    fn last_length(&self) -> u64
+        requires { is_main (plain self.now) ≡ false }
+        ensures length { result ≡ last_length (plain self.now) }
+        ensures top { top_size (plain self.now) ≤ result }
+        ensures window { result ≤ (plain self.now).windows.heap_max }
+        ensures most { result ≤ 67108864 };
+
+    /// Makes room for an extension of the last heap inside its window. Nothing else changes.
+    fn make_extension_room(&mut self, growth: u64) -> Result<(), NoMemory>
+        requires other { is_main (plain self.old) ≡ false }
+        requires some { 0 < growth }
+        requires pages { growth % 4096 ≡ 0 }
+        requires window { last_length (plain self.old) + growth ≤ (plain self.old).windows.heap_max }
+        ensures room { OnOk result (extension_room self.new growth) }
+        ensures arena { plain self.new ≡ plain self.old };
+
+    /// Takes an extension of the last heap, which was granted (glibc's `grow_heap`).
+    fn extend_heap(&mut self, growth: u64)
+        requires sound { IsSound (plain self.old) }
+        requires other { is_main (plain self.old) ≡ false }
+        requires room { extension_room self.old growth }
+        ensures arena { plain self.new ≡ heap_extended (plain self.old) growth }
+        ensures gains { Gains (plain self.old) None (plain self.new) };
+
+    /// Makes room for one heap more. Nothing else changes.
+    fn make_heap_room(&mut self, len: u64) -> Result<(), NoMemory>
+        requires other { is_main (plain self.old) ≡ false }
+        requires length { IsHeapLength (plain self.old).windows len }
+        requires window { last_heap (plain self.old) + 1 < (plain self.old).windows.heaps }
+        ensures room { OnOk result (heap_room self.new len) }
+        ensures arena { plain self.new ≡ plain self.old };
+
+    /// Takes one heap more, which was granted: behind its header all is top. Gives what is to be released of the old top
+    /// (glibc's `new_heap` in `sysmalloc`).
+    fn add_heap(&mut self, len: u64) -> Option<Chunk>
+        requires sound { IsSound (plain self.old) }
+        requires other { is_main (plain self.old) ≡ false }
+        requires room { heap_room self.old len }
+        ensures rest { result ≡ left_of_top (plain self.old) }
+        ensures arena { plain self.new ≡ heap_added (plain self.old) len }
+        ensures gains { Gains (plain self.old) result (plain self.new) };
+
+    /// The end of the heap before the last one, where top is the first chunk of its heap (in glibc's `heap_trim`).
+    fn end_before(&self) -> Option<HeapEnd>
+        requires sound { IsSound (plain self.now) }
+        requires other { is_main (plain self.now) ≡ false }
+        ensures { result ≡ end_before_heap (plain self.now) };
+
+    /// Drops the last heap, of which top is the first chunk; the end of the heap before is top (glibc's `delete_heap`).
+    fn drop_heap(&mut self, end: &HeapEnd)
+        requires sound { IsSound (plain self.old) }
+        requires other { is_main (plain self.old) ≡ false }
+        requires end { end_before_heap (plain self.old) ≡ Some end.now }
+        ensures arena { plain self.new ≡ without_heap (plain self.old) end.now }
+        ensures gains { Gains (plain self.old) None (plain self.new) }
+        ensures fewer { length (plain self.new).tiles < length (plain self.old).tiles };
+
+    /// Takes so many bytes off the end of top and of the last heap (glibc's `shrink_heap`).
+    fn shorten_heap(&mut self, bytes: u64)
+        requires sound { IsSound (plain self.old) }
+        requires other { is_main (plain self.old) ≡ false }
+        requires left { bytes + 32 ≤ top_size (plain self.old) }
+        requires pages { bytes % 4096 ≡ 0 }
+        ensures arena { plain self.new ≡ heap_shortened (plain self.old) bytes }
+        ensures gains { Gains (plain self.old) None (plain self.new) };
 }

@@ -1,5 +1,6 @@
 mod BorderLaws
 mod CellLaws
+mod EndLaws
 mod FootLaws
 mod HeadLaws
 mod ReadLaws

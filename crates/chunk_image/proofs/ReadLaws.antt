@@ -20,7 +20,7 @@ abbrev pub tile_read : Parts Head → ℕ → Tile
 tile_read heads at =
     record { addr = at; size = (head_at heads at).size; kind = (head_at heads at).kind }
 
-some_of : (o : Option Tile) → IsSome o → (t : Tile) × (o ≡ Some t)
+pub some_of : (o : Option Tile) → IsSome o → (t : Tile) × (o ≡ Some t)
 some_of None some = cc
 some_of (Some t) some = (t, refl)
 

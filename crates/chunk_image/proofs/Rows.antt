@@ -4,7 +4,7 @@ use Rattle.std.proofs.lemmas.Bool.{cases_eq, cases_order, eq-eqb, ne_eqb, lt-ltb
 use Rattle.chunk_tags.specs.declared.tiles.Tile.{Tile}
 use Rattle.chunk_tags.specs.declared.tiles.TileKind.{TileKind}
 use Rattle.chunk_tags.specs.declared.tiles.TileKind.TheVariants.{Used, Free, Top, Fence}
-use Rattle.chunk_image.specs.Rows.{where_free, free_before_of}
+use Rattle.chunk_image.specs.Rows.{where_free, free_before_of, tile_ending}
 use Rattle.chunk_tags.specs.Tiles.{is_edge, is_free, end_of, IsTile, Row, swapped, fused, entered, tile_at, tile_before, tile_behind}
 
 -- Look-ups by address.
@@ -78,6 +78,42 @@ row_tile at (x ∷ []) t r found =
     tile_at_cases (λ o. o ≡ Some t → IsTile t) at x [] (λ _ here. let same : x ≡ t = cc in subst IsTile same r.0) (λ _ none. cc) found
 row_tile at (x ∷ y ∷ ys) t r found =
     tile_at_cases (λ o. o ≡ Some t → IsTile t) at x (y ∷ ys) (λ _ here. let same : x ≡ t = cc in subst IsTile same r.0) (λ _ rest. row_tile at (y ∷ ys) t r.2 rest) found
+
+-- The tile that ends at an address.
+
+pub record IsEnding (end : ℕ) (ts : List Tile) (t : Tile) : Type 0 where
+  pub found : tile_at t.addr ts ≡ Some t
+  pub ends : end_of t ≡ end
+
+spread_ending : (from end : ℕ) (ts : List Tile) (t : Tile) → IsSpread from ts → tile_ending end ts ≡ Some t → IsEnding end ts t
+spread_ending from end [] t s e = cc
+spread_ending from end (x ∷ ts) t s e =
+    elim (cases_eq (end_of x) end) [
+      | inl is ↦
+          let here : Some x ≡ Some t = rw (eq-eqb (end_of x) end is) at e in
+          let same : x ≡ t = cc in
+          subst (IsEnding end (x ∷ ts)) same (record { found = rw (eq-eqb x.addr x.addr refl) refl; ends = is })
+      | inr other ↦
+          let there : tile_ending end ts ≡ Some t = rw (ne_eqb (end_of x) end other) at e in
+          let rest : IsEnding end ts t = spread_ending (end_of x) end ts t s.2 there in
+          let below : end_of x ≤ t.addr = spread_below (end_of x) t.addr ts t s.2 rest.found in
+          record { found = rw (ne_eqb x.addr t.addr (λ e. omega (arith, e, below, s.1))) rest.found; ends = rest.ends }
+    ]
+
+-- one that is found ends there, and is the tile at its own address
+pub ending_is : (end : ℕ) (ts : List Tile) (t : Tile) → Row ts → tile_ending end ts ≡ Some t → IsEnding end ts t
+ending_is end ts t r e = spread_ending 0 end ts t (spread ts r) e
+
+spread_found : (from : ℕ) (ts : List Tile) (t : Tile) → IsSpread from ts → 0 < t.size → tile_at t.addr ts ≡ Some t → tile_ending (end_of t) ts ≡ Some t
+spread_found from [] t s some found = cc
+spread_found from (x ∷ ts) t s some found =
+    tile_at_cases (λ o. o ≡ Some t → tile_ending (end_of t) (x ∷ ts) ≡ Some t) t.addr x ts
+    (λ _ here. let same : x ≡ t = cc in rw (eq-eqb (end_of x) (end_of t) (ap (λ (y : Tile). end_of y) same)) here)
+    (λ _ there. rw (ne_eqb (end_of x) (end_of t) (λ e. omega (arith, e, some, spread_below (end_of x) t.addr ts t s.2 there))) (spread_found (end_of x) ts t s.2 some there)) found
+
+-- a tile of the row is found by its end
+pub ending_found : (ts : List Tile) (t : Tile) → Row ts → tile_at t.addr ts ≡ Some t → tile_ending (end_of t) ts ≡ Some t
+ending_found ts t r found = spread_found 0 ts t (spread ts r) (omega (arith, (row_tile t.addr ts t r found).size.0)) found
 
 -- Neighbours.
 

@@ -1,7 +1,7 @@
 -- The tiles of an arena, and which addresses have words for them (this project's own).
-use Rattle.std.specs.Prelude.{◌≡◌, ℕ, ◌+◌, ◌/◌, ◌%◌, ◌^◌, ◌<◌, List, [], Option, Some, None, if◌then◌else◌}
+use Rattle.std.specs.Prelude.{◌≡◌, ℕ, ◌+◌, ◌/◌, ◌%◌, ◌^◌, ◌<◌, nat_eq, List, [], ◌∷◌, Option, Some, None, if◌then◌else◌}
 use Rattle.chunk_tags.specs.declared.tiles.Tile.{Tile}
-use Rattle.chunk_tags.specs.Tiles.{is_free, tile_before}
+use Rattle.chunk_tags.specs.Tiles.{is_free, end_of, tile_before}
 use Rattle.part_words.specs.Extents.{Extent, AreOpen}
 
 -- the tiles in a row, by address
@@ -30,3 +30,8 @@ where_free (Some t) = if is_free t then Some t else None
 -- the tile before the one at an address, where it is free (prev_inuse and prev_chunk)
 abbrev pub free_before_of : ℕ → List Tile → Option Tile
 free_before_of at ts = where_free (tile_before at ts)
+
+-- the tile that ends at an address, the first where there are several (in a row there aren't)
+abbrev pub tile_ending : ℕ → List Tile → Option Tile
+tile_ending end [] = None
+tile_ending end (t ∷ ts) = if nat_eq (end_of t) end then Some t else tile_ending end ts

@@ -64,3 +64,19 @@ fn top_is_cut_and_made_whole(rt: HostRuntime) -> Result<(), Fail> {
     assert_eq!(rt; words.tile(Addr(4192)).size, Size(2048));
     Ok(())
 }
+
+#[test]
+fn a_tile_is_found_by_its_end(rt: HostRuntime) -> Result<(), Fail> {
+    let mut words = TileWords::new(rt.alloc(), Addr(4096), 65536);
+    words
+        .open(rt.alloc(), Addr(4096), 4096)
+        .expect(&rt, "memory");
+    let top = tile(6336, 1856, TileKind::Top);
+    words.enter(&top);
+    words.split(&top, Size(1808), TileKind::Used, TileKind::Fence);
+    let fence = words.ending_at(Addr(8192));
+    assert_eq!(rt; fence.addr, Addr(8144));
+    assert_eq!(rt; fence.size, Size(48));
+    assert_eq!(rt; words.ending_at(Addr(8144)).addr, Addr(6336));
+    Ok(())
+}

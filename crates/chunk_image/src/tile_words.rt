@@ -3,7 +3,7 @@
 ghost use Rattle.std.specs.Prelude.{◌≡◌, ◌+◌, ◌-◌, ◌^◌, ◌%◌, ◌<◌, ◌≤◌, ◌≢◌, [], ◌∷◌, ◌++◌, false, IsSome, IfOk, OnOk, OnErr};
 ghost use Rattle.chunk_tags.specs.Tiles.{is_edge, is_free, end_of, Row, swapped, fused, entered, tile_at, tile_behind};
 ghost use Rattle.part_words.specs.Extents.{extended, IsWithinPart};
-ghost use Rattle.chunk_image.specs.Rows.{no_tiles, free_before_of, IsRoom, IsWordSize};
+ghost use Rattle.chunk_image.specs.Rows.{no_tiles, free_before_of, tile_ending, IsRoom, IsWordSize};
 ghost use Rattle.chunk_image.specs.Heads.{tiles_with};
 
 use crate::heads::{Cell, Head, put, read_foot, read_head};
@@ -98,6 +98,27 @@ impl TileWords {
         let head = read_head(cells, end);
         Tile {
             addr: Addr(end),
+            size: Size(head.size),
+            kind: head.kind,
+        }
+    }
+
+    /// The tile that ends at an address. It is looked for backwards from there, word by word: of a fence, for which this is
+    /// meant, there are two or three.
+    pub fn ending_at(&self, end: Addr) -> Tile
+        requires row { Row self.now.tiles }
+        requires tile { IsSome (tile_ending end self.now.tiles) }
+        ensures { tile_ending end self.now.tiles ≡ Some result }
+    {
+        let cells = &self.cells;
+        let mut at = end.0 - 16;
+        let mut head = read_head(cells, at);
+        while head.size == 0 {
+            at -= 16;
+            head = read_head(cells, at);
+        }
+        Tile {
+            addr: Addr(at),
             size: Size(head.size),
             kind: head.kind,
         }

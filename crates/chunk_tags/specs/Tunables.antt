@@ -2,7 +2,7 @@
 use Rattle.chunk_tags.specs.declared.tunables.Tunables.{Tunables}
 use Rattle.chunk_tags.specs.declared.tunables.Mode.{Mode}
 use Rattle.chunk_tags.specs.declared.tunables.Mode.TheVariants.{Serial, Threads}
-use Rattle.std.specs.Prelude.{ℕ, ◌^◌, ◌<◌, ◌≤◌, true}
+use Rattle.std.specs.Prelude.{◌≡◌, ℕ, ◌^◌, ◌%◌, ◌<◌, ◌≤◌, true}
 
 -- the longest windows of main (this project's own)
 abbrev pub main_limit : ℕ
@@ -15,6 +15,11 @@ pub record IsTuned (t : Tunables) : Type 0 where
   pub bins : t.tcache_bins ≤ 64
   pub fast : t.max_fast ≤ 160
   pub main : t.main_max ≤ main_limit
+  pub heap_pages : t.heap_max % 4096 ≡ 0
+  pub heap_least : 65536 ≤ t.heap_max
+  pub heap_most : t.heap_max ≤ 67108864
+  pub heaps : t.heaps ≤ 64
+  pub one_heap : 0 < t.heaps
 
 -- a serial run's
 abbrev pub serial_values : Tunables

@@ -22,6 +22,7 @@ keeps_then {h = h} {m = m} {n = n} k l =
     record {
       sound = l.sound;
       number = l.number ∙ k.number;
+      windows = l.windows ∙ k.windows;
       placed = λ p. l.placed (k.placed p);
       cached = λ e. omega (arith, k.cached e, l.cached e, mid e, end e);
       others = λ n other e. k.others n other e ∙ l.others n (λ same. other (same ∙ k.number)) e;
@@ -35,6 +36,7 @@ spares_then {h = h} {m = m} {n = n} k l =
     record {
       sound = l.sound;
       number = l.number ∙ k.number;
+      windows = l.windows ∙ k.windows;
       placed = λ p. l.placed (k.placed p);
       cached = λ e. omega (arith, k.cached e, l.cached e, mid e, end e);
       others = λ n other e. k.others n other e ∙ l.others n (λ same. other (same ∙ k.number)) e;
@@ -42,7 +44,7 @@ spares_then {h = h} {m = m} {n = n} k l =
     }
 
 pub spares_here : {P K : Type 0} {fast : Fast P} (h : Hold P K) (given : Chunks) → IsSound h.arena → Spares fast h given h
-spares_here h given sound = record { sound = sound; number = refl; placed = λ p. p; cached = λ e. omega arith; others = λ n other e. refl; kept = λ e. omega arith }
+spares_here h given sound = record { sound = sound; number = refl; windows = refl; placed = λ p. p; cached = λ e. omega arith; others = λ n other e. refl; kept = λ e. omega arith }
 
 -- ---- the stock stays backed, with what is in other hands
 
@@ -68,7 +70,7 @@ pub record Passes {P K A : Type 0} (m : Means P K) (t : Tunables) (rules : Rules
 pub passes_here : {P K A : Type 0} {m : Means P K} {t : Tunables} {r : Rules A} {given : Chunks} {h : Hold P K} → IsSound h.arena → Passes m t r given h r given h
 passes_here sound = record {
   reaches = reaches_here;
-  keeps = record { sound = sound; number = refl; placed = λ p. p; cached = λ e. omega arith; others = λ n other e. refl; kept = λ e. refl };
+  keeps = record { sound = sound; number = refl; windows = refl; placed = λ p. p; cached = λ e. omega arith; others = λ n other e. refl; kept = λ e. refl };
 }
 
 -- the ways of one hold are those of the next

@@ -36,6 +36,7 @@ pub record IsMerged (a : Plain) (c : Chunk) (b : Plain) : Type 0 where
   pub is : b ≡ (merged a c).arena
   pub sound : IsSound b
   pub number : b.number ≡ a.number
+  pub windows : b.windows ≡ a.windows
   pub placed : IsPlaced a → IsPlaced b
   pub used : (e : Chunk) → times_used e b + once e c ≡ times_used e a
 
@@ -51,6 +52,7 @@ merge_left a b c m sound own e =
       is = is;
       sound = subst IsSound (sym is) moved.sound;
       number = ap (λ (x : Plain). x.number) is ∙ ap (λ (x : Plain). x.number) (beside_merged a c);
+      windows = ap (λ (x : Plain). x.windows) is ∙ ap (λ (x : Plain). x.windows) (beside_merged a c);
       placed = λ p. subst IsPlaced (sym is) (placed_still a (merged a c).arena (λ e. once e c) none moved (beside_merged a c) p);
       used = λ e. omega (arith, ap (times_used e) is, moved.used e);
     }
@@ -65,10 +67,10 @@ at_err {t = t} {w = w} {rules = rules} {o = o} {z = z} {old = old} {new = new} {
 -- ---- the stock stays backed
 
 pub keeps_here : {P : Type 0} {fast : Fast P} (h : FastHold P) → IsSound h.arena → KeepsStock fast h h
-keeps_here h sound = record { sound = sound; number = refl; placed = λ p. p; kept = λ e. refl }
+keeps_here h sound = record { sound = sound; number = refl; windows = refl; placed = λ p. p; kept = λ e. refl }
 
 pub keeps_stock_then : {P : Type 0} {fast : Fast P} {h m n : FastHold P} → KeepsStock fast h m → KeepsStock fast m n → KeepsStock fast h n
-keeps_stock_then k l = record { sound = l.sound; number = l.number ∙ k.number; placed = λ p. l.placed (k.placed p); kept = λ e. omega (arith, k.kept e, l.kept e) }
+keeps_stock_then k l = record { sound = l.sound; number = l.number ∙ k.number; windows = l.windows ∙ k.windows; placed = λ p. l.placed (k.placed p); kept = λ e. omega (arith, k.kept e, l.kept e) }
 
 pub backed_still : {P : Type 0} {fast : Fast P} {h m : FastHold P} → IsBacked fast h.arena h.port no_chunk → KeepsStock fast h m → IsBacked fast m.arena m.port no_chunk
 backed_still b k = record { sound = k.sound; used = λ e. omega (arith, b.used e, k.kept e) }
@@ -110,7 +112,7 @@ merging_ends {fast = fast} {bin = bin} {h = h} {m = m} {q = q} x i did told_so =
         (reaches_then (i.reaches t) (reaches_told (told.Own None) refl did));
     short = tt;
   };
-  keeps = record { sound = i.keeps.sound; number = i.keeps.number; placed = i.keeps.placed; kept = λ e. omega (arith, i.keeps.kept e, did.stock e) };
+  keeps = record { sound = i.keeps.sound; number = i.keeps.number; windows = i.keeps.windows; placed = i.keeps.placed; kept = λ e. omega (arith, i.keeps.kept e, did.stock e) };
 }
 
 -- a chunk that the port gave is the arena's own
@@ -146,7 +148,7 @@ merging_on {fast = fast} {bin = bin} {at = at} {h = h} {m = m} {n = n} fuel i ow
           let there : Reaches t (fast_ways fast) (merging_bin (suc (suc fuel)) bin m.arena) m.port m.said (merging_bin (suc fuel) bin n.arena) n.said n.port =
           merged_reaches fast bin at (suc fuel) m.arena n.arena m.port n.port m.said n.said t own did left.is said in
           reaches_then here there;
-      keeps = record { sound = left.sound; number = left.number ∙ i.keeps.number; placed = λ p. left.placed (i.keeps.placed p); kept = λ e. omega (arith, i.keeps.kept e, did.stock e, left.used e) };
+      keeps = record { sound = left.sound; number = left.number ∙ i.keeps.number; windows = left.windows ∙ i.keeps.windows; placed = λ p. left.placed (i.keeps.placed p); kept = λ e. omega (arith, i.keeps.kept e, did.stock e, left.used e) };
     }
 
 pub merging_further : {P : Type 0} {fast : Fast P} {bin at : ℕ} {h m : FastHold P} {q : P} {said : List Said} {x : Chunk} (b : Plain) (r : Merged) →
@@ -169,7 +171,7 @@ pub consolidating_begins : {P : Type 0} {fast : Fast P} {h : FastHold P} {q : P}
 unfolding consolidated
 consolidating_begins {h = h} backed did = record {
   reaches = λ t. reaches_done did;
-  keeps = record { sound = backed.sound; number = refl; placed = λ p. p; kept = λ e. omega (arith, did.stock e) };
+  keeps = record { sound = backed.sound; number = refl; windows = refl; placed = λ p. p; kept = λ e. omega (arith, did.stock e) };
 }
 
 pub consolidating_backed : {P : Type 0} {fast : Fast P} {bin : ℕ} {h m : FastHold P} {q : P} → IsBacked fast h.arena h.port no_chunk → IsConsolidating fast bin h m → Did fast m.port (fasts.Gathers bin) q → IsBacked fast m.arena q no_chunk
@@ -177,7 +179,7 @@ consolidating_backed {h = h} {m = m} {q = q} backed i did = record { sound = i.k
 
 -- a bin's chain is taken
 pub gathered : {P : Type 0} {fast : Fast P} {bin : ℕ} {m : FastHold P} {q : P} → IsSound m.arena → Did fast m.port (fasts.Gathers bin) q → KeepsStock fast m (fast_hold m.arena q m.said)
-gathered sound did = record { sound = sound; number = refl; placed = λ p. p; kept = λ e. omega (arith, did.stock e) }
+gathered sound did = record { sound = sound; number = refl; windows = refl; placed = λ p. p; kept = λ e. omega (arith, did.stock e) }
 
 gathering : {P : Type 0} {fast : Fast P} {bin : ℕ} {h m : FastHold P} {q : P} (t : Tunables) → bin < 10 → IsConsolidating fast bin h m → Did fast m.port (fasts.Gathers bin) q →
     Reaches t (fast_ways fast) (consolidated h.arena) h.port h.said (behind (merging_bin (suc (length m.arena.tiles)) bin m.arena) (λ b. merging_bins (10 - (bin + 1)) (bin + 1) b)) m.said q

@@ -66,7 +66,7 @@ pub passes_idled : {P K A : Type 0} {m : Means P K} {t : Tunables} {r : Rules A}
     Passes m t r chunks h r chunks (hold h.arena q h.cache h.space h.said)
 passes_idled sound idles = record {
   reaches = reaches_idled (record { idles = idles; others = refl });
-  keeps = record { sound = sound; number = refl; placed = λ p. p; cached = λ e. omega arith; others = λ n other e. refl; kept = λ e. omega (arith, idles.stock e) };
+  keeps = record { sound = sound; number = refl; windows = refl; placed = λ p. p; cached = λ e. omega arith; others = λ n other e. refl; kept = λ e. omega (arith, idles.stock e) };
 }
 
 -- an answer was told, which changes no chunk
@@ -82,14 +82,14 @@ pub passes_flag : {P K A : Type 0} {m : Means P K} {t : Tunables} {chunks : Chun
     Did m.fast h.port (fasts.Flags b) q → said ≡ h.said ++ told.Flag b ∷ [] → Passes m t (asks_flag h.arena f) chunks h (f b) chunks (hold h.arena q h.cache h.space said)
 passes_flag {b = b} f sound did told_so =
     passes_told (λ s. f (flag_of s)) (told.Flag b) refl (record { did = did; others = refl })
-    (record { sound = sound; number = refl; placed = λ p. p; cached = λ e. omega arith; others = λ n other e. refl; kept = λ e. omega (arith, did.stock e) }) told_so
+    (record { sound = sound; number = refl; windows = refl; placed = λ p. p; cached = λ e. omega arith; others = λ n other e. refl; kept = λ e. omega (arith, did.stock e) }) told_so
 
 -- whether the cache has room
 pub passes_has_room : {P K A : Type 0} {m : Means P K} {t : Tunables} {chunks : Chunks} {h : Hold P K} {size : ℕ} {b : Bool} {said : List Said} (f : Bool → Rules A) → IsSound h.arena →
     b ≡ has_room h.cache size → said ≡ h.said ++ told.Room b ∷ [] → Passes m t (asks_room h.arena size f) chunks h (f b) chunks (hold h.arena h.port h.cache h.space said)
 passes_has_room {b = b} f sound is told_so =
     passes_told (λ s. f (flag_of s)) (told.Room b) refl (record { told = is; others = refl })
-    (record { sound = sound; number = refl; placed = λ p. p; cached = λ e. omega arith; others = λ n other e. refl; kept = λ e. refl }) told_so
+    (record { sound = sound; number = refl; windows = refl; placed = λ p. p; cached = λ e. omega arith; others = λ n other e. refl; kept = λ e. refl }) told_so
 
 -- the threshold
 pub passes_threshold : {P K : Type 0} {m : Means P K} {t : Tunables} {h : Hold P K} {q : P} {said : List Said} (n : ℕ) → Apart m.fast m.dials → IsSound h.arena →
@@ -97,7 +97,7 @@ pub passes_threshold : {P K : Type 0} {m : Means P K} {t : Tunables} {h : Hold P
     Passes m t (trimmed_by_threshold t h.arena) no_chunk h (trimmed t h.arena n) no_chunk (hold h.arena q h.cache h.space said)
 passes_threshold {t = t} {h = h} {q = q} n apart sound step told_so =
     passes_told (λ s. trimmed t h.arena (number_told s)) (told.Dial n) refl (record { step = step; others = refl })
-    (record { sound = sound; number = refl; placed = λ p. p; cached = λ e. omega arith; others = λ n other e. refl; kept = λ e. omega (arith, apart.stock h.port q (dial_steps.Reads TrimThreshold n) step e) }) told_so
+    (record { sound = sound; number = refl; windows = refl; placed = λ p. p; cached = λ e. omega arith; others = λ n other e. refl; kept = λ e. omega (arith, apart.stock h.port q (dial_steps.Reads TrimThreshold n) step e) }) told_so
 
 -- the rules are the same, read otherwise
 pub passes_as : {P K A : Type 0} {m : Means P K} {t : Tunables} {r q : Rules A} {chunks : Chunks} {h : Hold P K} → IsSound h.arena → r ≡ q → Passes m t r chunks h q chunks h
@@ -135,7 +135,7 @@ passes_merge {m = m} {t = t} {h = h} b r c backed e =
     let left : IsMerged h.arena c b = merge_left h.arena b c r backed.sound (hand_own c backed) e in
     record {
       reaches = subst (λ (x : Merging). Reaches t (ways m h.arena.number) (given t h.arena c) (outside h) h.said (settled t x) h.said (outside h)) (sym e) reaches_here;
-      keeps = record { sound = left.sound; number = left.number; placed = left.placed; cached = λ x. omega arith; others = λ n other x. refl; kept = λ x. omega (arith, left.used x) };
+      keeps = record { sound = left.sound; number = left.number; windows = left.windows; placed = left.placed; cached = λ x. omega arith; others = λ n other x. refl; kept = λ x. omega (arith, left.used x) };
     }
 
 -- ---- a chunk goes into the cache
@@ -170,7 +170,7 @@ passes_stash {h = h} {cache = cache} c sound cached chunk room same stashed =
     let others : KeepsOthers h.arena.number h.cache cache = subst (KeepsOthers h.arena.number h.cache) (sym is) (stashed_others h.arena.number h.cache c cached chunk room) in
     record {
       reaches = reaches_done (ap (λ (x : CacheValue). record (outside h) { cache = x }) is);
-      keeps = record { sound = sound; number = refl; placed = λ p. p; cached = λ e. omega (arith, now e); others = others; kept = λ e. omega (arith, now e) };
+      keeps = record { sound = sound; number = refl; windows = refl; placed = λ p. p; cached = λ e. omega (arith, now e); others = others; kept = λ e. omega (arith, now e) };
     }
 
 -- ---- a chunk goes into its fast bin
@@ -190,6 +190,7 @@ passes_push {m = m} {h = h} {q = q} c backed chunk is did =
       keeps = record {
         sound = backed.sound;
         number = refl;
+        windows = refl;
         placed = λ p. p;
         cached = λ e. omega arith;
         others = λ n other e. refl;

@@ -4,4 +4,5 @@ pub mod Emptying
 pub mod Lifts
 pub mod Carried
 pub mod Trims
+pub mod HeapTrims
 pub mod HoldSteps

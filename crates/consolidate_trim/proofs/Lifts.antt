@@ -43,7 +43,7 @@ pub lifted : {P K X E : Type 0} (m : Means P K) (t : Tunables) (cache : CacheVal
     Empties m.fast rules h r n → GivesUp m t rules no_chunk (hold h.arena h.port cache space h.said) r (hold n.arena n.port cache space n.said)
 lifted m t cache space rules h n (Ok x) e = record {
   walk = record { done = reaches_lifted m h.arena.number (record { port = h.port; cache = cache; space = space }) (e.walk t).done; short = tt };
-  keeps = record { sound = e.keeps.sound; number = e.keeps.number; placed = e.keeps.placed; cached = λ c. omega arith; others = λ n other c. refl; kept = λ c. omega (arith, e.keeps.kept c) };
+  keeps = record { sound = e.keeps.sound; number = e.keeps.number; windows = e.keeps.windows; placed = e.keeps.placed; cached = λ c. omega arith; others = λ n other c. refl; kept = λ c. omega (arith, e.keeps.kept c) };
   spares = tt;
 }
 lifted m t cache space rules h n (Err y) e =
@@ -54,5 +54,5 @@ lifted m t cache space rules h n (Err y) e =
         short = record { need = s.need; next = s.next; reaches = reaches_lifted m h.arena.number (record { port = h.port; cache = cache; space = space }) s.reaches };
       };
       keeps = tt;
-      spares = record { sound = e.keeps.sound; number = e.keeps.number; placed = e.keeps.placed; cached = λ c. omega arith; others = λ n other c. refl; kept = λ c. omega (arith, e.keeps.kept c) };
+      spares = record { sound = e.keeps.sound; number = e.keeps.number; windows = e.keeps.windows; placed = e.keeps.placed; cached = λ c. omega arith; others = λ n other c. refl; kept = λ c. omega (arith, e.keeps.kept c) };
     }

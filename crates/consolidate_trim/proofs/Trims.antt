@@ -50,6 +50,7 @@ pub record IsCutKept (a : Plain) (bytes : ℕ) : Type 0 where
   pub sound : IsSound (main_cut a bytes)
   pub used : (e : Chunk) → times_used e (main_cut a bytes) ≡ times_used e a
   pub number : (main_cut a bytes).number ≡ a.number
+  pub windows : (main_cut a bytes).windows ≡ a.windows
   pub placed : IsPlaced a → IsPlaced (main_cut a bytes)
 
 cut_at : (a : Plain) (t : Tile) (bytes : ℕ) → IsSound a → CanCutMain a bytes → top_of a.tiles ≡ Some t → IsCutKept a bytes
@@ -65,6 +66,7 @@ cut_at a t bytes s can e =
       sound = sound_as (with_top_size a now) (main_cut a bytes) (ap (λ (x : ℕ). (with_top_size a (x - bytes)).tiles) (sym size)) (ap (λ (x : ℕ). (with_top_size a (x - bytes)).bins) (sym size)) m.sound;
       used = λ c. omega (arith, m.used c, ap (λ (x : ℕ). times_used c (with_top_size a (x - bytes))) size);
       number = number;
+      windows = ap (λ (x : Plain). x.windows) (beside_sized a (top_size a - bytes));
       placed = λ p main. (main_cut_moved a bytes s (p (ap (λ (n : ℕ). nat_eq n 0) (sym number) ∙ main)) can).placed;
     }
 
@@ -101,7 +103,7 @@ trims_some {m = m} {t = t} {bytes = bytes} {h = h} {space = space} threshold s m
     record {
       reaches = subst (λ (r : Rules Plain). Reaches t (ways m a.number) r (outside h) h.said (Stop (main_cut a bytes)) h.said (record (outside h) { space = space })) rules
           (reaches_done (record { gives = gives; others = refl }));
-      keeps = record { sound = k.sound; number = k.number; placed = k.placed; cached = λ e. omega arith; others = λ n other e. refl; kept = λ e. omega (arith, k.used e) };
+      keeps = record { sound = k.sound; number = k.number; windows = k.windows; placed = k.placed; cached = λ e. omega arith; others = λ n other e. refl; kept = λ e. omega (arith, k.used e) };
     }
 
 pub trims_main : {P K : Type 0} {m : Means P K} {t : Tunables} {threshold bytes : ℕ} {h : Hold P K} {b : Plain} {space : Space K} → IsSound h.arena → IsTrue (is_main h.arena) →

@@ -41,6 +41,7 @@ fast_ways fast = record { goes = FastAnswers fast; does = FastDoes fast; idles =
 pub record KeepsStock {P : Type 0} (fast : Fast P) (before after : FastHold P) : Type 0 where
   pub sound : IsSound after.arena
   pub number : after.arena.number ≡ before.arena.number
+  pub windows : after.arena.windows ≡ before.arena.windows
   pub placed : IsPlaced before.arena → IsPlaced after.arena
   pub kept : (e : Chunk) →
       times_used e after.arena + fast.stock before.port e ≡ times_used e before.arena + fast.stock after.port e

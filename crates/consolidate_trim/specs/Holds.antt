@@ -61,6 +61,7 @@ pub record IsBacked {P : Type 0} (fast : Fast P) (a : Plain) (port : P) (hand : 
 pub record Keeps {P K : Type 0} (fast : Fast P) (before : Hold P K) (given : Chunks) (got : Chunks) (after : Hold P K) : Type 0 where
   pub sound : IsSound after.arena
   pub number : after.arena.number ≡ before.arena.number
+  pub windows : after.arena.windows ≡ before.arena.windows
   pub placed : IsPlaced before.arena → IsPlaced after.arena
   pub cached : (e : Chunk) → times_cached before.arena.number before.cache e ≤ times_cached before.arena.number after.cache e
   pub others : KeepsOthers before.arena.number before.cache after.cache
@@ -73,6 +74,7 @@ pub record Keeps {P K : Type 0} (fast : Fast P) (before : Hold P K) (given : Chu
 pub record Spares {P K : Type 0} (fast : Fast P) (before : Hold P K) (given : Chunks) (after : Hold P K) : Type 0 where
   pub sound : IsSound after.arena
   pub number : after.arena.number ≡ before.arena.number
+  pub windows : after.arena.windows ≡ before.arena.windows
   pub placed : IsPlaced before.arena → IsPlaced after.arena
   pub cached : (e : Chunk) → times_cached before.arena.number before.cache e ≤ times_cached before.arena.number after.cache e
   pub others : KeepsOthers before.arena.number before.cache after.cache

@@ -1,6 +1,6 @@
 //! Chunks are given up under an arena's lock: merged, consolidated out of the fast bins, released, and top trimmed.
-//! Each call goes through its rules (`consolidated`, `settled`, `given`, `released`), over any `Moves` and any ports. Trimming is built
-//! for main alone.
+//! Each call goes through its rules (`consolidated`, `settled`, `given`, `released`), over any `Moves` and any
+//! ports.
 #![tactic(auto)]
 
 mod answers;
@@ -13,7 +13,7 @@ pub use answers::{make_room, tell};
 pub use consolidating::consolidate;
 pub use merging::{Merged, merge};
 pub use releasing::{give, release, settle};
-pub use trimming::trim_main;
+pub use trimming::{trim_heap, trim_main};
 
 #[cfg(test)]
 mod tests;

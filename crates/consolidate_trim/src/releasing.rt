@@ -1,7 +1,7 @@
 //! A chunk is given up under its arena's lock.
 
 ghost use Rattle.std.specs.Prelude.{◌≡◌, ◌≤◌, IsTrue};
-ghost use Rattle.arena_rules.specs.PlainArena.{IsSound, is_main};
+ghost use Rattle.arena_rules.specs.PlainArena.{IsSound};
 ghost use Rattle.arena_rules.specs.Release.{settled, given, released, consolidated_if, trimmed_by_threshold};
 ghost use Rattle.arena_rules.specs.Rules.{block_of};
 ghost use Rattle.chunk_tags.specs.Sizes.{IsChunkSize};
@@ -14,7 +14,7 @@ ghost use Rattle.consolidate_trim.specs.Outside.{Apart, means};
 use crate::answers::{make_room, tell};
 use crate::consolidating::consolidate;
 use crate::merging::{Merged, merge};
-use crate::trimming::trim_main;
+use crate::trimming::{trim_heap, trim_main};
 use address_space::{Kernel, Space};
 use arena_rules::{Moves, Said};
 use chunk_tags::{Block, Chunk, NoMemory, Tunables, fast_index};
@@ -44,7 +44,7 @@ fn consolidate_if<M: Moves, P: FastPort>(
     }
 }
 
-/// Reads the trim threshold, and trims main by it.
+/// Reads the trim threshold, and trims by it.
 fn trim_by_threshold<M: Moves, K: Kernel, P: FastPort + Dials>(
     g: &mut M,
     port: &mut P,
@@ -54,7 +54,6 @@ fn trim_by_threshold<M: Moves, K: Kernel, P: FastPort + Dials>(
 ) -> Result<(), NoMemory>
     requires sound { IsSound (M.plain g.old) }
     requires apart { Apart P.fast P.dials }
-    requires main { IsTrue (is_main (M.plain g.old)) }
     ensures { (cache : CacheValue) →
         let before = hold (M.plain g.old) port.old cache space.old said.old.items in
         let after = hold (M.plain g.new) port.new cache space.new said.new.items in
@@ -64,7 +63,11 @@ fn trim_by_threshold<M: Moves, K: Kernel, P: FastPort + Dials>(
     make_room(said)?;
     let threshold = port.trim_threshold();
     tell(said, &Said::Dial(threshold));
-    trim_main(g, threshold, space, t);
+    if g.number() == 0 {
+        trim_main(g, threshold, space, t);
+    } else {
+        trim_heap(g, threshold, space, t);
+    }
     Ok(())
 }
 
@@ -80,7 +83,6 @@ pub fn settle<M: Moves, K: Kernel, P: FastPort + Dials>(
 ) -> Result<(), NoMemory>
     requires backed { IsBacked P.fast (M.plain g.old) port.old no_chunk }
     requires apart { Apart P.fast P.dials }
-    requires main { IsTrue (is_main (M.plain g.old)) }
     ensures { (cache : CacheValue) →
         let before = hold (M.plain g.old) port.old cache space.old said.old.items in
         let after = hold (M.plain g.new) port.new cache space.new said.new.items in
@@ -109,7 +111,6 @@ pub fn give<M: Moves, K: Kernel, P: FastPort + Dials>(
 ) -> Result<(), NoMemory>
     requires backed { IsBacked P.fast (M.plain g.old) port.old (one_chunk c) }
     requires apart { Apart P.fast P.dials }
-    requires main { IsTrue (is_main (M.plain g.old)) }
     ensures { (cache : CacheValue) →
         let before = hold (M.plain g.old) port.old cache space.old said.old.items in
         let after = hold (M.plain g.new) port.new cache space.new said.new.items in
@@ -133,7 +134,6 @@ pub fn release<M: Moves, K: Kernel, P: FastPort + Dials>(
 ) -> Result<(), NoMemory>
     requires backed { IsBacked P.fast (M.plain g.old) port.old (one_chunk c) }
     requires apart { Apart P.fast P.dials }
-    requires main { IsTrue (is_main (M.plain g.old)) }
     requires fast { t.now.max_fast ≤ 160 }
     ensures { let before = hold (M.plain g.old) port.old cache.old space.old said.old.items in
         let after = hold (M.plain g.new) port.new cache.new space.new said.new.items in

@@ -20,6 +20,9 @@ use std::test::Fail;
 
 const START: u64 = 0x5555_5555_9000;
 
+/// Where heap 0 of arena 1 begins.
+const HEAP: u64 = 0x7f00_0000_0000;
+
 /// Main after its first growth.
 fn grown(alloc: Global, growth: u64) -> Result<Ground, NoMemory>
     requires some { 0 < growth }
@@ -255,6 +258,14 @@ fn two_fast_bins_are_merged(rt: HostRuntime) -> Result<(), Fail> {
     Ok(())
 }
 
+fn windows() -> Windows {
+    Windows {
+        main_max: 67_108_864,
+        heap_max: 65_536,
+        heaps: 4,
+    }
+}
+
 /// Main's top of 352,256 bytes less a chunk is trimmed, and gives what went back.
 fn trimmed(
     rt: &impl Abort,
@@ -264,13 +275,8 @@ fn trimmed(
 ) -> Result<(u64, Ground), NoMemory> {
     let mut g = grown(alloc, 352_256)?;
     cut(rt, &mut g, nb);
-    g.laws();
-    let windows = Windows {
-        main_max: 67_108_864,
-        heap_max: 67_108_864,
-        heaps: 64,
-    };
-    let mut space = Space::new(Always, 0, windows);
+    assert!(rt; g.number() == 0);
+    let mut space = Space::new(Always, 0, windows());
     let bytes = trim_main(
         &mut g,
         threshold,
@@ -292,6 +298,182 @@ fn whole_pages_behind_the_pad_go_back(rt: HostRuntime) -> Result<(), Fail> {
         assert_eq!(rt; given, bytes);
         assert_eq!(rt; g.system(), system);
         assert_eq!(rt; g.break_at(), START + system);
+    }
+    Ok(())
+}
+
+/// Arena 1 has one heap more, and what is left of the old top is free.
+fn add_heap(rt: &impl Abort, alloc: Global, g: &mut Ground, len: u64) -> Result<(), NoMemory>
+    requires { IsSound g.old.arena }
+    ensures { OnOk result (IsSound g.new.arena) }
+{
+    assert!(rt; g.number() == 1);
+    assert!(rt; len >= 4096);
+    assert!(rt; len % 4096 == 0);
+    assert!(rt; len <= g.heap_max());
+    assert!(rt; g.last_heap() + 1 < g.heaps());
+    g.make_heap_room(len)?;
+    if let Some(rest) = g.add_heap(len) {
+        merge_own(rt, alloc, g, rest)?;
+    }
+    Ok(())
+}
+
+/// Cuts a chunk off top, where it has any bytes.
+fn cut_some(rt: &impl Abort, g: &mut Ground, nb: u64)
+    requires { IsSound g.old.arena }
+    ensures { IsSound g.new.arena }
+{
+    if nb > 0 {
+        cut(rt, g, nb);
+    }
+}
+
+/// Arena 1 with heaps of these lengths, and a chunk of so many bytes at the front of each; 0 is none.
+fn with_heaps(
+    rt: &impl Abort,
+    alloc: Global,
+    first: (u64, u64),
+    more: &[(u64, u64)],
+) -> Result<Ground, NoMemory>
+    ensures { IfOk result (λ g. IsSound g.arena) }
+{
+    let (len, nb) = first;
+    assert!(rt; len >= 4096);
+    assert!(rt; len % 4096 == 0);
+    assert!(rt; len <= 65_536);
+    let mut g = Ground::open(alloc, 1, 65_536, 4, len)?;
+    cut_some(rt, &mut g, nb);
+    for (len, nb) in more {
+        if *len > 0 {
+            add_heap(rt, alloc, &mut g, *len)?;
+            cut_some(rt, &mut g, *nb);
+        }
+    }
+    Ok(g)
+}
+
+/// These heaps are trimmed, and what went back.
+fn heaps_trimmed(
+    rt: &impl Abort,
+    alloc: Global,
+    first: (u64, u64),
+    more: &[(u64, u64)],
+    pad: u64,
+    threshold: u64,
+) -> Result<(u64, Ground), NoMemory> {
+    let mut g = with_heaps(rt, alloc, first, more)?;
+    assert!(rt; g.number() == 1);
+    let mut t = Tunables::defaults(Mode::Serial);
+    t.top_pad = pad;
+    let mut space = Space::new(Always, 1, windows());
+    let bytes = trim_heap(&mut g, threshold, &mut space, &t);
+    Ok((bytes, g))
+}
+
+#[test]
+fn heaps_are_dropped_and_the_last_one_is_shortened(rt: HostRuntime) -> Result<(), Fail> {
+    let none = (0, 0);
+    for (first, more, pad, threshold, bytes, top, size) in [
+        // the end of the last heap, at the threshold, and behind the pad
+        ((65_536, 1024), [none; 2], 4096, 62_272, 57_344, 3264, 4928),
+        ((65_536, 1024), [none; 2], 4096, 62_273, 0, 3264, 62_272),
+        ((65_536, 1024), [none; 2], 58_143, 0, 4096, 3264, 58_176),
+        ((65_536, 1024), [none; 2], 58_144, 0, 0, 3264, 62_272),
+        // heap 0 stays, though top is all of it
+        ((65_536, 0), [none; 2], 0, 0, 61_440, 2240, 1856),
+        // a heap goes where the fence before it, the free chunk before that and what the heap may grow by are enough
+        (
+            (16_384, 1024),
+            [(8192, 0), none],
+            58_144,
+            100_000,
+            8192,
+            3264,
+            13_120,
+        ),
+        (
+            (16_384, 1024),
+            [(8192, 0), none],
+            58_145,
+            100_000,
+            0,
+            65_568,
+            8160,
+        ),
+        // the same of a fence alone
+        (
+            (8192, 5904),
+            [(8192, 0), none],
+            53_264,
+            100_000,
+            8192,
+            8144,
+            48,
+        ),
+        (
+            (8192, 5904),
+            [(8192, 0), none],
+            53_265,
+            100_000,
+            0,
+            65_568,
+            8160,
+        ),
+        // two heaps go, one of two, and none
+        (
+            (16_384, 1024),
+            [(8192, 0), (8192, 0)],
+            58_144,
+            100_000,
+            16_384,
+            3264,
+            13_120,
+        ),
+        (
+            (16_384, 1024),
+            [(8192, 0), (8192, 0)],
+            58_145,
+            100_000,
+            8192,
+            65_568,
+            8160,
+        ),
+        (
+            (16_384, 1024),
+            [(8192, 0), (8192, 0)],
+            61_377,
+            100_000,
+            0,
+            131_104,
+            8160,
+        ),
+        // a heap with a chunk stays, and becomes shorter
+        (
+            (16_384, 1024),
+            [(8192, 64), (8192, 0)],
+            0,
+            0,
+            12_288,
+            65_632,
+            4000,
+        ),
+        // a heap goes, and the one before it becomes shorter
+        (
+            (65_536, 1024),
+            [(8192, 0), none],
+            4096,
+            62_272,
+            65_536,
+            3264,
+            4928,
+        ),
+    ] {
+        let (given, g) = heaps_trimmed(&rt, rt.alloc(), first, &more, pad, threshold)?;
+        assert_eq!(rt; given, bytes, "with a pad of {pad} and from {threshold} on");
+        let end = g.top().expect(&rt, "top");
+        assert_eq!(rt; end.addr.0.checked_sub(HEAP), Some(top));
+        assert_eq!(rt; end.size.0, size);
     }
     Ok(())
 }

@@ -1,4 +1,6 @@
+pub mod DropLaws
 pub mod IntoTop
 pub mod TopLaws
 pub mod MainMoves
 mod Scenes
+pub mod HeapScenes

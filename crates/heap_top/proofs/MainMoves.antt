@@ -1,5 +1,5 @@
--- Main after each move of its top or of its ranges, for this crate and those above it.
-use Rattle.std.proofs.Common.{◌≡◌, ℕ, ◌+◌, ◌-◌, ◌%◌, ◌<◌, ◌≤◌, Bool, true, false, cond, [], ◌∷◌, Option, Some, None, IsTrue, refl, ap}
+-- Main after each move of its top or of its ranges, and what a move of top leaves, for this crate and those above it.
+use Rattle.std.proofs.Common.{◌≡◌, ℕ, ◌+◌, ◌-◌, ◌%◌, ◌<◌, ◌≤◌, Bool, true, false, cond, [], ◌∷◌, Option, Some, None, IsTrue, refl, ap, arith}
 use Rattle.chunk_tags.specs.declared.tiles.Chunk.{Chunk}
 use Rattle.chunk_tags.specs.Sizes.{IsChunkSize}
 use Rattle.chunk_tags.specs.Tiles.{top_of}
@@ -9,11 +9,12 @@ use Rattle.chunk_tags.specs.declared.tiles.TileKind.TheVariants.{Used, Top}
 use Rattle.address_space.specs.Spaces.{main_start, piece_start}
 use Rattle.arena_rules.specs.MainPlaces.{IsMainPlaced}
 use Rattle.arena_rules.specs.PlainArena.{Plain, IsSound}
-use Rattle.arena_rules.specs.Moves.{tile_of, closed_top, cut_from_top, top_size, with_new_top, with_moved_top, with_tiles, with_top_size}
+use Rattle.arena_rules.specs.Moves.{tile_of, closed_top, cut_from_top, top_end, top_size, with_new_top, with_moved_top, with_tiles, with_top_size}
 use Rattle.arena_rules.specs.Growth.{break_taken, has_top_for, is_top_at_break, piece_taken, with_break, with_piece}
 use Rattle.arena_rules.specs.Trim.{main_cut, CanCutMain}
 use Rattle.arena_rules.proofs.MainPlaces.{placed_along, break_grown, piece_grown, main_cut_moved}
 use Rattle.arena_rules.proofs.Moved.{Moved, nothing}
+use Rattle.arena_rules.proofs.TopEnds.{cut_end}
 use Rattle.arena_rules.proofs.TopMoves.{cut_moved}
 use Rattle.heap_top.proofs.TopLaws.{has_room, no_room}
 
@@ -23,25 +24,28 @@ pub record IsMainKept (a new : Plain) : Type 0 where
   pub placed : IsMainPlaced new
   pub bins : new.bins ≡ a.bins
   pub number : new.number ≡ a.number
+  pub windows : new.windows ≡ a.windows
 
 -- all of an arena but its tiles
-abbrev but_tiles : Plain → Plain
+abbrev pub but_tiles : Plain → Plain
 but_tiles a = record a { tiles = [] }
 
 -- ---- a chunk is cut off
 
-record IsCutOff (a : Plain) (nb : ℕ) : Type 0 where
-  came : Chunk → ℕ
-  moved : Moved a (cut_from_top a nb) (λ e. 0) came nothing nothing
-  same : but_tiles (cut_from_top a nb) ≡ but_tiles a
+pub record IsCutOff (a : Plain) (nb : ℕ) : Type 0 where
+  pub came : Chunk → ℕ
+  pub moved : Moved a (cut_from_top a nb) (λ e. 0) came nothing nothing
+  pub same : but_tiles (cut_from_top a nb) ≡ but_tiles a
+  pub end : top_end (cut_from_top a nb) ≡ top_end a
 
-cut_off : (a : Plain) (nb : ℕ) → IsSound a → IsChunkSize nb → IsTrue (has_top_for a nb) → IsCutOff a nb
+pub cut_off : (a : Plain) (nb : ℕ) → IsSound a → IsChunkSize nb → IsTrue (has_top_for a nb) → IsCutOff a nb
 cut_off a nb s chunk room =
     let cases : (o : Option Tile) → top_of a.tiles ≡ o → IsCutOff a nb = elim [
       | None ↦ λ e. absurd (no_room a nb e room)
       | Some t ↦ λ e. record {
         came = _;
         moved = cut_moved a t nb s e chunk (has_room a t nb e room);
+        end = cut_end a t nb e (omega (arith, has_room a t nb e room));
         same = ap (λ o. but_tiles (elim o [ None ↦ a | Some t ↦ with_tiles a t.addr (tile_of Used t.addr nb ∷ tile_of Top (t.addr + nb) (t.size - nb) ∷ []) ])) e;
       }
     ] in
@@ -55,18 +59,29 @@ cut_kept a nb s f chunk room =
       placed = placed_along a (cut_from_top a nb) _ c.came c.moved (ap (λ (x : Plain). record x { bins = [] }) c.same) f;
       bins = ap (λ (x : Plain). x.bins) c.same;
       number = ap (λ (x : Plain). x.number) c.same;
+      windows = ap (λ (x : Plain). x.windows) c.same;
     }
+
+-- ---- top has another size, or moves
+
+pub sized_same : (a : Plain) (size : ℕ) → but_tiles (with_top_size a size) ≡ but_tiles a
+sized_same a size =
+    let sized : (o : Option Tile) → but_tiles (elim o [ None ↦ a | Some t ↦ with_tiles a t.addr (tile_of Top t.addr size ∷ []) ]) ≡ but_tiles a = elim [ None ↦ refl | Some t ↦ refl ] in
+    sized (top_of a.tiles)
+
+pub moved_same : (a : Plain) (at size : ℕ) → but_tiles (with_moved_top a at size) ≡ but_tiles a
+moved_same a at size =
+    let moved : (o : Option Tile) → but_tiles (elim o [ None ↦ with_new_top a at size | Some t ↦ with_new_top (with_tiles a t.addr (closed_top t)) at size ]) ≡ but_tiles a = elim [ None ↦ refl | Some t ↦ refl ] in
+    moved (top_of a.tiles)
 
 -- ---- main grows
 
 break_same : (a : Plain) (growth : ℕ) → but_tiles (break_taken a growth) ≡ but_tiles (with_break a growth)
 break_same a growth =
     let b : Plain = with_break a growth in
-    let sized : (size : ℕ) (o : Option Tile) → but_tiles (elim o [ None ↦ b | Some t ↦ with_tiles b t.addr (tile_of Top t.addr size ∷ []) ]) ≡ but_tiles b = λ size. elim [ None ↦ refl | Some t ↦ refl ] in
-    let moved : (o : Option Tile) → but_tiles (elim o [ None ↦ with_new_top b a.break_at growth | Some t ↦ with_new_top (with_tiles b t.addr (closed_top t)) a.break_at growth ]) ≡ but_tiles b = elim [ None ↦ refl | Some t ↦ refl ] in
     let cases : (is : Bool) → but_tiles (cond is (with_top_size b (top_size a + growth)) (with_moved_top b a.break_at growth)) ≡ but_tiles b = elim [
-      | true ↦ sized (top_size a + growth) (top_of a.tiles)
-      | false ↦ moved (top_of a.tiles)
+      | true ↦ sized_same b (top_size a + growth)
+      | false ↦ moved_same b a.break_at growth
     ] in
     cases (is_top_at_break a)
 
@@ -80,13 +95,11 @@ break_kept a growth s f some pages window =
       placed = grown.placed;
       bins = ap (λ (x : Plain). x.bins) same;
       number = ap (λ (x : Plain). x.number) same;
+      windows = ap (λ (x : Plain). x.windows) same;
     }
 
 piece_same : (a : Plain) (len : ℕ) → but_tiles (piece_taken a len) ≡ but_tiles (with_piece a len)
-piece_same a len =
-    let b : Plain = with_piece a len in
-    let moved : (o : Option Tile) → but_tiles (elim o [ None ↦ with_new_top b a.next_piece len | Some t ↦ with_new_top (with_tiles b t.addr (closed_top t)) a.next_piece len ]) ≡ but_tiles b = elim [ None ↦ refl | Some t ↦ refl ] in
-    moved (top_of a.tiles)
+piece_same a len = moved_same (with_piece a len) a.next_piece len
 
 pub piece_kept : (a : Plain) (len : ℕ) → IsSound a → IsMainPlaced a → 0 < len → len % 4096 ≡ 0 → a.next_piece + len ≤ piece_start + main_limit → IsMainKept a (piece_taken a len)
 piece_kept a len s f some pages window =
@@ -98,14 +111,10 @@ piece_kept a len s f some pages window =
       placed = grown.placed;
       bins = ap (λ (x : Plain). x.bins) same;
       number = ap (λ (x : Plain). x.number) same;
+      windows = ap (λ (x : Plain). x.windows) same;
     }
 
 -- ---- the end of the break is given back
-
-sized_same : (a : Plain) (size : ℕ) → but_tiles (with_top_size a size) ≡ but_tiles a
-sized_same a size =
-    let sized : (o : Option Tile) → but_tiles (elim o [ None ↦ a | Some t ↦ with_tiles a t.addr (tile_of Top t.addr size ∷ []) ]) ≡ but_tiles a = elim [ None ↦ refl | Some t ↦ refl ] in
-    sized (top_of a.tiles)
 
 pub trim_kept : (a : Plain) (bytes : ℕ) → IsSound a → IsMainPlaced a → CanCutMain a bytes → IsMainKept a (main_cut a bytes)
 trim_kept a bytes s f can =
@@ -116,4 +125,5 @@ trim_kept a bytes s f can =
       placed = cut.placed;
       bins = ap (λ (x : Plain). x.bins) same;
       number = ap (λ (x : Plain). x.number) same;
+      windows = ap (λ (x : Plain). x.windows) same;
     }

@@ -42,7 +42,7 @@ piece_words : AreOpen scene_words piece_start 2097152
 unfolding no_words
 piece_words = AreOpen-range (extended no_words main_start 262144) piece_start 2097152 (record { place = refl; whole = refl; fits = omega arith })
 
-part : (e : Extent) (from long at len : ℕ) → AreOpen e from long → from ≤ at → (at - from) % 16 ≡ 0 → at + len ≤ from + long → AreOpen e at len
+pub part : (e : Extent) (from long at len : ℕ) → AreOpen e from long → from ≤ at → (at - from) % 16 ≡ 0 → at + len ≤ from + long → AreOpen e at len
 part e from long at len words ge whole le =
     let rest : AreOpen e (from + (at - from)) (long - (at - from)) = AreOpen-drop e from long (at - from) whole words in
     let here : from + (at - from) ≡ at = omega (arith, ge) in

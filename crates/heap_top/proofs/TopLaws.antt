@@ -14,6 +14,7 @@ use Rattle.chunk_image.specs.Rows.{IsRoom, IsWordSize}
 use Rattle.chunk_image.proofs.Rows.{apart}
 use Rattle.arena_rules.specs.PlainArena.{Plain, IsSound, tiled_bytes}
 use Rattle.arena_rules.specs.MainPlaces.{covers, IsMainPlaced}
+use Rattle.arena_rules.specs.HeapPlaces.{IsHeapPlaced}
 use Rattle.arena_rules.specs.Moves.{tile_of, absorbed, closed_top, top_end, top_size, with_moved_top, with_new_top, with_tiles, with_top_size}
 use Rattle.arena_rules.specs.Growth.{has_top_for}
 use Rattle.arena_rules.proofs.Changes.{tile_is}
@@ -155,9 +156,9 @@ pub main_bytes : (a : Plain) → IsMainPlaced a → tiled_bytes a ≤ 2 ^ 31
 main_bytes a f =
     omega (arith, f.tiled, f.system, f.limit, f.piece_limit, f.start, f.pieces)
 
-pub pair_below : (a : Plain) (t u : Tile) (at : ℕ) → IsMainPlaced a → tile_at at a.tiles ≡ Some t → tile_behind at a.tiles ≡ Some u → t.size + u.size < 2 ^ 34
-pair_below a t u at f found behind =
-    omega (arith, main_bytes a f, neighbours_weigh (λ (x : Tile). x.size) at t u a.tiles found behind)
+pub pair_below : (ts : List Tile) (t u : Tile) (at : ℕ) → sum_by (λ (x : Tile). x.size) ts < 2 ^ 34 → tile_at at ts ≡ Some t → tile_behind at ts ≡ Some u → t.size + u.size < 2 ^ 34
+pair_below ts t u at below found behind =
+    omega (arith, below, neighbours_weigh (λ (x : Tile). x.size) at t u ts found behind)
 
 pub uncovered_none : (n : ℕ) (ts : List Tile) → Row ts → sum_by (weight_byte n) ts ≡ 0 → tile_at n ts ≡ None
 uncovered_none n ts row bare =
@@ -258,19 +259,40 @@ moved_is a at size =
     let cases : (o : Option Tile) → record a { tiles = entered (tile_of Top at size) (elim o [ None ↦ a.tiles | Some t ↦ swapped t.addr (closed_top t) a.tiles ]) } ≡ elim o [ None ↦ with_new_top a at size | Some t ↦ with_new_top (with_tiles a t.addr (closed_top t)) at size ] = elim [ None ↦ refl | Some t ↦ refl ] in
     cases (top_of a.tiles)
 
--- a top that grows within main's window has a size that a word can say
-pub grown_top_fits : (a : Plain) (growth : ℕ) → IsMainPlaced a → Row a.tiles → growth % 4096 ≡ 0 → a.break_at + growth ≤ main_start + main_limit → IsWordSize (top_size a + growth)
-grown_top_fits a growth f row pages window = go (top_of a.tiles) refl
+-- a top that grows so that all tiles have less than 16 GiB has a size that a word can say
+pub grown_top_fits : (a : Plain) (growth : ℕ) → Row a.tiles → growth % 4096 ≡ 0 → tiled_bytes a + growth < 2 ^ 34 → IsWordSize (top_size a + growth)
+grown_top_fits a growth row pages below = go (top_of a.tiles) refl
   where
     go : (o : Option Tile) → top_of a.tiles ≡ o → IsWordSize (top_size a + growth)
     go None none = record {
       whole = omega (arith, pages, no_top_size a none);
-      below = omega (arith, window, f.start, no_top_size a none);
+      below = omega (arith, below, no_top_size a none);
     }
     go (Some t) top =
         let found = (top_found t a.tiles row top).found in
         let size = top_size_is a t top in
         record {
           whole = omega (arith, pages, size, (tile_is _ _ row found).size.1);
-          below = omega (arith, window, f.start, size, main_bytes a f, tile_weighs (λ (x : Tile). x.size) t.addr t a.tiles found);
+          below = omega (arith, below, size, tile_weighs (λ (x : Tile). x.size) t.addr t a.tiles found);
         }
+
+-- the bytes by which top grows within main's window
+pub main_grown : (a : Plain) (growth : ℕ) → IsMainPlaced a → a.break_at + growth ≤ main_start + main_limit → tiled_bytes a + growth < 2 ^ 34
+main_grown a growth f window = omega (arith, main_bytes a f, window, f.start)
+
+-- ---- heaps where only bins change
+
+-- the heaps of an arena stay where its bins, its last remainder or its most bytes change
+pub heaps_beside : (a : Plain) (closed : List ℕ) (bins : List (List Chunk)) (last : Option ℕ) (most : ℕ) → IsHeapPlaced a closed → IsHeapPlaced (record a { bins = bins; last = last; most = most }) closed
+heaps_beside a closed bins last most p = record {
+  other = p.other;
+  number = p.number;
+  windows = p.windows;
+  filled = p.filled;
+  each = p.each;
+  last = p.last;
+  top = p.top;
+  count = p.count;
+  system = p.system;
+  tiled = p.tiled;
+}

@@ -3,6 +3,10 @@ pub use Rattle.part_words.specs.Extents
 pub use Rattle.chunk_image.specs.Rows
 pub use Rattle.arena_rules.specs.PlainArena
 pub use Rattle.arena_rules.specs.MainPlaces
+pub use Rattle.arena_rules.specs.HeapPlaces
+pub use Rattle.arena_rules.specs.Heaps
 pub mod Regions
 pub mod MainRanges
+pub mod HeapRanges
 pub mod Scenes
+pub mod HeapScenes

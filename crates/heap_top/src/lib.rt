@@ -1,7 +1,8 @@
-//! The regions of an arena: where top is, how far main's break and its pieces reach, and the bytes from the system.
-//! Each call is the move of a plain arena in constant time, whatever its bins are.
+//! The regions of an arena: where top is, how far main's break and its pieces or another arena's heaps
+//! reach, and the bytes from the system. Each call is the move of a plain arena in constant time, whatever its bins are.
 #![tactic(auto)]
 
+mod heaps;
 mod regions;
 
 pub use regions::Regions;

@@ -1,4 +1,4 @@
-//! Main's regions.
+//! The regions that all arenas have, and main's.
 
 ghost use Rattle.std.specs.Prelude.{◌≡◌, ℕ, ◌+◌, ◌-◌, ◌^◌, ◌<◌, ◌≤◌, List, [], Option, Some, None, IsTrue, IfSome, if◌then◌else◌, nat_lt};
 ghost use Rattle.chunk_tags.specs.Sizes.{IsChunkSize};
@@ -8,7 +8,7 @@ ghost use Rattle.chunk_tags.specs.declared.tiles.Tile.{Tile as Square};
 ghost use Rattle.chunk_tags.specs.Tunables.{main_limit};
 ghost use Rattle.address_space.specs.Spaces.{main_start, piece_start};
 ghost use Rattle.chunk_image.specs.Rows.{IsRoom, IsWordSize};
-ghost use Rattle.arena_rules.specs.PlainArena.{Plain, empty_bins, empty_main};
+ghost use Rattle.arena_rules.specs.PlainArena.{Plain, empty_bins, empty_main, tiled_bytes};
 ghost use Rattle.arena_rules.specs.MainPlaces.{times_covered, IsMainPlaced};
 ghost use Rattle.arena_rules.specs.Moves.{tile_of, absorbed, closed_top, cut_from_top, left_of_top, top_end, top_size, top_start, with_moved_top, with_top_size};
 ghost use Rattle.arena_rules.specs.Growth.{is_top_at_break, break_taken, break_rest, has_top_for, noted, piece_taken};
@@ -20,12 +20,19 @@ ghost use Rattle.heap_top.specs.MainRanges.{IsNewRange};
 use address_space::{MAIN_START, PIECE_START};
 use chunk_image::TileWords;
 use chunk_tags::{Addr, Chunk, Size, Tile, TileKind};
+use std::alloc::Global;
 
-/// The numbers of an arena's regions (fields of glibc's `malloc_state` and `mp_`).
-#[derive(Clone, Copy, Debug, PartialEq, Eq)]
+/// The numbers of an arena's regions (fields of glibc's `malloc_state`, `mp_` and `heap_info`).
+#[derive(Debug, Drop)]
 pub struct Regions {
     /// The arena's number; main is 0.
     pub number: u8,
+    /// The length of its heaps' windows, in bytes; 0 for main.
+    pub heap_max: u64,
+    /// How many heaps there may be; 0 for main.
+    pub heaps: u16,
+    /// The lengths of the heaps before the last one, in bytes.
+    pub closed: Vec<u64>,
     /// Where top is, where there is one (glibc's `top`).
     pub top: Option<Addr>,
     /// Whether main's chunks have been side by side so far (glibc's `contiguous`).
@@ -42,12 +49,16 @@ pub struct Regions {
 
 impl Regions {
     /// Main before its first growth.
-    pub fn main() -> Regions
+    pub fn main(alloc: Global) -> Regions
         ensures arena { arena_of result [] empty_bins None ≡ empty_main }
         ensures top { result.top ≡ None }
+        ensures closed { result.closed.items ≡ [] }
     {
         Regions {
             number: 0,
+            heap_max: 0,
+            heaps: 0,
+            closed: Vec::new(alloc),
             top: None,
             contiguous: true,
             break_at: MAIN_START,
@@ -77,6 +88,7 @@ impl Regions {
         requires room { IsTrue (has_top_for (bare_arena self.old tiles.old.tiles) nb) }
         ensures at { result ≡ top_start (bare_arena self.old tiles.old.tiles) }
         ensures top { HasTop self.new.top tiles.new.tiles }
+        ensures closed { self.new.closed ≡ self.old.closed }
         ensures arena { (bins : List (List Piece)) (last : Option ℕ)
             → arena_of self.new tiles.new.tiles bins last
             ≡ cut_from_top (arena_of self.old tiles.old.tiles bins last) nb }
@@ -97,9 +109,10 @@ impl Regions {
         requires row { Row tiles.old.tiles }
         requires chunk { tile_at c.at tiles.old.tiles ≡ Some (tile_of TileKind.Used c.at c.size) }
         requires top { tile_behind c.at tiles.old.tiles ≡ top_of tiles.old.tiles }
-        requires main { IsMainPlaced (bare_arena self.old tiles.old.tiles) }
+        requires below { tiled_bytes (bare_arena self.old tiles.old.tiles) < 2 ^ 34 }
         ensures size { result ≡ c.size + top_size (bare_arena self.old tiles.old.tiles) }
         ensures top { HasTop self.new.top tiles.new.tiles }
+        ensures closed { self.new.closed ≡ self.old.closed }
         ensures arena { (bins : List (List Piece)) (last : Option ℕ)
             → arena_of self.new tiles.new.tiles bins last
             ≡ absorbed (arena_of self.old tiles.old.tiles bins last) c }
@@ -123,10 +136,11 @@ impl Regions {
         requires row { Row tiles.old.tiles }
         requires chunk { tile_at c.at tiles.old.tiles ≡ Some (tile_of TileKind.Used c.at c.size) }
         requires top { tile_behind c.at tiles.old.tiles ≡ top_of tiles.old.tiles }
-        requires main { IsMainPlaced (bare_arena self.old tiles.old.tiles) }
+        requires below { tiled_bytes (bare_arena self.old tiles.old.tiles) < 2 ^ 34 }
         requires size { IsChunkSize nb }
         requires room { nb + 32 ≤ c.size + top_size (bare_arena self.old tiles.old.tiles) }
         ensures top { HasTop self.new.top tiles.new.tiles }
+        ensures closed { self.new.closed ≡ self.old.closed }
         ensures arena { (bins : List (List Piece)) (last : Option ℕ)
             → arena_of self.new tiles.new.tiles bins last
             ≡ grown_into_top (arena_of self.old tiles.old.tiles bins last) c nb }
@@ -151,6 +165,7 @@ impl Regions {
             (main_start + main_limit) }
         ensures rest { result ≡ break_rest (bare_arena self.old tiles.old.tiles) }
         ensures top { HasTop self.new.top tiles.new.tiles }
+        ensures closed { self.new.closed ≡ self.old.closed }
         ensures arena { (bins : List (List Piece)) (last : Option ℕ)
             → arena_of self.new tiles.new.tiles bins last
             ≡ break_taken (arena_of self.old tiles.old.tiles bins last) growth }
@@ -177,6 +192,7 @@ impl Regions {
             (piece_start + main_limit) }
         ensures rest { result ≡ left_of_top (bare_arena self.old tiles.old.tiles) }
         ensures top { HasTop self.new.top tiles.new.tiles }
+        ensures closed { self.new.closed ≡ self.old.closed }
         ensures arena { (bins : List (List Piece)) (last : Option ℕ)
             → arena_of self.new tiles.new.tiles bins last
             ≡ piece_taken (arena_of self.old tiles.old.tiles bins last) len }
@@ -195,6 +211,7 @@ impl Regions {
         requires main { IsMainPlaced (bare_arena self.old tiles.old.tiles) }
         requires spare { CanCutMain (bare_arena self.old tiles.old.tiles) bytes }
         ensures top { HasTop self.new.top tiles.new.tiles }
+        ensures closed { self.new.closed ≡ self.old.closed }
         ensures arena { (bins : List (List Piece)) (last : Option ℕ)
             → arena_of self.new tiles.new.tiles bins last
             ≡ main_cut (arena_of self.old tiles.old.tiles bins last) bytes }
@@ -213,6 +230,7 @@ impl Regions {
     /// Raises the most bytes that there were to those that there are.
     pub fn note_most(&mut self)
         ensures top { self.new.top ≡ self.old.top }
+        ensures closed { self.new.closed ≡ self.old.closed }
         ensures arena { (tiles : List Square) (bins : List (List Piece)) (last : Option ℕ)
             → arena_of self.new tiles bins last ≡ noted (arena_of self.old tiles bins last) }
     {
@@ -233,7 +251,7 @@ impl Regions {
     }
 
     /// Makes top longer.
-    fn extend_top(&self, tiles: &mut TileWords, growth: u64)
+    pub(crate) fn extend_top(&self, tiles: &mut TileWords, growth: u64)
         requires known { KnowsTop self.now.top tiles.old.tiles }
         requires top { 0 < top_end (bare_arena self.now tiles.old.tiles) }
         requires room { IsRoom tiles.old.extent
@@ -251,7 +269,7 @@ impl Regions {
     }
 
     /// Makes a new range top, closes the one that is left, and gives what is to be released of it.
-    fn move_top(&mut self, tiles: &mut TileWords, at: u64, size: u64) -> Option<Chunk>
+    pub(crate) fn move_top(&mut self, tiles: &mut TileWords, at: u64, size: u64) -> Option<Chunk>
         requires known { KnowsTop self.old.top tiles.old.tiles }
         requires free { times_covered at (bare_arena self.old tiles.old.tiles) ≡ 0 }
         requires some { 0 < size }
@@ -259,6 +277,7 @@ impl Regions {
         requires fits { IsWordSize size }
         ensures rest { result ≡ left_of_top (bare_arena self.old tiles.old.tiles) }
         ensures top { HasTop self.new.top tiles.new.tiles }
+        ensures closed { self.new.closed ≡ self.old.closed }
         ensures arena { (bins : List (List Piece)) (last : Option ℕ)
             → arena_of self.new tiles.new.tiles bins last
             ≡ with_moved_top (arena_of self.old tiles.old.tiles bins last) at size }

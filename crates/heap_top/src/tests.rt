@@ -1,10 +1,12 @@
 //! The calls with ample memory.
 
-ghost use Rattle.std.specs.Prelude.{IfOk};
+ghost use Rattle.std.specs.Prelude.{IfOk, [], ◌∷◌};
+ghost use Rattle.chunk_tags.specs.Tiles.{Row};
 ghost use Rattle.heap_top.specs.Scenes.{IsScene};
+ghost use Rattle.heap_top.specs.HeapScenes.{one_heap, longer_heap, two_heaps, free_rest, heap_again, shorter_heap, IsHeapScene};
 
 use super::*;
-use address_space::{MAIN_START, PIECE_START};
+use address_space::{HEAPS_START, MAIN_START, PIECE_START};
 use chunk_image::TileWords;
 use chunk_tags::{Addr, Chunk, NoMemory, Size, Tile, TileKind};
 use std::alloc::Global;
@@ -23,7 +25,7 @@ fn main_with_words(alloc: Global) -> Result<(Regions, TileWords), NoMemory>
     let mut tiles = TileWords::new(alloc, Addr(MAIN_START), PIECE_START - MAIN_START);
     tiles.open(alloc, Addr(MAIN_START), BREAK_ROOM)?;
     tiles.open(alloc, Addr(PIECE_START), PIECE_ROOM)?;
-    Ok((Regions::main(), tiles))
+    Ok((Regions::main(alloc), tiles))
 }
 
 /// The break grows.
@@ -90,10 +92,9 @@ fn expect_tiles(
     rt: &impl Abort,
     alloc: Global,
     tiles: &TileWords,
-    main: &Regions,
     want: &[(u64, u64, TileKind)],
 ) -> Result<(), NoMemory>
-    requires { IsScene main.now tiles.now }
+    requires { Row tiles.now.tiles }
 {
     let is = tiles.tiles(alloc)?;
     assert_eq!(rt; is.len(), want.len());
@@ -125,7 +126,7 @@ fn top_grows(
         (MAIN_START, 32, TileKind::Used),
         (MAIN_START + 32, 139_232, TileKind::Top),
     ];
-    expect_tiles(rt, alloc, tiles, main, &want)
+    expect_tiles(rt, alloc, tiles, &want)
 }
 
 /// A piece is top, and the old one ends in a fence.
@@ -152,7 +153,7 @@ fn top_moves(
         (MAIN_START + 139_232, 32, TileKind::Fence),
         (PIECE_START, 1_048_576, TileKind::Top),
     ];
-    expect_tiles(rt, alloc, tiles, main, &want)
+    expect_tiles(rt, alloc, tiles, &want)
 }
 
 /// A top of 48 bytes, and one of 32, are all fence.
@@ -181,7 +182,7 @@ fn small_tops_close(
         (PIECE_START + 1_048_528, 48, TileKind::Fence),
         (PIECE_START + 1_048_576, 1_048_576, TileKind::Top),
     ];
-    expect_tiles(rt, alloc, tiles, main, &want)
+    expect_tiles(rt, alloc, tiles, &want)
 }
 
 /// Top goes back to the break, whose end is given back; the maximum stays.
@@ -212,5 +213,101 @@ fn top_grows_is_cut_and_moves(rt: HostRuntime) -> Result<(), Fail> {
     top_moves(&rt, rt.alloc(), &mut main, &mut tiles)?;
     small_tops_close(&rt, rt.alloc(), &mut main, &mut tiles)?;
     top_goes_back(&rt, &mut main, &mut tiles);
+    Ok(())
+}
+
+/// Arena 1 with a chunk of 1024 bytes in its heap 0, and with words for both its windows.
+fn with_a_heap(alloc: Global) -> Result<(Regions, TileWords), NoMemory>
+    ensures { IfOk result (λ x. IsHeapScene x.0 x.1 one_heap []) }
+{
+    let mut tiles = TileWords::new(alloc, Addr(HEAPS_START), 65_536);
+    tiles.open(alloc, Addr(HEAPS_START), 65_536)?;
+    tiles.open(alloc, Addr(HEAPS_START + 65_536), 65_536)?;
+    let mut heaps = Regions::other(alloc, 1, 65_536, 2)?;
+    heaps.open_heap(&mut tiles, 8192);
+    heaps.cut_top(&mut tiles, Size(1024));
+    Ok((heaps, tiles))
+}
+
+/// Heap 0 becomes a page longer.
+fn extend_first(heaps: &mut Regions, tiles: &mut TileWords)
+    requires { IsHeapScene heaps.old tiles.old one_heap [] }
+    ensures { IsHeapScene heaps.new tiles.new longer_heap [] }
+{
+    heaps.extend_heap(tiles, 4096);
+}
+
+/// A second heap comes, and what is left of the old top is given.
+fn add_second(heaps: &mut Regions, tiles: &mut TileWords) -> Option<Chunk>
+    requires { IsHeapScene heaps.old tiles.old longer_heap [] }
+    ensures { IsHeapScene heaps.new tiles.new two_heaps (12288 ∷ []) }
+{
+    heaps.add_heap(tiles, 8192)
+}
+
+/// What is left of the old top is free.
+fn free_the_rest(heaps: &Regions, tiles: &mut TileWords)
+    requires { IsHeapScene heaps.now tiles.old two_heaps (12288 ∷ []) }
+    ensures { IsHeapScene heaps.now tiles.new free_rest (12288 ∷ []) }
+{
+    let rest = Tile {
+        addr: Addr(HEAPS_START + 3264),
+        size: Size(8992),
+        kind: TileKind::Used,
+    };
+    tiles.set_kind(&rest, TileKind::Free);
+}
+
+/// The second heap is dropped.
+fn drop_second(rt: &impl Abort, heaps: &mut Regions, tiles: &mut TileWords)
+    requires { IsHeapScene heaps.old tiles.old free_rest (12288 ∷ []) }
+    ensures { IsHeapScene heaps.new tiles.new heap_again [] }
+{
+    let end = heaps.end_before(tiles).expect(rt, "an end");
+    assert_eq!(rt; end.room, 53_248);
+    heaps.drop_heap(tiles, &end);
+}
+
+/// Heap 0, before which there is none, becomes a page shorter.
+fn shorten_first(rt: &impl Abort, heaps: &mut Regions, tiles: &mut TileWords)
+    requires { IsHeapScene heaps.old tiles.old heap_again [] }
+    ensures { IsHeapScene heaps.new tiles.new shorter_heap [] }
+{
+    assert_eq!(rt; heaps.end_before(tiles), None);
+    heaps.shorten_heap(tiles, 4096);
+}
+
+#[test]
+fn heaps_come_and_go(rt: HostRuntime) -> Result<(), Fail> {
+    let alloc = rt.alloc();
+    let (mut heaps, mut tiles) = with_a_heap(alloc)?;
+    extend_first(&mut heaps, &mut tiles);
+    assert_eq!(rt; heaps.system, 12_288);
+    let rest = add_second(&mut heaps, &mut tiles);
+    assert_eq!(rt;
+        rest,
+        Some(Chunk {
+            at: Addr(HEAPS_START + 3264),
+            size: Size(8992)
+        })
+    );
+    assert_eq!(rt; heaps.system, 20_480);
+    let want = [
+        (HEAPS_START + 2240, 1024, TileKind::Used),
+        (HEAPS_START + 3264, 8992, TileKind::Used),
+        (HEAPS_START + 12_256, 32, TileKind::Fence),
+        (HEAPS_START + 65_568, 8160, TileKind::Top),
+    ];
+    expect_tiles(&rt, alloc, &tiles, &want)?;
+    free_the_rest(&heaps, &mut tiles);
+    drop_second(&rt, &mut heaps, &mut tiles);
+    assert_eq!(rt; heaps.system, 12_288);
+    shorten_first(&rt, &mut heaps, &mut tiles);
+    assert_eq!(rt; heaps.system, 8192);
+    let want = [
+        (HEAPS_START + 2240, 1024, TileKind::Used),
+        (HEAPS_START + 3264, 4928, TileKind::Top),
+    ];
+    expect_tiles(&rt, alloc, &tiles, &want)?;
     Ok(())
 }

@@ -1,6 +1,6 @@
 -- What each call keeps.
 use Rattle.std.proofs.Common.{◌≡◌, ℕ, ◌+◌, ◌≤◌, Bool, true, false, ◌&&◌, cond, List, [], Option, Some, None, IfSome, IsTrue, refl, sym, ap, ◌∙◌, subst, arith}
-use Rattle.std.proofs.lemmas.Bool.{eqb-true}
+use Rattle.std.proofs.lemmas.Bool.{eqb-true, true≢false}
 use Rattle.std.proofs.Math.Bool.{and-false, and-true}
 use Rattle.std.specs.Prelude.{nat_eq, IfNone, sum_by, count_by, not, if◌then◌else◌}
 use Rattle.chunk_tags.specs.BinOrder.{once, same_chunk, times_in, fast_chunk}
@@ -37,7 +37,7 @@ use Rattle.arena_core.specs.declared.journal.Who.{Who}
 use Rattle.arena_core.specs.declared.take.Take.{Take}
 use Rattle.arena_core.specs.declared.take.Take.TheVariants as takes
 use Rattle.arena_core.specs.Arenas.{held, Takes, Records, take_of, mapped_block, chunks_got}
-use Rattle.arena_core.specs.Asking.{beside_arena, chunks_found}
+use Rattle.arena_core.specs.Asking.{IsReady, beside_arena, chunks_found}
 use Rattle.arena_core.specs.Ledgers.{stage, Balances, full}
 use Rattle.arena_core.specs.Replay.{chunk_at}
 use Rattle.arena_core.proofs.Growing.{walks_windows}
@@ -51,6 +51,15 @@ use Rattle.hold_lists.specs.Ports.{port_fast, port_dials}
 
 abbrev of_port : Means PlainPort BudgetState
 of_port = means port_fast port_dials budget_port
+
+-- a hold of main may begin
+pub ready_main : {t : Tunables} (b : Bench) {hand : Chunks} → IsKept t b hand → IsReady of_port t (stage (main_of b) (beside_arena b.port b.cache b.space) [])
+ready_main b k = record {
+  backed = record { sound = k.sound; used = λ e. omega (arith, k.used e) };
+  placed = k.placed;
+  heaps = λ other. absurd (true≢false (sym k.main ∙ other));
+  windows = k.windows;
+}
 
 -- nothing is there yet
 none_pushed : (e : Chunk) → times_in e (bins.chunks_of empty_state) ≡ 0

@@ -13,6 +13,7 @@ fn user(at: Addr) -> u64 {
 
 fn act_text(alloc: Global, act: &Act) -> Result<String, AllocError> {
     match act {
+        Act::Open { bytes } => format!(in alloc; "open {bytes}"),
         Act::Take { nb } => format!(in alloc; "take {}", nb.0),
         Act::Give { addr, size } => format!(in alloc; "give {:#x} {}", user(*addr), size.0),
         Act::Resize { addr, size, nb } => {

@@ -316,6 +316,7 @@ loses_spared l before after given loses = record {
   sound = loses.sound;
   number = loses.number;
   placed = loses.placed;
+  windows = loses.windows;
   cached = loses.cached;
   others = loses.others;
   kept = λ e. omega (arith, loses.kept e);

@@ -1,7 +1,7 @@
 -- What a hold of an arena needs of what was lent, and what it keeps.
 use Rattle.std.proofs.Common.{◌≡◌, ℕ, ◌+◌, ◌-◌, ◌≤◌, Bool, true, false, ◌&&◌, cond, List, [], Option, Some, None, inl, inr, Result, Ok, Err, refl, sym, ap, ◌∙◌, subst, arith}
 use Rattle.std.specs.Prelude.{nat_eq, IfSome, IsSome, IfOk, IfErr, OnOk, OnErr}
-use Rattle.std.proofs.lemmas.Bool.{ltb-false}
+use Rattle.std.proofs.lemmas.Bool.{ltb-false, true≢false}
 use Rattle.chunk_tags.specs.BinOrder.{once, same_chunk}
 use Rattle.chunk_tags.specs.Tunables.{IsTuned}
 use Rattle.chunk_tags.specs.declared.block.Block.{Block}
@@ -71,8 +71,8 @@ pub ready : {P H D K : Type 0} {ways : PlaceWays P H D} {fast : Fast H} {dials :
     IsReady m t (stage k.arena (beside_arena port cache space) [])
 ready {hands = hands} m same is s cache = record {
   backed = record { sound = is.sound; used = λ e. rw same (omega (arith, is.backed hands s.served e)) };
-  main = is.main;
   placed = is.placed;
+  heaps = λ other. absurd (true≢false (sym is.main ∙ other));
   windows = s.windows;
 }
 
@@ -88,7 +88,7 @@ allows {space = space} is s = record {
 }
 
 pub searchable : {t : Tunables} → IsTuned t → IsSearchable t
-searchable tuned = record { pad = tuned.pad; fast = tuned.fast; main = tuned.main }
+searchable tuned = record { pad = tuned.pad; fast = tuned.fast; main = tuned.main; heap = tuned.heap_most }
 
 -- ---- after
 

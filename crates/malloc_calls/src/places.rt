@@ -26,7 +26,7 @@ pub trait Places {
 
     ghost ways: { PlaceWays Self Self.Hold Self.Dial };
 
-    /// Locks an arena, which is lent with its port. `None` where the arena isn't in its place.
+    /// Locks an arena, which is lent with its port.
     fn lock(&mut self, a: u8) -> (Self::Hold, Option<Arena<Self::Ground>>)
         requires there { IsTrue (ways.there self.old a) }
         ensures lent { ways.lent self.old a result.0

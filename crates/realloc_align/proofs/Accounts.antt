@@ -29,6 +29,7 @@ pub balances_move : {O : Type 0} (l : Ledger O) (x : Stage O) (b : Plain) (left 
 balances_move l x b left came m same = record {
   sound = m.sound;
   number = ap (λ (p : Plain). p.number) same;
+  windows = ap (λ (p : Plain). p.windows) same;
   placed = placed_still x.arena b left came m same;
   cached = λ e. omega arith;
   others = λ n other e. refl;
@@ -37,7 +38,7 @@ balances_move l x b left came m same = record {
 
 -- nothing moved, with a chunk in hand
 pub balances_still : {O : Type 0} (l : Ledger O) (x : Stage O) (hand : Chunks) → IsSound x.arena → Balances l x hand hand x
-balances_still l x hand s = record { sound = s; number = refl; placed = λ p. p; cached = λ e. omega arith; others = λ n other e. refl; kept = λ e. omega arith }
+balances_still l x hand s = record { sound = s; number = refl; windows = refl; placed = λ p. p; cached = λ e. omega arith; others = λ n other e. refl; kept = λ e. omega arith }
 
 -- the chunks of the port stay backed, with what else is in hand
 pub backed_with : {O P : Type 0} (fast : Fast P) (l : Ledger O) (x y : Stage O) (p q : P) (given got more : Chunks) → ((e : Chunk) → fast.stock p e ≡ l.stock x.outside e) → ((e : Chunk) → fast.stock q e ≡ l.stock y.outside e) →
@@ -56,6 +57,7 @@ pub spares_then : {O : Type 0} {l : Ledger O} {x y z : Stage O} {given got lost 
 spares_then {l = l} {x = x} {y = y} {z = z} {given = given} {got = got} {lost = lost} {kept = kept} m n le = record {
   sound = n.sound;
   number = n.number ∙ m.number;
+  windows = n.windows ∙ m.windows;
   placed = λ p. n.placed (m.placed p);
   cached = λ e.
       let f : (k : ℕ) → y.arena.number ≡ k → times_cached k (l.cache y.outside) e ≤ times_cached k (l.cache z.outside) e = λ k same. subst (λ k. times_cached k (l.cache y.outside) e ≤ times_cached k (l.cache z.outside) e) same (n.cached e) in

@@ -63,7 +63,7 @@ resize_short_replay {b = b} start can r old =
       said = r.said;
       added = r.added;
       stops = r.stops;
-      loses = record { sound = r.spares.sound; number = r.spares.number; placed = r.spares.placed; cached = r.spares.cached; others = r.spares.others; kept = λ e. omega (arith, r.spares.kept e) };
+      loses = record { sound = r.spares.sound; number = r.spares.number; windows = r.spares.windows; placed = r.spares.placed; cached = r.spares.cached; others = r.spares.others; kept = λ e. omega (arith, r.spares.kept e) };
     } in
     short_replay start can (inr lost) old
 

@@ -1,11 +1,10 @@
 -- What is left of a reshaped chunk is released.
-use Rattle.std.proofs.Common.{◌≡◌, ℕ, ◌+◌, ◌≤◌, Option, IsTrue, Result, Ok, Err, refl, sym, subst, ap, ◌∙◌, arith}
-use Rattle.std.specs.Prelude.{nat_eq}
+use Rattle.std.proofs.Common.{◌≡◌, ℕ, ◌+◌, ◌≤◌, Option, Result, Ok, Err, refl, sym, subst, ap, ◌∙◌, arith}
 use Rattle.chunk_tags.specs.declared.refusals.NoMemory.{NoMemory}
 use Rattle.chunk_tags.specs.declared.tiles.Chunk.{Chunk}
 use Rattle.chunk_tags.specs.declared.tunables.Tunables.{Tunables}
 use Rattle.address_space.specs.Ports.{Rose}
-use Rattle.arena_rules.specs.PlainArena.{Plain, is_main, once_of}
+use Rattle.arena_rules.specs.PlainArena.{Plain, once_of}
 use Rattle.arena_rules.specs.Growth.{Took, closing}
 use Rattle.arena_rules.specs.Walks.{StopsShort}
 use Rattle.arena_rules.specs.Rules.{Rules, Stop}
@@ -33,9 +32,6 @@ pub rest_backed : {P K : Type 0} (m : Means P K) (t : Tunables) (c : Chunk) (nb 
 rest_backed m t c nb x y r backed w =
     let all = backed_with m.fast (full m) x y x.outside.port y.outside.port (one_chunk c) (chunks_reshaped c r) no_chunk (λ e. refl) (λ e. refl) (backed_less backed (λ e. omega arith)) w.comes.balances in
     backed_less all (λ e. omega arith)
-
-pub rest_main : {P K : Type 0} (m : Means P K) (t : Tunables) (c : Chunk) (nb : ℕ) (x y : Stage (Outside P K)) (r : Reshaped) → IsTrue (is_main x.arena) → Reshapes m t c nb x (Ok r) y → IsTrue (is_main y.arena)
-rest_main m t c nb x y r main w = ap (λ n. nat_eq n 0) w.comes.balances.number ∙ main
 
 pub resizes_released : {P K : Type 0} (m : Means P K) (t : Tunables) (c : Chunk) (nb : ℕ) (x y z : Stage (Outside P K)) (r : Reshaped) → Reshapes m t c nb x (Ok r) y → Closes m t r.rest y (Ok tt) z → Resizes m t c nb x (Ok r.found) z
 resizes_released m t c nb x y z r w v =

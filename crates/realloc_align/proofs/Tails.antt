@@ -32,7 +32,7 @@ use Rattle.arena_core.specs.Ledgers.{Stage, stage, Balances, Works, full}
 use Rattle.arena_core.specs.Steps.{IsEnough}
 use Rattle.arena_core.proofs.Balance.{works_ok, balances_as}
 use Rattle.arena_core.proofs.Parts.{short_behind_works}
-use Rattle.realloc_align.specs.Aligns.{AlignsChunk, FitsAt, FitsAligned}
+use Rattle.realloc_align.specs.Aligns.{AlignsChunk, CutsLead, FitsAt, FitsAligned}
 use Rattle.realloc_align.specs.Resizes.{Comes}
 use Rattle.realloc_align.proofs.Accounts.{balances_move, balances_still, backed_with, backed_less, comes_behind, works_comes, comes_released, short_released}
 
@@ -75,23 +75,28 @@ tail_short m t c nb x z d r err is cut v =
 -- ---- a lead
 
 -- a used chunk's address is a multiple of 16
-pub hand_place : {P : Type 0} {fast : Fast P} {a : Plain} {port : P} (c : Chunk) → IsBacked fast a port (one_chunk c) → c.at % 16 ≡ 0
+hand_place : {P : Type 0} {fast : Fast P} {a : Plain} {port : P} (c : Chunk) → IsBacked fast a port (one_chunk c) → c.at % 16 ≡ 0
 hand_place {a = a} c backed = (own_tile a c backed.sound (own_count a c (hand_own c backed))).place
 
 -- a lead before an aligned part, and the rules then
-pub record HasLead (align nb : ℕ) (c : Chunk) (lead : ℕ) : Type 0 where
+pub record HasLead (align nb : ℕ) (a : Plain) (c : Chunk) (lead : ℕ) : Type 0 where
   pub chunk : IsChunkSize lead
   pub fits : lead + 32 ≤ c.size
+  pub cut : IsCutAt a c lead
   pub aligned : (c.at + lead + 16) % align ≡ 0
   pub rules : (t : Tunables) (a : Plain) → aligned_in t align nb (hand c a) ≡ lead_cut t lead nb (hand c a)
 
-pub has_lead : (align nb : ℕ) (c : Chunk) (lead : ℕ) → lead ≡ lead_of align c.at → (lead ≡ 0 → ⊥) → IsAlignment align → c.at % 16 ≡ 0 → nb % 16 ≡ 0 → size_with_lead align nb ≤ c.size → HasLead align nb c lead
-has_lead align nb c lead is some i place whole le =
+pub has_lead : {P : Type 0} {fast : Fast P} {a : Plain} {port : P} (align nb : ℕ) (c : Chunk) (lead : ℕ) → lead ≡ lead_of align c.at → (lead ≡ 0 → ⊥) → IsAlignment align → IsBacked fast a port (one_chunk c) → nb % 16 ≡ 0 → size_with_lead align nb ≤ c.size → HasLead align nb a c lead
+has_lead {a = a} align nb c lead is some i backed whole le =
+    let place = hand_place c backed in
     let l : IsLead align c.at (lead_of align c.at) = lead_is align c.at i place in
     let other : nat_eq (lead_of align c.at) 0 ≡ false = ne_eqb (lead_of align c.at) 0 (λ e. some (is ∙ e)) in
-    subst (HasLead align nb c) (sym is) (record {
-      chunk = lead_chunk align c.at i place other;
-      fits = omega (arith, aligned_part_fits align nb c.at c.size i place whole le);
+    let chunk : IsChunkSize (lead_of align c.at) = lead_chunk align c.at i place other in
+    let fits : lead_of align c.at + 32 ≤ c.size = omega (arith, aligned_part_fits align nb c.at c.size i place whole le) in
+    subst (HasLead align nb a c) (sym is) (record {
+      chunk = chunk;
+      fits = fits;
+      cut = can_cut c (lead_of align c.at) backed chunk fits;
       aligned = l.aligned;
       rules = λ t a. cond-false {A = Rules Took} (nat_eq (lead_of align c.at) 0) _ _ other;
     })
@@ -100,20 +105,25 @@ has_lead align nb c lead is some i place whole le =
 abbrev tail_behind : Tunables → ℕ → ℕ → Chunk → Plain → Rules Took
 tail_behind t lead nb c b = tail_cut t nb (hand (back_of c lead) b)
 
-pub lead_goes : {P K : Type 0} (m : Means P K) (t : Tunables) (align nb : ℕ) (c : Chunk) (lead : ℕ) (x y z : Stage (Outside P K)) (r : Result Chunk NoMemory) → HasLead align nb c lead → IsCutAt x.arena c lead → Closes m t (Some (front_of c lead)) (stage (parted x.arena c lead) x.outside x.said) (Ok tt) y →
+pub lead_goes : {P K : Type 0} (m : Means P K) (t : Tunables) (align nb : ℕ) (c : Chunk) (lead : ℕ) (x y z : Stage (Outside P K)) (r : Result Chunk NoMemory) → HasLead align nb x.arena c lead → Closes m t (Some (front_of c lead)) (stage (parted x.arena c lead) x.outside x.said) (Ok tt) y →
     AlignsChunk m t (tail_cut t nb (hand (back_of c lead) y.arena)) (back_of c lead) y r z → AlignsChunk m t (aligned_in t align nb (hand c x.arena)) c x r z
-lead_goes m t align nb c lead x y z r h cut v w =
-    works_comes r (comes_released (tail_behind t lead nb c) (front_of c lead) x y (parted x.arena c lead) (one_chunk c) (one_chunk (back_of c lead)) (h.rules t x.arena) (cut_hand m x c lead cut) v) w
+lead_goes m t align nb c lead x y z r h v w =
+    works_comes r (comes_released (tail_behind t lead nb c) (front_of c lead) x y (parted x.arena c lead) (one_chunk c) (one_chunk (back_of c lead)) (h.rules t x.arena) (cut_hand m x c lead h.cut) v) w
 
-pub lead_short : {P K : Type 0} (m : Means P K) (t : Tunables) (align nb : ℕ) (c : Chunk) (lead : ℕ) (x z : Stage (Outside P K)) (d : NoMemory) (r : Result Chunk NoMemory) → IsErr r → HasLead align nb c lead → IsCutAt x.arena c lead → Closes m t (Some (front_of c lead)) (stage (parted x.arena c lead) x.outside x.said) (Err d) z →
+pub lead_short : {P K : Type 0} (m : Means P K) (t : Tunables) (align nb : ℕ) (c : Chunk) (lead : ℕ) (x z : Stage (Outside P K)) (d : NoMemory) (r : Result Chunk NoMemory) → IsErr r → HasLead align nb x.arena c lead → Closes m t (Some (front_of c lead)) (stage (parted x.arena c lead) x.outside x.said) (Err d) z →
     AlignsChunk m t (aligned_in t align nb (hand c x.arena)) c x r z
-lead_short m t align nb c lead x z d r err h cut v =
-    short_released (tail_behind t lead nb c) (front_of c lead) x z (parted x.arena c lead) (one_chunk c) (one_chunk (back_of c lead)) d r err (h.rules t x.arena) (cut_hand m x c lead cut) v
+lead_short m t align nb c lead x z d r err h v =
+    short_released (tail_behind t lead nb c) (front_of c lead) x z (parted x.arena c lead) (one_chunk c) (one_chunk (back_of c lead)) d r err (h.rules t x.arena) (cut_hand m x c lead h.cut) v
 
 -- the aligned part is in hand behind the release of the lead
 pub part_backed : {P K : Type 0} (m : Means P K) (t : Tunables) (c : Chunk) (lead : ℕ) (x y : Stage (Outside P K)) → IsBacked m.fast x.arena x.outside.port (one_chunk c) → IsCutAt x.arena c lead → Closes m t (Some (front_of c lead)) (stage (parted x.arena c lead) x.outside x.said) (Ok tt) y → IsBacked m.fast y.arena y.outside.port (one_chunk (back_of c lead))
 part_backed m t c lead x y backed cut v =
     backed_less (backed_with m.fast (full m) (stage (parted x.arena c lead) x.outside x.said) y x.outside.port y.outside.port (one_chunk (front_of c lead)) no_chunk (one_chunk (back_of c lead)) (λ e. refl) (λ e. refl) (parts_backed c lead backed cut) v.keeps) (λ e. omega arith)
+
+-- memory was short in the release of a lead
+pub cuts_short : {P K : Type 0} (m : Means P K) (t : Tunables) (c : Chunk) (lead : ℕ) (x y : Stage (Outside P K)) (e : NoMemory) (r : Result Chunk NoMemory) → IsErr r → Closes m t (Some (front_of c lead)) (stage (parted x.arena c lead) x.outside x.said) (Err e) y → CutsLead m t c lead x r y
+cuts_short m t c lead x y e (Ok d) is v = absurd cc
+cuts_short m t c lead x y e (Err d) is v = v
 
 -- what is kept is enough, and aligned as its part is
 pub fits_at : (align nb : ℕ) (part : Chunk) (r : Result Chunk NoMemory) → (part.at + 16) % align ≡ 0 → IfOk r (λ d. d.at ≡ part.at) → IfOk r (λ d. IsEnough nb d.size) → IfOk r (λ d. FitsAt align nb d.at d.size)

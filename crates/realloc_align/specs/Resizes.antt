@@ -69,6 +69,7 @@ pub record Comes {O A : Type 0} (l : Ledger O) (t : Tunables) (r : Rules A) (x :
 pub record Spares {O : Type 0} (l : Ledger O) (before : Stage O) (given got : Chunks) (after : Stage O) : Type 0 where
   pub sound : IsSound after.arena
   pub number : after.arena.number ≡ before.arena.number
+  pub windows : after.arena.windows ≡ before.arena.windows
   pub placed : IsPlaced before.arena → IsPlaced after.arena
   pub cached : KeepsCached l before.arena.number before.outside after.outside
   pub others : KeepsOthers before.arena.number (l.cache before.outside) (l.cache after.outside)

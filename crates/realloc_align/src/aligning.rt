@@ -1,18 +1,18 @@
 //! A chunk is searched for whose user address is a multiple, and what is before and behind it is released.
 
 ghost use Rattle.std.specs.Prelude.{◌≡◌, ◌+◌, ◌-◌, ◌^◌, ◌<◌, ◌≤◌, IsTrue, IfOk, nat_lt};
-ghost use Rattle.chunk_tags.specs.Sizes.{IsRequestSize};
+ghost use Rattle.chunk_tags.specs.Sizes.{IsChunkSize, IsRequestSize};
 ghost use Rattle.address_space.specs.Ports.{Rose};
 ghost use Rattle.address_space.specs.Spaces.{space_refusals};
-ghost use Rattle.arena_rules.specs.PlainArena.{is_main};
 ghost use Rattle.arena_rules.specs.Moves.{hand};
+ghost use Rattle.arena_rules.specs.Resize.{back_of};
 ghost use Rattle.arena_rules.specs.Align.{IsAlignment, bytes_past, align_of, aligned_in, tail_cut, lead_of, size_with_lead};
 ghost use Rattle.consolidate_trim.specs.Holds.{IsBacked, one_chunk};
 ghost use Rattle.consolidate_trim.specs.Outside.{Apart, means};
 ghost use Rattle.arena_core.specs.Ledgers.{stage};
 ghost use Rattle.arena_core.specs.Asking.{IsSearchable, IsReady, AllowsMaps, Finds, beside_arena};
 ghost use Rattle.arena_core.specs.Steps.{IsEnough};
-ghost use Rattle.realloc_align.specs.Aligns.{AlignsChunk, FitsAt, FitsAligned};
+ghost use Rattle.realloc_align.specs.Aligns.{AlignsChunk, CutsLead, FitsAt, FitsAligned};
 
 use crate::cutting::{MIN_CHUNK, front_of};
 use address_space::{Kernel, Space};
@@ -80,7 +80,6 @@ fn cut_tail<M: Moves, K: Kernel, P: FastPort + Dials>(
 ) -> Result<Chunk, NoMemory>
     requires backed { IsBacked P.fast (M.plain g.old) port.old (one_chunk c.now) }
     requires apart { Apart P.fast P.dials }
-    requires main { IsTrue (is_main (M.plain g.old)) }
     requires fast { t.now.max_fast ≤ 160 }
     requires size { IsRequestSize nb }
     requires fits { nb ≤ c.now.size }
@@ -99,6 +98,32 @@ fn cut_tail<M: Moves, K: Kernel, P: FastPort + Dials>(
     Ok(front_of(c, nb))
 }
 
+/// Cuts a lead of so many bytes off the front of a used chunk, releases it, and gives what is behind it.
+fn cut_lead<M: Moves, K: Kernel, P: FastPort + Dials>(
+    g: &mut M,
+    c: &Chunk,
+    lead: Size,
+    cache: &mut Cache,
+    port: &mut P,
+    space: &mut Space<K>,
+    t: &Tunables,
+    said: &mut Vec<Said>,
+) -> Result<Chunk, NoMemory>
+    requires backed { IsBacked P.fast (M.plain g.old) port.old (one_chunk c.now) }
+    requires apart { Apart P.fast P.dials }
+    requires fast { t.now.max_fast ≤ 160 }
+    requires chunk { IsChunkSize lead }
+    requires fits { lead + 32 ≤ c.now.size }
+    ensures cuts { CutsLead (means P.fast P.dials K.port) t.now c.now lead
+        (stage (M.plain g.old) (beside_arena port.old cache.old space.old) said.old.items)
+        result (stage (M.plain g.new) (beside_arena port.new cache.new space.new) said.new.items) }
+    ensures part { IfOk result (λ d. d ≡ back_of c.now lead) }
+{
+    let part = g.part(*c, lead);
+    release(g, front_of(c, lead), cache, port, space, t, said)?;
+    Ok(part)
+}
+
 /// Keeps the aligned part of a used chunk, of `nb` bytes, and releases what is before and behind it.
 fn align_in<M: Moves, K: Kernel, P: FastPort + Dials>(
     g: &mut M,
@@ -113,7 +138,6 @@ fn align_in<M: Moves, K: Kernel, P: FastPort + Dials>(
 ) -> Result<Chunk, NoMemory>
     requires backed { IsBacked P.fast (M.plain g.old) port.old (one_chunk c.now) }
     requires apart { Apart P.fast P.dials }
-    requires main { IsTrue (is_main (M.plain g.old)) }
     requires fast { t.now.max_fast ≤ 160 }
     requires size { IsRequestSize nb }
     requires align { IsAlignment align }
@@ -129,9 +153,7 @@ fn align_in<M: Moves, K: Kernel, P: FastPort + Dials>(
     if lead == 0 {
         return cut_tail(g, c, nb, cache, port, space, t, said);
     }
-    let part = g.part(*c, Size(lead));
-    let before = front_of(c, Size(lead));
-    release(g, before, cache, port, space, t, said)?;
+    let part = cut_lead(g, c, Size(lead), cache, port, space, t, said)?;
     cut_tail(g, &part, nb, cache, port, space, t, said)
 }
 

@@ -4,7 +4,6 @@ ghost use Rattle.std.specs.Prelude.{◌≡◌, ◌≤◌, IsTrue, IfOk};
 ghost use Rattle.chunk_tags.specs.Sizes.{IsRequestSize};
 ghost use Rattle.address_space.specs.Ports.{Rose};
 ghost use Rattle.address_space.specs.Spaces.{space_refusals};
-ghost use Rattle.arena_rules.specs.PlainArena.{is_main};
 ghost use Rattle.consolidate_trim.specs.Holds.{IsBacked, one_chunk};
 ghost use Rattle.consolidate_trim.specs.Outside.{Apart, means};
 ghost use Rattle.arena_core.specs.Ledgers.{stage};
@@ -40,7 +39,6 @@ fn release_rest<M: Moves, K: Kernel, P: FastPort + Dials>(
 ) -> Result<(), NoMemory>
     requires backed { IsBacked P.fast (M.plain g.old) port.old (chunks_in rest) }
     requires apart { Apart P.fast P.dials }
-    requires main { IsTrue (is_main (M.plain g.old)) }
     requires fast { t.now.max_fast ≤ 160 }
     ensures { Closes (means P.fast P.dials K.port) t.now rest
         (stage (M.plain g.old) (beside_arena port.old cache.old space.old) said.old.items)

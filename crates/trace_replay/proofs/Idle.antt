@@ -1,5 +1,5 @@
--- Of main's tiles those in bins and top are idle; they are at most its bytes from the system.
-use Rattle.std.proofs.Common.{◌≡◌, ℕ, ◌+◌, ◌^◌, ◌<◌, ◌≤◌, true, false, List, [], ◌∷◌, ◌++◌, Option, Some, None, refl, ap, arith}
+-- Of an arena's tiles those in bins and top are idle; they are at most its bytes from the system.
+use Rattle.std.proofs.Common.{◌≡◌, ℕ, ◌+◌, ◌^◌, ◌<◌, ◌≤◌, Bool, true, false, List, [], ◌∷◌, ◌++◌, Option, Some, None, refl, ap, arith}
 use Rattle.std.specs.Prelude.{filter, map, length, sum_by, IfSome, if◌then◌else◌}
 use Rattle.std.specs.Global.{Vec}
 use Rattle.std.proofs.lemmas.List.{length-map}
@@ -9,8 +9,9 @@ use Rattle.thread_cache.specs.Held.{IsSound}
 use Rattle.std.proofs.lemmas.List.Elements.{All-from_recursion}
 use Rattle.std.proofs.lemmas.List.Sums.{sum_by-cons}
 use Rattle.chunk_tags.specs.declared.tiles.Tile.{Tile}
-use Rattle.arena_rules.specs.MainPlaces.{IsMainPlaced}
-use Rattle.arena_rules.specs.PlainArena.{Plain}
+use Rattle.arena_rules.specs.HeapPlaces.{IsHeapPlaced}
+use Rattle.arena_rules.specs.MainPlaces.{IsMainPlaced, IsPlaced}
+use Rattle.arena_rules.specs.PlainArena.{Plain, is_main}
 use Rattle.stats_text.specs.declared.views.Place.{Place}
 use Rattle.stats_text.specs.declared.views.TileView.{TileView}
 use Rattle.stats_text.specs.Totals.{HasTotals, is_idle_place, tile_bytes_of, idle_bytes_of, system_bytes_of}
@@ -51,6 +52,16 @@ idle_tiles found (t ∷ ts) =
 
 pub idle_in_main : (a : Plain) (found : List Found) → IsMainPlaced a → idle_bytes_of (shown_tiles found a.tiles) ≤ a.system
 idle_in_main a found placed = omega (arith, idle_tiles found a.tiles, placed.tiled)
+
+-- so it is in any arena
+idle_by : (main : Bool) (a : Plain) (found : List Found) → is_main a ≡ main → IsPlaced a → (is_main a ≡ false → (closed : List ℕ) × IsHeapPlaced a closed) →
+    idle_bytes_of (shown_tiles found a.tiles) ≤ a.system
+idle_by true a found e placed heaps = idle_in_main a found (placed e)
+idle_by false a found e placed heaps = let h = heaps e in omega (arith, idle_tiles found a.tiles, h.1.tiled)
+
+pub idle_in_arena : (a : Plain) (found : List Found) → IsPlaced a → (is_main a ≡ false → (closed : List ℕ) × IsHeapPlaced a closed) →
+    idle_bytes_of (shown_tiles found a.tiles) ≤ a.system
+idle_in_arena a found placed heaps = idle_by (is_main a) a found refl placed heaps
 
 pub system_fits : (a : Plain) → IsMainPlaced a → a.system < 2 ^ 32
 system_fits a placed =

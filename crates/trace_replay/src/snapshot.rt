@@ -1,6 +1,7 @@
 //! What a report shows of a process.
 
-ghost use Rattle.std.specs.Prelude.{◌≡◌, ◌≤◌, ◌<◌, ◌^◌, None, [], length, map, fold, IfOk, OnOk};
+ghost use Rattle.std.specs.Prelude.{◌≡◌, ◌≤◌, ◌<◌, ◌^◌, None, [], length, map, fold, IsTrue, IfOk, OnOk};
+ghost use Rattle.arena_rules.specs.PlainArena.{is_main};
 ghost use Rattle.stats_text.specs.Totals.{HasTotals, idle_bytes_of};
 ghost use Rattle.stats_text.specs.Views.{lists_of};
 ghost use Rattle.thread_cache.specs.Caches.{addresses_of};
@@ -65,7 +66,8 @@ fn main_view(
     finds: &[Find],
     fast: Vec<(u8, Vec<Addr>)>,
 ) -> Result<ArenaView, NoMemory>
-    requires { length ground.now.arena.bins ≡ 127 }
+    requires bins { length ground.now.arena.bins ≡ 127 }
+    requires main { IsTrue (is_main ground.now.arena) }
     ensures shown { IfOk result (λ a. a ≡ main_with ground.now.arena finds.now (lists_of fast.items)) }
     ensures idle { IfOk result (λ a. idle_bytes_of a.tiles ≤ a.system) }
     ensures fits { IfOk result (λ a. a.system < 2 ^ 32) }

@@ -35,13 +35,6 @@ close-requires-clause-backed g t c = λ k l.
     rw (c.take_break-rest.ensures.rest, c.take_break-rest.ensures.arena, c.ask_break.ensures.arena, c.growth_for-growth.ensures)
     (break_ready _ c.args.t.now c.args.nb _ _ _ _ _ _ _ c.requires.ready c.requires.tuned c.requires.size c.requires.short asked).backed
 
-pub close-requires-clause-main : goal.close-requires-clause-main
-close-requires-clause-main g t c = λ k l.
-    let granted : c.in_ok-ask_break.field-0 ≡ true = search rules in
-    let asked = rw (c.growth_for-growth.ensures, granted) at c.in_ok-ask_break.ensures.asked in
-    rw (c.take_break-rest.ensures.arena, c.ask_break.ensures.arena, c.growth_for-growth.ensures)
-    (break_ready _ c.args.t.now c.args.nb _ _ _ _ _ _ _ c.requires.ready c.requires.tuned c.requires.size c.requires.short asked).main
-
 pub returns-in_err-close : goal.returns-in_err-close
 returns-in_err-close g t c =
     let up : c.args.turns ≡ suc (c.args.turns - 1) = omega arith in

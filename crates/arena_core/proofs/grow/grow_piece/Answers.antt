@@ -20,12 +20,6 @@ close-requires-clause-backed g c = λ k l.
     rw (c.take_piece-rest.ensures.rest, c.take_piece-rest.ensures.arena, c.ask_piece.ensures.arena, c.piece_for-len.ensures)
     (piece_ready _ c.args.t.now c.args.nb _ _ _ _ _ _ _ c.requires.ready c.requires.tuned c.requires.size c.requires.short asked).backed
 
-pub close-requires-clause-main : goal.close-requires-clause-main
-close-requires-clause-main g c = λ k l.
-    let asked = rw (c.piece_for-len.ensures, c.if-not-branch.false) at c.in_ok-ask_piece.ensures.asked in
-    rw (c.take_piece-rest.ensures.arena, c.ask_piece.ensures.arena, c.piece_for-len.ensures)
-    (piece_ready _ c.args.t.now c.args.nb _ _ _ _ _ _ _ c.requires.ready c.requires.tuned c.requires.size c.requires.short asked).main
-
 pub returns : goal.returns
 returns g c =
     let asked = rw (c.piece_for-len.ensures, c.if-not-branch.false) at c.in_ok-ask_piece.ensures.asked in

@@ -19,11 +19,14 @@ returns-then-branch-clause-finds g c = system_goes _ c.args.t.now c.args.nb _ _ 
 pub grow-requires-clause-ready : goal.grow-requires-clause-ready
 grow-requires-clause-ready g c = λ k l. whether_ready _ c.args.t.now c.args.nb _ _ _ _ _ _ _ c.in_ok-maps_first.field-0 c.requires.ready c.in_ok-maps_first.ensures
 
+pub grow-requires-clause-allows : goal.grow-requires-clause-allows
+grow-requires-clause-allows g c = λ k l untried. whether_allows (means g.P.FastPort.fast g.P.Dials.dials g.K.Kernel.port) c.args.t.now c.args.nb _ _ _ _ _ _ c.requires.allows c.in_ok-maps_first.ensures
+
 pub returns-clause-finds : goal.returns-clause-finds
-returns-clause-finds g c = system_goes _ c.args.t.now c.args.nb _ _ _ _ _ _ _ false _ c.grow.result c.requires.ready.backed.sound (rw c.if-branch.false at c.in_ok-maps_first.ensures) (c.grow.ensures.finds false)
+returns-clause-finds g c = system_goes _ c.args.t.now c.args.nb _ _ _ _ _ _ _ false _ c.grow.result c.requires.ready.backed.sound (rw c.if-branch.false at c.in_ok-maps_first.ensures) c.grow.ensures.finds
 
 pub returns-then-branch-clause-refused : goal.returns-then-branch-clause-refused
-returns-then-branch-clause-refused g c = nowhere_refused c.args.nb c.map_or_grow.result (returns-then-branch-clause-finds g c) c.requires.ready c.requires.tuned c.requires.short
+returns-then-branch-clause-refused g c = nowhere_refused c.args.nb c.map_or_grow.result (returns-then-branch-clause-finds g c) c.requires.ready c.requires.tuned c.top_law.ensures c.requires.short
 
 pub returns-clause-refused : goal.returns-clause-refused
-returns-clause-refused g c = nowhere_refused c.args.nb c.grow.result (returns-clause-finds g c) c.requires.ready c.requires.tuned c.requires.short
+returns-clause-refused g c = nowhere_refused c.args.nb c.grow.result (returns-clause-finds g c) c.requires.ready c.requires.tuned c.top_law.ensures c.requires.short

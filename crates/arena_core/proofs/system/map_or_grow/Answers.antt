@@ -12,4 +12,4 @@ pub grow-requires-clause-ready : goal.grow-requires-clause-ready
 grow-requires-clause-ready g c = λ k l. refused_map_ready _ c.args.t.now c.args.nb _ _ _ _ _ _ _ _ c.requires.ready (rw c.in-None.is at c.in_ok-c.ensures.asks)
 
 pub returns-in-None-clause-finds : goal.returns-in-None-clause-finds
-returns-in-None-clause-finds g c = maps_refused _ c.args.t.now c.args.nb _ _ _ _ _ _ _ _ _ _ c.grow.result c.requires.ready.backed.sound (rw c.in-None.is at c.in_ok-c.ensures.asks) (c.grow.ensures.finds true)
+returns-in-None-clause-finds g c = maps_refused _ c.args.t.now c.args.nb _ _ _ _ _ _ _ _ _ _ c.grow.result c.requires.ready.backed.sound (rw c.in-None.is at c.in_ok-c.ensures.asks) c.grow.ensures.finds

@@ -9,11 +9,11 @@ pub invariant_of-self : goal.invariant_of-self
 invariant_of-self c =
     let g = held _ _ _ _ _ c.self.invariant c.self.view_is c.requires.sound in
     (cut_done _ _ _ _ _ _ c.args.nb g c.requires.chunk (rw (← c.self.view_is) at c.requires.room)
-    (record { arena = c.cut_top.ensures.arena (bins_at c.self.inside.tiles.tiles c.self.inside.links.lists) c.self.inside.last; top = c.cut_top.ensures.top; extent = c.cut_top.ensures.extent })).kept
+    (record { arena = c.cut_top.ensures.arena (bins_at c.self.inside.tiles.tiles c.self.inside.links.lists) c.self.inside.last; top = c.cut_top.ensures.top; extent = c.cut_top.ensures.extent; closed = c.cut_top.ensures.closed })).kept
 
 pub returns-clause-arena : goal.returns-clause-arena
 returns-clause-arena c =
     let g = held _ _ _ _ _ c.self.invariant c.self.view_is c.requires.sound in
     (cut_done _ _ _ _ _ _ c.args.nb g c.requires.chunk (rw (← c.self.view_is) at c.requires.room)
-    (record { arena = c.cut_top.ensures.arena (bins_at c.self.inside.tiles.tiles c.self.inside.links.lists) c.self.inside.last; top = c.cut_top.ensures.top; extent = c.cut_top.ensures.extent })).is
+    (record { arena = c.cut_top.ensures.arena (bins_at c.self.inside.tiles.tiles c.self.inside.links.lists) c.self.inside.last; top = c.cut_top.ensures.top; extent = c.cut_top.ensures.extent; closed = c.cut_top.ensures.closed })).is
     ∙ ap (λ (v : GroundView). cut_from_top v.arena c.args.nb) c.self.view_is

@@ -3,7 +3,7 @@ use Rattle.std.specs.Option.{IsSome}
 use Rattle.arena_rules.specs.Moves.{hand, joined_before}
 use Rattle.arena_ground.specs.Grounds.{GroundView}
 use Rattle.heap_top.proofs.TopLaws.{pair_below}
-use Rattle.arena_ground.proofs.Keeping.{held}
+use Rattle.arena_ground.proofs.Keeping.{ground_below, held}
 use Rattle.arena_ground.proofs.Moving.{own_tile}
 use Rattle.arena_ground.proofs.Joining.{pair_before, join_before_done}
 use Rattle.arena_ground.proofs.ground.GroundMoves.join_before.Goals as goal
@@ -43,4 +43,4 @@ pub join-requires-clause-below : goal.join-requires-clause-below
 join-requires-clause-below c =
     let g = held _ _ _ _ _ c.self.invariant c.self.view_is c.requires.sound in
     let pair = pair_before _ _ _ _ c.args.c _ g (rw (← c.self.view_is) at c.requires.own) (sym c.in-Some.ensures) in
-    pair_below _ _ _ _ c.self.invariant.placed pair.found pair.behind
+    pair_below c.self.inside.tiles.tiles _ _ _ (ground_below _ _ _ _ c.self.invariant) pair.found pair.behind

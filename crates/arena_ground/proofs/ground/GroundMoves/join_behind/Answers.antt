@@ -2,7 +2,7 @@ use Rattle.std.proofs.Common.{◌≡◌, sym, ap, ◌∙◌, subst}
 use Rattle.arena_rules.specs.Moves.{hand, joined_behind, is_free_tile}
 use Rattle.arena_ground.specs.Grounds.{GroundView, arena_with}
 use Rattle.heap_top.proofs.TopLaws.{pair_below}
-use Rattle.arena_ground.proofs.Keeping.{held}
+use Rattle.arena_ground.proofs.Keeping.{ground_below, held}
 use Rattle.arena_ground.proofs.Moving.{own_tile}
 use Rattle.arena_ground.proofs.Joining.{pair_behind, join_behind_done, behind_not}
 use Rattle.arena_ground.proofs.ground.GroundMoves.join_behind.Goals as goal
@@ -42,4 +42,4 @@ returns-else-is_free c =
 pub join-requires-clause-below : goal.join-requires-clause-below
 join-requires-clause-below c =
     let g = held _ _ _ _ _ c.self.invariant c.self.view_is c.requires.sound in
-    pair_below _ _ _ _ c.self.invariant.placed (own_tile _ _ _ _ c.args.c g (rw (← c.self.view_is) at c.requires.own)) c.behind-u.ensures
+    pair_below c.self.inside.tiles.tiles _ _ c.args.c.at (ground_below _ _ _ _ c.self.invariant) (own_tile _ _ _ _ c.args.c g (rw (← c.self.view_is) at c.requires.own)) c.behind-u.ensures

@@ -3,7 +3,7 @@ use Rattle.arena_rules.specs.Moves.{hand}
 use Rattle.arena_rules.specs.Resize.{joined_with}
 use Rattle.heap_top.proofs.TopLaws.{pair_below}
 use Rattle.arena_ground.specs.Grounds.{GroundView}
-use Rattle.arena_ground.proofs.Keeping.{held}
+use Rattle.arena_ground.proofs.Keeping.{ground_below, held}
 use Rattle.arena_ground.proofs.Moving.{own_tile}
 use Rattle.arena_ground.proofs.Joining.{used_behind, join_used_done}
 use Rattle.arena_ground.proofs.ground.GroundMoves.join_used.Goals as goal
@@ -21,7 +21,7 @@ fuse-requires-clause-behind c =
 pub fuse-requires-clause-below : goal.fuse-requires-clause-below
 fuse-requires-clause-below c =
     let g = held _ _ _ _ _ c.self.invariant c.self.view_is c.requires.sound in
-    pair_below _ _ _ _ c.self.invariant.placed (own_tile _ _ _ _ c.args.c g (rw (← c.self.view_is) at c.requires.own))
+    pair_below c.self.inside.tiles.tiles _ _ c.args.c.at (ground_below _ _ _ _ c.self.invariant) (own_tile _ _ _ _ c.args.c g (rw (← c.self.view_is) at c.requires.own))
     (used_behind _ _ _ _ c.args.c c.args.d g (rw (← c.self.view_is) at c.requires.own) (rw (← c.self.view_is) at c.requires.next) c.requires.behind)
 
 pub invariant_of-self : goal.invariant_of-self
@@ -34,7 +34,7 @@ overflow_add-size c =
     let g = held _ _ _ _ _ c.self.invariant c.self.view_is c.requires.sound in
     omega (
       arith,
-      pair_below _ _ _ _ c.self.invariant.placed (own_tile _ _ _ _ c.args.c g (rw (← c.self.view_is) at c.requires.own))
+      pair_below c.self.inside.tiles.tiles _ _ c.args.c.at (ground_below _ _ _ _ c.self.invariant) (own_tile _ _ _ _ c.args.c g (rw (← c.self.view_is) at c.requires.own))
           (used_behind _ _ _ _ c.args.c c.args.d g (rw (← c.self.view_is) at c.requires.own) (rw (← c.self.view_is) at c.requires.next) c.requires.behind),
       c.size.view_is,
       c.more.view_is,

@@ -6,7 +6,7 @@ use Rattle.arena_ground.proofs.ground.GroundMoves.note_most.Goals as goal
 
 pub invariant_of-self : goal.invariant_of-self
 invariant_of-self c =
-    noted_kept _ _ _ _ _ c.self.invariant c.note_most.ensures.top (c.note_most.ensures.arena c.self.inside.tiles.tiles (bins_at c.self.inside.tiles.tiles c.self.inside.links.lists) c.self.inside.last)
+    noted_kept _ _ _ _ _ c.self.invariant c.note_most.ensures.top c.note_most.ensures.closed (c.note_most.ensures.arena c.self.inside.tiles.tiles (bins_at c.self.inside.tiles.tiles c.self.inside.links.lists) c.self.inside.last)
 
 pub returns : goal.returns
 returns c =

@@ -35,4 +35,4 @@ returns-clause-arena c =
 
 pub fuse-requires-clause-below : goal.fuse-requires-clause-below
 fuse-requires-clause-below c =
-    pair_below (bare_arena c.args.self.now c.args.tiles.now.tiles) _ _ _ c.requires.main c.requires.chunk c.behind-top.ensures
+    pair_below c.args.tiles.now.tiles _ _ c.args.c.at c.requires.below c.requires.chunk c.behind-top.ensures

@@ -15,7 +15,7 @@ shift_border-requires-clause-less c =
 
 pub shift_border-requires-clause-below : goal.shift_border-requires-clause-below
 shift_border-requires-clause-below c =
-    pair_below (bare_arena c.args.self.now c.args.tiles.now.tiles) _ _ _ c.requires.main c.requires.chunk c.behind-top.ensures
+    pair_below c.args.tiles.now.tiles _ _ c.args.c.at c.requires.below c.requires.chunk c.behind-top.ensures
 
 pub returns-clause-top : goal.returns-clause-top
 returns-clause-top c =

@@ -3,7 +3,7 @@ use Rattle.std.proofs.lemmas.Bool.{cond-true, cond-false}
 use Rattle.arena_rules.specs.Moves.{top_size, with_top_size, with_moved_top, left_of_top}
 use Rattle.arena_rules.specs.Growth.{is_top_at_break, with_break}
 use Rattle.heap_top.specs.Regions.{bare_arena, arena_of}
-use Rattle.heap_top.proofs.TopLaws.{grown_top_fits}
+use Rattle.heap_top.proofs.TopLaws.{grown_top_fits, main_grown}
 use Rattle.heap_top.proofs.regions.Regions.take_break.Goals as goal
 
 pub returns-then-extends-clause-rest : goal.returns-then-extends-clause-rest
@@ -32,4 +32,5 @@ returns-else-extends-clause-arena c = λ bins last.
 
 pub extend_top-requires-clause-fits : goal.extend_top-requires-clause-fits
 extend_top-requires-clause-fits c =
-    grown_top_fits (bare_arena c.args.self.now c.args.tiles.now.tiles) c.args.growth c.requires.main c.requires.known.row c.requires.range.pages c.requires.range.window
+    let a = bare_arena c.args.self.now c.args.tiles.now.tiles in
+    grown_top_fits a c.args.growth c.requires.known.row c.requires.range.pages (main_grown a c.args.growth c.requires.main c.requires.range.window)

@@ -1,5 +1,5 @@
 use Rattle.arena_ground.proofs.Opened.{opened_ground, opened_room}
-use Rattle.arena_ground.proofs.ground.Ground.open.Goals as goal
+use Rattle.arena_ground.proofs.ground.Ground.open_words.Goals as goal
 
 pub invariant_of-self-2 : goal.invariant_of-self-2
 invariant_of-self-2 c =

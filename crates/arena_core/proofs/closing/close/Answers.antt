@@ -1,5 +1,5 @@
 use Rattle.arena_core.proofs.MainGrowth.{closes_none, closes_some}
-use Rattle.arena_core.proofs.grow.close.Goals as goal
+use Rattle.arena_core.proofs.closing.close.Goals as goal
 
 pub returns-in-Some : goal.returns-in-Some
 returns-in-Some g c = rw c.in-Some.is (closes_some _ c.args.t.now c.in-Some.c _ _ _ _ _ _ _ _ _ _ c.release.result c.release.ensures)

@@ -1,0 +1,17 @@
+use Rattle.std.proofs.Common.{◌≡◌, ◌+◌, length, ap, ◌∙◌, subst, refl, arith}
+use Rattle.part_words.specs.Extents.{IsWithinPart}
+use Rattle.arena_rules.specs.Heaps.{heap_start}
+use Rattle.arena_ground.specs.Grounds.{GroundView, arena_with}
+use Rattle.arena_ground.proofs.Heaping.{heap_within}
+use Rattle.arena_ground.proofs.ground.GroundMoves.make_heap_room.Goals as goal
+
+pub open_words-requires : goal.open_words-requires
+open_words-requires c =
+    let a = arena_with c.self.inside.regions c.self.inside.tiles c.self.inside.links c.self.inside.last in
+    let closed = c.self.inside.regions.closed.items in
+    let other = rw (← c.self.view_is) at c.requires.other in
+    let len = rw (← c.self.view_is) at c.requires.length in
+    let start : heap_start a (length closed + 1) + 0 ≡ c.heap_start-at.result = omega (arith, c.heap_start-at.ensures, ap (λ n. heap_start a (n + 1)) (c.from-heap.ensures ∙ c.last_heap.ensures)) in
+    subst (λ (v : GroundView). IsWithinPart v.extent c.heap_start-at.result c.args.len) c.self.view_is
+    (subst (λ at. IsWithinPart c.self.inside.tiles.extent at c.args.len) start
+    (heap_within _ _ _ _ (length closed + 1) 0 c.args.len c.self.invariant other refl len.whole (omega (arith, len.some)) (omega (arith, len.window))))
