@@ -1,13 +1,14 @@
 /* What a plain C program does with the same trace: it reads and checks every line, calls the machine's own malloc, calloc,
  * realloc, posix_memalign and free, and writes a record for each line in the form of a report. It keeps no list of chunks:
- * behind the records it writes the blocks that are left. */
+ * behind the records it writes the blocks that are left. With the word --summary it writes counts of the answers instead.
+ * All threads of the trace are this one thread. */
 #include <malloc.h>
 #include <stdint.h>
 #include <stdio.h>
 #include <stdlib.h>
 #include <string.h>
 
-enum { THREADS = 64, NAMES = 65536, LISTS = 64, FULL = 7 };
+enum { THREADS = 64, NAMES = 65536, TRAYS = 65536, LISTS = 64, FULL = 7 };
 
 struct name {
     void *block;
@@ -15,7 +16,12 @@ struct name {
 };
 
 static struct name *names[THREADS];
+static void *trays[TRAYS];
 static unsigned cached[LISTS];
+
+/* With --summary: what is counted in place of the records. */
+static int summary;
+static unsigned long got, null, missed, skip;
 
 static void fail(unsigned long line, const char *why) {
     fprintf(stderr, "line %lu: %s\n", line, why);
@@ -111,10 +117,20 @@ static void free_block(struct name *name) {
     name->block = NULL;
 }
 
-/* A record's end: the block, and where it is. */
-static void write_block(void *block, const char *place) {
-    char record[80], *to = put_text(put_block(put_text(record, " -> "), block), place);
-    fwrite(record, 1, (size_t)(to - record), stdout);
+/* A record's end; with --summary one is counted instead, where there is something to count. */
+static void answer(const char *text, unsigned long *count) {
+    if (!summary)
+        fputs(text, stdout);
+    else if (count)
+        ++*count;
+}
+
+/* The same with a block, what stands before it, and where it is. */
+static void answer_block(const char *front, void *block, const char *place, unsigned long *count) {
+    char record[80];
+    if (!summary)
+        *put_text(put_block(put_text(record, front), block), place) = 0;
+    answer(record, count);
 }
 
 static void run_line(const char *text, const char *end, unsigned long line) {
@@ -127,7 +143,8 @@ static void run_line(const char *text, const char *end, unsigned long line) {
     char command = *at;
     at += 2;
     struct name *name = find(thread, number(&at, end, line), line);
-    fwrite(text, 1, (size_t)(end - text), stdout);
+    if (!summary)
+        fwrite(text, 1, (size_t)(end - text), stdout);
     if (command == 'm' || command == 'c' || command == 'a') {
         uint64_t first = command == 'm' ? 0 : number(&at, end, line);
         uint64_t size = number(&at, end, line);
@@ -138,14 +155,14 @@ static void run_line(const char *text, const char *end, unsigned long line) {
         name->held = 1;
         name->block = take(command, first, size);
         if (!name->block) {
-            fputs(" -> null big\n", stdout);
+            answer(" -> null big\n", &null);
             return;
         }
         size_t list = list_of(name->block);
         int from_cache = command == 'm' && list < LISTS && cached[list] > 0;
         if (from_cache)
             cached[list]--;
-        write_block(name->block, from_cache ? " cached\n" : " arena 0\n");
+        answer_block(" -> ", name->block, from_cache ? " cached\n" : " arena 0\n", &got);
     } else if (command == 'r') {
         uint64_t size = number(&at, end, line);
         if (at != end)
@@ -154,43 +171,64 @@ static void run_line(const char *text, const char *end, unsigned long line) {
             fail(line, "NotHeld");
         if (size == 0) {
             free_block(name);
-            fputs(" -> freed cached\n", stdout);
+            answer(" -> freed cached\n", NULL);
             return;
         }
         if (!name->block) {
-            fputs(" -> skip\n", stdout);
+            answer(" -> skip\n", &skip);
             return;
         }
         uintptr_t old = (uintptr_t)name->block;
         size_t list = list_of(name->block);
         void *block = realloc(name->block, size);
         if (!block) {
-            fputs(" -> null big\n", stdout);
+            answer(" -> null big\n", &null);
             return;
         }
         name->block = block;
         if ((uintptr_t)block != old)
             note_cached(list);
-        write_block(block, (uintptr_t)block == old ? " kept\n" : " moved arena 0\n");
+        answer_block(" -> ", block, (uintptr_t)block == old ? " kept\n" : " moved arena 0\n", &got);
     } else if (command == 'f') {
         if (at != end)
             fail(line, "Fields");
         if (!name->held)
             fail(line, "NotHeld");
+        int is_there = name->block != NULL;
         free_block(name);
-        fputs(" -> cached\n", stdout);
+        answer(is_there ? " -> cached\n" : " -> skip\n", is_there ? NULL : &skip);
+    } else if (command == 'p' || command == 't') {
+        uint64_t tray = number(&at, end, line);
+        if (at != end)
+            fail(line, "Fields");
+        if (tray >= TRAYS)
+            fail(line, "Tray");
+        if (name->held != (command == 'p'))
+            fail(line, command == 'p' ? "NotHeld" : "Held");
+        name->held = command == 't';
+        void **from = command == 'p' ? &name->block : &trays[tray], **to = command == 'p' ? &trays[tray] : &name->block;
+        *to = *from;
+        *from = NULL;
+        if (command == 'p')
+            answer(*to ? " -> posted\n" : " -> skip\n", *to ? NULL : &skip);
+        else if (*to)
+            answer_block(" -> taken ", *to, "\n", NULL);
+        else
+            answer(" -> missed empty\n", &missed);
     } else {
         fail(line, "Command");
     }
 }
 
-int main(void) {
+int main(int words, char **word) {
     static const char header[] = "ptmtrace 1\n";
+    summary = words > 1 && strcmp(word[1], "--summary") == 0;
     size_t length;
     char *bytes = read_all(&length), *end = bytes + length;
     if (length < sizeof header - 1 || memcmp(bytes, header, sizeof header - 1))
         fail(1, "Header");
-    puts("ptmreport 1 serial");
+    if (!summary)
+        puts("ptmreport 1 serial");
     unsigned long line = 2;
     for (char *at = bytes + sizeof header - 1; at < end; line++) {
         char *newline = memchr(at, '\n', (size_t)(end - at));
@@ -199,7 +237,9 @@ int main(void) {
         run_line(at, newline, line);
         at = newline + 1;
     }
-    for (unsigned n = 1; names[0] && n < NAMES; n++)
+    if (summary)
+        printf("ptmsummary 1\nlines %lu\ngot %lu\nnull %lu\nmissed %lu\nskip %lu\n", line - 2, got, null, missed, skip);
+    for (unsigned n = 1; !summary && names[0] && n < NAMES; n++)
         if (names[0][n].block) {
             char place[80], *to = put_number(put_text(put_block(place, names[0][n].block), " live 0 "), n);
             *to++ = '\n';

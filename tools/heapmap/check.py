@@ -48,10 +48,16 @@ def tool():
 HEAPMAP = tool()
 
 
+def is_report(path):
+    """Whether a report stands in this file: it may be empty, for a run that ends with another status, or a summary."""
+    with open(path) as file:
+        return file.readline().startswith('ptmreport ')
+
+
 def reports():
-    """All reports of tests/replay, without those of runs that end with another status, and the samples."""
+    """All reports of tests/replay, and the samples."""
     found = glob.glob(os.path.join(ROOT, 'tests', 'replay', '**', '*.report'), recursive=True)
-    return sorted(f for f in found if os.path.getsize(f)) + SAMPLES
+    return sorted(f for f in found if is_report(f)) + SAMPLES
 
 
 class Page(HTMLParser):

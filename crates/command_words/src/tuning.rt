@@ -115,6 +115,7 @@ pub(crate) fn set(setting: Setting, n: u64, t: Tunables) -> Tunables
 pub(crate) fn fresh(mode: Mode) -> Draft
     ensures exact { result ≡ fresh_draft mode }
     ensures tuned { IsTuned result.tunables }
+    ensures lines { IfSome result.lines (λ n. n ≤ 1000000) }
 {
     Draft {
         tunables: Tunables::defaults(mode),
@@ -127,8 +128,10 @@ pub(crate) fn fresh(mode: Mode) -> Draft
 pub(crate) fn choose(draft: Draft, choice: Option<Choice>) -> Draft
     requires fits { IfSome choice IsFitting }
     requires tuned { IsTuned draft.tunables }
+    requires lines { IfSome draft.lines (λ n. n ≤ 1000000) }
     ensures exact { result ≡ with_choice draft choice }
     ensures tuned { IsTuned result.tunables }
+    ensures lines { IfSome result.lines (λ n. n ≤ 1000000) }
 {
     match choice {
         Some(Choice::Sets(Setting::Gen, n)) => Draft {

@@ -1,6 +1,6 @@
 //! What all words ask for.
 
-ghost use Rattle.std.specs.Prelude.{◌≡◌, IfSome};
+ghost use Rattle.std.specs.Prelude.{◌≡◌, ◌≤◌, IfSome};
 ghost use Rattle.chunk_tags.specs.Tunables.{IsTuned};
 ghost use Rattle.command_words.specs.Parts.{texts_of, parts_of};
 ghost use Rattle.command_words.specs.Asked.{gives, are_taken, generated_if, draft_of, mode_of, asked_from, asked_of};
@@ -43,6 +43,7 @@ fn are_taken(words: &[String]) -> bool
 fn draft(words: &[String], mode: Mode) -> Draft
     ensures exact { result ≡ draft_of mode (parts_of (texts_of words.now)) }
     ensures tuned { IsTuned result.tunables }
+    ensures lines { IfSome result.lines (λ n. n ≤ 1000000) }
 {
     let mut draft = fresh(mode);
     let mut left = words;
@@ -55,7 +56,9 @@ fn draft(words: &[String], mode: Mode) -> Draft
 
 /// A seed and a count of lines, where both are given; `None` where only one is.
 fn generated(seed: Option<u64>, lines: Option<u64>) -> Option<Option<Generated>>
-    ensures { result ≡ generated_if seed lines }
+    requires { IfSome lines (λ n. n ≤ 1000000) }
+    ensures exact { result ≡ generated_if seed lines }
+    ensures lines { IfSome result (λ made. IfSome made (λ g. g.lines ≤ 1000000)) }
 {
     match (seed, lines) {
         (Some(seed), Some(lines)) => Some(Some(Generated { seed, lines })),
@@ -68,6 +71,7 @@ fn generated(seed: Option<u64>, lines: Option<u64>) -> Option<Option<Generated>>
 fn read(words: &[String]) -> Option<Asked>
     ensures exact { result ≡ asked_from (parts_of (texts_of words.now)) }
     ensures tuned { IfSome result (λ asked. IsTuned asked.tunables) }
+    ensures lines { IfSome result (λ asked. IfSome asked.generated (λ made. made.lines ≤ 1000000)) }
 {
     if !are_taken(words) {
         return None;
@@ -96,6 +100,9 @@ fn read(words: &[String]) -> Option<Asked>
 pub fn read_words(words: &[String]) -> Option<Asked>
     ensures exact { result ≡ asked_of words.now }
     ensures tuned { IfSome result (λ asked. IsTuned asked.tunables) }
+
+    // A trace that is made has at most a million lines.
+    ensures lines { IfSome result (λ asked. IfSome asked.generated (λ made. made.lines ≤ 1000000)) }
 {
     match words.split_first() {
         Some((_name, behind)) => read(behind),

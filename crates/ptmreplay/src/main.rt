@@ -1,9 +1,10 @@
-//! `ptmreplay`: reads a trace of malloc calls from standard input and writes the report to standard output.
+//! `ptmreplay`: reads a trace of malloc calls from standard input, or makes one, and writes the report or the summary
+//! to standard output.
 #![tactic(auto)]
 
-ghost use Rattle.std.specs.Prelude.{◌≡◌, ◌⊎◌, ℕ, List, Some, replicate, IfOk, IfErr, IsOk, Err};
+ghost use Rattle.std.specs.Prelude.{◌≡◌, ◌⊎◌, ℕ, List, replicate, IfOk, IfErr, IsOk, Err};
 ghost use Rattle.trace_replay.specs.Asked.{served_of};
-ghost use Rattle.trace_replay.specs.Headline.{Answers};
+ghost use Rattle.trace_replay.specs.Headline.{TellsInput, Answers};
 ghost use Rattle.trace_replay.specs.SerialText.{verdict};
 
 mod ending;
@@ -69,7 +70,7 @@ fn replay_over<S: Source, W: Sink>(
     sink: &mut W,
 ) -> Exit
     // What is written and what is refused is what the rules give over these ports.
-    ensures told { (bytes : List ℕ) → S.supply.left source.old ≡ Some bytes →
+    ensures told { (bytes : List ℕ) → TellsInput S.supply (served_of words.now) source.old bytes →
         Answers (verdict ⟦<Always as Kernel>⟧.port (replicate 64 (record {})) (served_of words.now) bytes)
         W.store sink.old result sink.new }
 

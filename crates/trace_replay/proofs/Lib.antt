@@ -10,6 +10,8 @@ mod Mappings
 mod Tiles
 mod Serving
 mod Stepping
+mod SheetLaws
 mod ReplayLoop
 mod Reports
+mod Jobs
 mod Outcomes

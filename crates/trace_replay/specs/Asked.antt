@@ -1,5 +1,5 @@
 -- What a run serves of what the words of the command line ask for (this project's own).
-use Rattle.std.specs.Prelude.{ℕ, ◌||◌, Bool, true, false, List, Option, Some, None, is_some, Result, Ok, Err, String, if◌then◌else◌}
+use Rattle.std.specs.Prelude.{ℕ, Bool, true, false, List, Option, Some, None, Result, Ok, Err, String, if◌then◌else◌}
 use Rattle.chunk_tags.specs.declared.tunables.Mode.{Mode}
 use Rattle.chunk_tags.specs.declared.tunables.Mode.TheVariants.{Serial, Threads}
 use Rattle.command_words.specs.declared.asked.Asked.{Asked}
@@ -12,9 +12,9 @@ abbrev pub is_threads : Mode → Bool
 is_threads Threads = true
 is_threads Serial = false
 
--- a run with threads, a trace that is made and a summary aren't built yet
+-- a run with threads isn't built yet
 abbrev pub awaits_building : Asked → Bool
-awaits_building asked = is_threads asked.mode || (is_some asked.generated || asked.summary)
+awaits_building asked = is_threads asked.mode
 
 -- words that aren't taken are Usage; what isn't built yet is NotBuilt at line 0, which no line has
 abbrev pub served_if : Option Asked → Result Asked Exit

@@ -1,11 +1,13 @@
 -- What a run promises (this project's own).
-use Rattle.std.specs.Prelude.{◌≡◌, ℕ, ◌≤◌, List, IsTrue, Some, Result, Err, IsOk, IsOkAnd, ◌⊎◌}
+use Rattle.std.specs.Prelude.{◌≡◌, ℕ, ◌≤◌, List, IsTrue, Option, Some, None, Result, Ok, Err, IsOk, IsOkAnd, ◌⊎◌}
 use Rattle.std.specs.List.{All}
 use Rattle.address_space.specs.Ports.{Port, Rose}
 use Rattle.byte_edge.specs.Streams.{Supply, Store, EndsInFailedCall}
 use Rattle.byte_edge.specs.Input.{IsWhole, IsTooMuch, IsCutOff}
 use Rattle.byte_edge.specs.Output.{HasText, HasPrefix}
 use Rattle.trace_text.specs.declared.trace.Line.{Line}
+use Rattle.command_words.specs.declared.asked.Asked.{Asked}
+use Rattle.command_words.specs.declared.asked.Generated.{Generated}
 use Rattle.trace_replay.specs.declared.exit.Exit.{Exit}
 use Rattle.trace_replay.specs.declared.exit.Exit.TheVariants.{Done, Usage, TooLong, ReadFault, WriteFault, NoMemory, NotBuilt}
 
@@ -16,13 +18,24 @@ pub record IsReadWhole {S : Type 0} (supply : Supply S) (before now : S) : Type 
   pub bytes : List ℕ
   pub whole : IsWhole supply before now bytes
 
--- By the answer, what a run whose words are served leaves of its source. A fault is answered exactly where one was counted, and nothing is
--- read behind it, nor behind the read that gave a byte too many. Only for want of memory may bytes be left besides.
-abbrev pub LeavesSource : {S : Type 0} → Supply S → S → Exit → S → Type 0
-LeavesSource supply before ReadFault now = IsCutOff supply before now
-LeavesSource supply before TooLong now = IsTooMuch supply before now
-LeavesSource supply before NoMemory now = supply.faults now ≡ supply.faults before
-LeavesSource supply before _ now = IsReadWhole supply before now
+-- By the answer, what a run that reads its source leaves of it. A fault is answered exactly where one was counted, and
+-- nothing is read behind it, nor behind the read that gave a byte too many. Only for want of memory may bytes be left
+-- besides.
+abbrev pub LeavesRead : {S : Type 0} → Supply S → S → Exit → S → Type 0
+LeavesRead supply before ReadFault now = IsCutOff supply before now
+LeavesRead supply before TooLong now = IsTooMuch supply before now
+LeavesRead supply before NoMemory now = supply.faults now ≡ supply.faults before
+LeavesRead supply before _ now = IsReadWhole supply before now
+
+-- what a run that doesn't read its source leaves of it: all, and no fault of it is answered
+abbrev pub LeavesUnread : {S : Type 0} → S → Exit → S → Type 0
+LeavesUnread before ReadFault now = ⊥
+LeavesUnread before _ now = now ≡ before
+
+-- By the answer, what a run whose words are served leaves of its source. Where its trace is made it isn't read.
+abbrev pub LeavesSource : {S : Type 0} → Supply S → Option Generated → S → Exit → S → Type 0
+LeavesSource supply None before exit now = LeavesRead supply before exit now
+LeavesSource supply (Some made) before exit now = LeavesUnread before exit now
 
 -- a fault was counted, and nothing was asked behind it
 pub record IsFaulted {W : Type 0} (store : Store W) (before now : W) : Type 0 where
@@ -47,9 +60,19 @@ IsUnwritten exit = Unit {0}
 abbrev pub AllTell : {K : Type 0} → Port K → List K → Type 0
 AllTell port kernels = All (λ k. IsTrue (port.tells k)) kernels
 
--- a source tells that these bytes are left, and each port tells
-pub record Told {S K : Type 0} (supply : Supply S) (port : Port K) (source : S) (kernels : List K) (bytes : List ℕ) : Type 0 where
-  pub bytes_left : supply.left source ≡ Some bytes
+-- A source tells what a run needs of it: that these bytes are left. One that isn't read needn't tell anything, and the
+-- bytes are any; so it is where the words are refused, and where the trace is made.
+abbrev pub TellsTrace : {S : Type 0} → Supply S → Option Generated → S → List ℕ → Type 0
+TellsTrace supply None source bytes = supply.left source ≡ Some bytes
+TellsTrace supply (Some made) source bytes = Unit {0}
+
+abbrev pub TellsInput : {S : Type 0} → Supply S → Result Asked Exit → S → List ℕ → Type 0
+TellsInput supply (Ok asked) source bytes = TellsTrace supply asked.generated source bytes
+TellsInput supply (Err exit) source bytes = Unit {0}
+
+-- the source tells so, and each port tells
+pub record Told {S K : Type 0} (supply : Supply S) (port : Port K) (asked : Result Asked Exit) (source : S) (kernels : List K) (bytes : List ℕ) : Type 0 where
+  pub input : TellsInput supply asked source bytes
   pub ports : AllTell port kernels
 
 -- What a run answers, and writes, where these are the rules: their text, all of it or a prefix, or their refusal. A

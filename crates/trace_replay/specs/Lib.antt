@@ -8,6 +8,7 @@ pub mod Asked
 pub mod Records
 pub mod Places
 pub mod SerialText
+pub mod Sheets
 pub mod Tiling
 pub mod Replays
 pub mod Naming

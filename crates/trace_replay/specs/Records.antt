@@ -1,5 +1,5 @@
 -- What a reply is in a report (this project's own).
-use Rattle.std.specs.Prelude.{ℕ, Bool, true, false, List, Option, Some, None, if◌then◌else◌}
+use Rattle.std.specs.Prelude.{ℕ, Bool, true, false, List, map, Option, Some, None, if◌then◌else◌}
 use Rattle.std.specs.List.{flat_map}
 use Rattle.malloc_calls.specs.declared.reply.Reply.{Reply}
 use Rattle.malloc_calls.specs.declared.reply.Reply.TheVariants.{Got, Kept, Null, Freed, NotYours}
@@ -62,6 +62,10 @@ outcome_of call (Kept addr size from) = outcomes.Kept addr size (hold_of from)
 outcome_of call (Null why) = outcomes.Null (null_of why)
 outcome_of call (Freed to) = outcomes.Freed (sink_of to) (is_realloc call)
 outcome_of call NotYours = outcomes.Skip
+
+-- the answers to lines
+abbrev pub outcomes_of : List (Line × Reply) → List Outcome
+outcomes_of replies = map (λ r. outcome_of r.0.call r.1) replies
 
 -- the record of a line, and those of many
 abbrev pub record_of : Line × Reply → List ℕ

@@ -1,4 +1,4 @@
--- The text that a serial run writes for the words, the bytes read and the ports; or how it refuses them
+-- The text that a serial run writes for the words, the bytes of its source and the ports; or how it refuses them
 -- (this project's own).
 use Rattle.std.specs.Prelude.{ℕ, ◌==◌, Bool, not, nat_lt, List, [], ◌∷◌, ◌++◌, length, codes, slice_get, Option, Some, None, Result, Ok, Err, if◌then◌else◌}
 use Rattle.chunk_tags.specs.declared.tunables.Tunables.{Tunables}
@@ -8,14 +8,17 @@ use Rattle.arena_rules.specs.Rules.{windows_of}
 use Rattle.malloc_calls.specs.declared.reply.Reply.{Reply}
 use Rattle.stats_text.specs.Views.{Shown}
 use Rattle.stats_text.specs.Report.{places_of}
+use Rattle.stats_text.specs.Summary.{counts_of, summary_of}
 use Rattle.stats_text.specs.Totals.{statistics_of}
 use Rattle.trace_text.specs.declared.trace.Line.{Line}
 use Rattle.trace_text.specs.Grammar.{Reading, reading_of}
+use Rattle.trace_maker.specs.Generator.{lines_made}
 use Rattle.command_words.specs.declared.asked.Asked.{Asked}
+use Rattle.command_words.specs.declared.asked.Generated.{Generated}
 use Rattle.trace_replay.specs.declared.exit.Exit.{Exit}
 use Rattle.trace_replay.specs.declared.exit.Exit.TheVariants.{Done, BadTrace, TooLong, NotBuilt}
 use Rattle.trace_replay.specs.Places.{shown_of}
-use Rattle.trace_replay.specs.Records.{records_of}
+use Rattle.trace_replay.specs.Records.{outcomes_of, records_of}
 use Rattle.byte_edge.specs.Input.{max_input}
 use Rattle.trace_replay.specs.World.{World, Lack, Unbuilt, Unplayed, opening_world, step}
 
@@ -71,17 +74,25 @@ abbrev pub whole_report : List ℕ → Shown → List ℕ
 whole_report records s = codes "ptmreport 1 serial\n" ++ records ++ sections s
 
 -- the report on what a run gave; the trace has a line, or none
-abbrev pub run_text : {K : Type 0} → Bool → Run K → List ℕ
-run_text lines run = whole_report (records_of run.replies) (shown_of lines run.world)
+abbrev pub run_report : {K : Type 0} → Bool → Run K → List ℕ
+run_report lines run = whole_report (records_of run.replies) (shown_of lines run.world)
 
--- the report on a run that ended so
-abbrev pub report_on : {K : Type 0} → Bool → Result (Run K) Exit → Result (List ℕ) Exit
-report_on lines (Ok run) = Ok (run_text lines run)
-report_on lines (Err exit) = Err exit
+-- the summary of what a run gave: counts of its answers, and the totals of the world at its end
+abbrev pub run_summary : {K : Type 0} → Bool → Run K → List ℕ
+run_summary lines run = summary_of (counts_of (outcomes_of run.replies)) (shown_of lines run.world)
 
--- the report on a run of lines, over the port of thread 0
-abbrev pub report_of : {K : Type 0} → Port K → Tunables → List Line → K → Result (List ℕ) Exit
-report_of port t lines kernel = report_on (has_lines lines) (run_of port t lines (first_world t kernel))
+-- the text on what a run gave: a summary where that is asked for, and else a report
+abbrev pub run_text : {K : Type 0} → Bool → Bool → Run K → List ℕ
+run_text summary lines run = if summary then run_summary lines run else run_report lines run
+
+-- the text on a run that ended so
+abbrev pub text_on : {K : Type 0} → Bool → Bool → Result (Run K) Exit → Result (List ℕ) Exit
+text_on summary lines (Ok run) = Ok (run_text summary lines run)
+text_on summary lines (Err exit) = Err exit
+
+-- the text on a run of lines, a summary or a report, over the port of thread 0
+abbrev pub text_over : {K : Type 0} → Port K → Bool → Tunables → List Line → K → Result (List ℕ) Exit
+text_over port summary t lines kernel = text_on summary (has_lines lines) (run_of port t lines (first_world t kernel))
 
 -- ---- a run's job
 
@@ -103,15 +114,28 @@ job_with asked (Err exit) = Err exit
 abbrev pub job_by : Asked → List ℕ → Result Job Exit
 job_by asked bytes = job_with asked (lines_of (reading_of bytes))
 
--- The job that the words and the bytes give, or how these refuse it: the first that applies. Words that are refused come
--- first, whatever the bytes are.
+-- the same for any bytes
+abbrev pub read_job : Asked → List ℕ → Result Job Exit
+read_job asked bytes = if nat_lt max_input (length bytes) then Err TooLong else job_by asked bytes
+
+-- the job for a trace that is made
+abbrev pub made_job : Asked → Generated → Result Job Exit
+made_job asked made = Ok (record { asked = asked; lines = lines_made made.seed made.lines })
+
+-- a trace is made where that is asked for, whatever the bytes are, and else read
+abbrev pub job_for : Option Generated → Asked → List ℕ → Result Job Exit
+job_for None asked bytes = read_job asked bytes
+job_for (Some made) asked bytes = made_job asked made
+
+-- The job that the words and the bytes give, or how these refuse it: the first that applies. Words that are refused
+-- come first, whatever the bytes are.
 abbrev pub job_of : Result Asked Exit → List ℕ → Result Job Exit
-job_of (Ok asked) bytes = if nat_lt max_input (length bytes) then Err TooLong else job_by asked bytes
+job_of (Ok asked) bytes = job_for asked.generated asked bytes
 job_of (Err exit) bytes = Err exit
 
 -- the text for a job, out of the ports of all threads; that there are 64 is a condition of the run
 abbrev pub over_first : {K : Type 0} → Port K → Job → Option K → Result (List ℕ) Exit
-over_first port job (Some kernel) = report_of port job.asked.tunables job.lines kernel
+over_first port job (Some kernel) = text_over port job.asked.summary job.asked.tunables job.lines kernel
 over_first port job None = Err (NotBuilt 0)
 
 abbrev pub text_of : {K : Type 0} → Port K → List K → Result Job Exit → Result (List ℕ) Exit

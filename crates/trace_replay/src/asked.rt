@@ -1,6 +1,6 @@
 //! What a run serves: what the words of the command line ask for, as far as it is built.
 
-ghost use Rattle.std.specs.Prelude.{◌≡◌, IfOk, IfErr};
+ghost use Rattle.std.specs.Prelude.{◌≡◌, ◌≤◌, IfOk, IfErr, IfSome};
 ghost use Rattle.chunk_tags.specs.Tunables.{IsTuned};
 ghost use Rattle.trace_replay.specs.Asked.{served_of};
 ghost use Rattle.trace_replay.specs.Headline.{IsWordRefusal};
@@ -13,12 +13,13 @@ use command_words::{Asked, read_words};
 pub(crate) fn served(words: &[String]) -> Result<Asked, Exit>
     ensures exact { result ≡ served_of words.now }
     ensures tuned { IfOk result (λ asked. IsTuned asked.tunables) }
+    ensures few { IfOk result (λ asked. IfSome asked.generated (λ made. made.lines ≤ 1000000)) }
     ensures kind { IfErr result IsWordRefusal }
 {
     let Some(asked) = read_words(words) else {
         return Err(Exit::Usage);
     };
-    if asked.mode == Mode::Threads || asked.generated.is_some() || asked.summary {
+    if asked.mode == Mode::Threads {
         return Err(Exit::NotBuilt { line: 0 });
     }
     Ok(asked)

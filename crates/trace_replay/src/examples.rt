@@ -28,6 +28,15 @@ fn traces_have_reports()
     ensures nothing_got { verdict ⟦<Always as Kernel>⟧.port (record {} ∷ []) (served_by (codes "ptmreplay" ∷ [])) NOTHING_GOT.now ≡ Ok NOTHING_GOT_REPORT.now }
 {}
 
+/// Summaries, and traces that are made, whatever the bytes are.
+#[tactic(none)]
+fn traces_are_counted_or_made()
+    ensures two_lines { verdict ⟦<Always as Kernel>⟧.port (record {} ∷ []) (served_by (codes "ptmreplay" ∷ codes "--summary" ∷ [])) TWO_LINES.now ≡ Ok TWO_COUNTED.now }
+    ensures too_big { verdict ⟦<Always as Kernel>⟧.port (record {} ∷ []) (served_by (codes "ptmreplay" ∷ codes "--summary" ∷ [])) TOO_BIG.now ≡ Ok TOO_BIG_COUNTED.now }
+    ensures no_line { (bytes : List ℕ) → verdict ⟦<Always as Kernel>⟧.port (record {} ∷ []) (served_by (codes "ptmreplay" ∷ codes "--gen=5" ∷ codes "--lines=0" ∷ codes "--summary" ∷ [])) bytes ≡ Ok NONE_COUNTED.now }
+    ensures one_line { (bytes : List ℕ) → verdict ⟦<Always as Kernel>⟧.port (record {} ∷ []) (served_by (codes "ptmreplay" ∷ codes "--gen=5" ∷ codes "--lines=1" ∷ [])) bytes ≡ Ok ONE_MADE.now }
+{}
+
 /// What is refused, and as what.
 #[tactic(none)]
 fn others_are_refused()
@@ -37,9 +46,11 @@ fn others_are_refused()
     // a fault goes before what isn't built, also behind it
     ensures fault_first { verdict ⟦<Always as Kernel>⟧.port (record {} ∷ []) (served_by (codes "ptmreplay" ∷ [])) (codes "ptmtrace 1\n0 m 1 24\n0 p 1 7\n0 f 2\n") ≡ Err (Exit.BadTrace 4 NotHeld) }
     ensures too_long { (bytes : List ℕ) → length bytes ≡ 67108865 → verdict ⟦<Always as Kernel>⟧.port (record {} ∷ []) (served_by (codes "ptmreplay" ∷ [])) bytes ≡ Err Exit.TooLong }
-    ensures word { verdict ⟦<Always as Kernel>⟧.port (record {} ∷ []) (served_by (codes "ptmreplay" ∷ codes "--summary" ∷ [])) (codes "ptmtrace 1\n") ≡ Err (Exit.NotBuilt 0) }
+    ensures word { verdict ⟦<Always as Kernel>⟧.port (record {} ∷ []) (served_by (codes "ptmreplay" ∷ codes "--threads" ∷ [])) (codes "ptmtrace 1\n") ≡ Err (Exit.NotBuilt 0) }
     // what the words ask for goes before a fault of the trace
-    ensures word_before_fault { verdict ⟦<Always as Kernel>⟧.port (record {} ∷ []) (served_by (codes "ptmreplay" ∷ codes "--summary" ∷ [])) (codes "ptmtrace 1\n0 f 1\n") ≡ Err (Exit.NotBuilt 0) }
+    ensures word_before_fault { verdict ⟦<Always as Kernel>⟧.port (record {} ∷ []) (served_by (codes "ptmreplay" ∷ codes "--threads" ∷ [])) (codes "ptmtrace 1\n0 f 1\n") ≡ Err (Exit.NotBuilt 0) }
+    ensures fault_of_a_summary { verdict ⟦<Always as Kernel>⟧.port (record {} ∷ []) (served_by (codes "ptmreplay" ∷ codes "--summary" ∷ [])) (codes "ptmtrace 1\n0 f 1\n") ≡ Err (Exit.BadTrace 2 NotHeld) }
+    ensures made_line { (bytes : List ℕ) → verdict ⟦<Always as Kernel>⟧.port (record {} ∷ []) (served_by (codes "ptmreplay" ∷ codes "--gen=5" ∷ codes "--lines=2" ∷ [])) bytes ≡ Err (Exit.NotBuilt 3) }
     ensures unknown_word { verdict ⟦<Always as Kernel>⟧.port (record {} ∷ []) (served_by (codes "ptmreplay" ∷ codes "trace" ∷ [])) (codes "ptmtrace 1\n0 f 1\n") ≡ Err Exit.Usage }
     ensures past_its_range { verdict ⟦<Always as Kernel>⟧.port (record {} ∷ []) (served_by (codes "ptmreplay" ∷ codes "--mxfast=161" ∷ [])) [] ≡ Err Exit.Usage }
     ensures other_thread { verdict ⟦<Always as Kernel>⟧.port (record {} ∷ []) (served_by (codes "ptmreplay" ∷ [])) (codes "ptmtrace 1\n1 m 1 24\n") ≡ Err (Exit.NotBuilt 2) }

@@ -211,7 +211,7 @@ fn words_are_served_or_refused(rt: HostRuntime) -> Result<(), Fail> {
     for (word, exit) in [
         ("ptmreplay", Exit::Done),
         ("--tcache-count=7", Exit::Done),
-        ("--summary", Exit::NotBuilt { line: 0 }),
+        ("--threads", Exit::NotBuilt { line: 0 }),
         ("--summary", Exit::Usage),
     ] {
         words.push(String::from_str(alloc, word)?)?;

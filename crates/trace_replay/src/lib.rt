@@ -1,6 +1,6 @@
-//! The top call: a trace's bytes in, the report's bytes out. A contract sees a run by its words, the bytes that its
-//! source tells, its ports and its answer; the main promise is `run`'s clause `told`: what is written, or how it is
-//! refused, is what the rules give (`verdict` of `SerialText`).
+//! The top call: a trace's bytes in, or a seed, and the bytes of a report or a summary out. A contract sees a run by
+//! its words, the bytes that its source tells, its ports and its answer; the main promise is `run`'s clause `told`:
+//! what is written, or how it is refused, is what the rules give (`verdict` of `SerialText`).
 #![tactic(auto)]
 
 mod asked;
@@ -12,7 +12,9 @@ mod places;
 mod process;
 mod record;
 mod replay;
+mod sheet;
 mod snapshot;
+mod text;
 mod top_call;
 
 pub use byte_edge::{
@@ -28,6 +30,8 @@ pub use trace_text::THREADS;
 mod examples;
 #[cfg(test)]
 mod fault_tests;
+#[cfg(test)]
+mod form_tests;
 #[cfg(test)]
 mod gate_tests;
 #[cfg(test)]

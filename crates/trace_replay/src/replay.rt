@@ -1,23 +1,24 @@
-//! A serial run: the record of each line, in file order.
+//! A serial run: the reply to each line, in file order.
 
-ghost use Rattle.std.specs.Prelude.{◌≡◌, ℕ, false, Err, [], take, IfOk, IfErr, OnOk};
+ghost use Rattle.std.specs.Prelude.{◌≡◌, ℕ, List, ◌∷◌, false, Err, [], take, IfOk, IfErr, OnOk};
 ghost use Rattle.std.specs.List.{All};
 ghost use Rattle.trace_replay.specs.Headline.{IsHalt, IsNumbered};
 ghost use Rattle.trace_replay.specs.Naming.{MayRun, LeavesNames, HoldsWithin};
 ghost use Rattle.trace_replay.specs.Tiling.{TilesAfter};
-ghost use Rattle.trace_replay.specs.Replays.{AnswersAs, AppendsRecord, AppendsRecords};
-ghost use Rattle.trace_text.specs.Spelling.{Allows, spelling_of, texts_of};
+ghost use Rattle.trace_replay.specs.Sheets.{Awaits, CanNote, Notes, NotesRun};
+ghost use Rattle.trace_replay.specs.Replays.{AnswersAs};
+ghost use Rattle.trace_text.specs.Spelling.{Allows};
+ghost use Rattle.trace_text.specs.declared.trace.Line.{Line};
 ghost use Rattle.trace_replay.specs.World.{is_built};
 ghost use Rattle.trace_replay.specs.Processes.{world_of, Tells, names_in, answer_in, run_in, IsSettled};
 
 use crate::exit::{Exit, reply_or_exit};
 use crate::process::Process;
-use crate::record::outcome;
+use crate::sheet::Sheet;
 use address_space::Kernel;
 use malloc_calls::Reply;
-use stats_text::append_record;
 use std::alloc::Global;
-use trace_text::{Line, Texts};
+use trace_text::Line;
 
 /// The reply to a line. For one that isn't built the run ends with that, and never for want of memory.
 fn answer<K: Kernel>(alloc: Global, process: &mut Process<K>, line: &Line) -> Result<Reply, Exit>
@@ -37,22 +38,23 @@ fn answer<K: Kernel>(alloc: Global, process: &mut Process<K>, line: &Line) -> Re
     reply_or_exit(line.number, process.step(alloc, line))
 }
 
-/// Runs a line and appends its record, which begins with the line's own text; then the line's reply.
+/// Runs a line and notes its reply.
 fn replay_line<K: Kernel>(
     alloc: Global,
     process: &mut Process<K>,
     line: &Line,
-    text: &[u8],
-    out: &mut Vec<u8>,
+    sheet: &mut Sheet<'_>,
 ) -> Result<Reply, Exit>
-    requires text { text.now ≡ spelling_of line.now }
+    requires room { CanNote sheet.old }
     requires may { MayRun line.now (names_in process.old) }
     requires settled { IsSettled process.old }
     requires numbered { IsNumbered line.now }
-    ensures told { Tells K.port process.old → AnswersAs (λ reply a.
-        AppendsRecord out.old.items out.new.items line.now reply (world_of process.new) a)
+    ensures told { Tells K.port process.old →
+        AnswersAs (λ reply a. a ≡ (reply, world_of process.new))
         result (answer_in K.port line.now process.old) }
     ensures telling { Tells K.port process.old → OnOk result (Tells K.port process.new) }
+    ensures noted { IfOk result (λ reply. (rest : List Line) → Awaits sheet.old (line.now ∷ rest) →
+        Notes sheet.old line.now reply rest sheet.new) }
     ensures names { IfOk result (λ reply.
         LeavesNames line.now reply (names_in process.old) (names_in process.new)) }
     ensures settled { OnOk result (IsSettled process.new) }
@@ -60,26 +62,24 @@ fn replay_line<K: Kernel>(
     ensures kind { IfErr result IsHalt }
 {
     let reply = answer(alloc, process, line)?;
-    let said = outcome(&line.call, &reply);
-    append_record(out, text, &said, false)?;
+    sheet.note(line, &reply)?;
     Ok(reply)
 }
 
-/// Runs the lines of a trace in their order and appends their records. `texts` has the lines' own texts.
+/// Runs the lines of a trace in their order and notes their replies.
 pub fn replay<K: Kernel>(
     alloc: Global,
     process: &mut Process<K>,
     lines: &[Line],
-    mut texts: Texts<'_>,
-    out: &mut Vec<u8>,
+    sheet: &mut Sheet<'_>,
 ) -> Result<(), Exit>
     requires unnamed { names_in process.old ≡ [] }
     requires settled { IsSettled process.old }
     requires allowed { Allows lines.now }
     requires numbered { All IsNumbered lines.now }
-    requires texts { texts ≡ texts_of lines.now }
+    requires awaits { Awaits sheet.old lines.now }
     ensures told { Tells K.port process.old → AnswersAs (λ _ run.
-        AppendsRecords out.old.items out.new.items (world_of process.new) run)
+        NotesRun sheet.old sheet.new (world_of process.new) run)
         result (run_in K.port lines.now process.old) }
     ensures settled { OnOk result (IsSettled process.new) }
     ensures tiled { Tells K.port process.old → OnOk result ((count : ℕ) →
@@ -88,7 +88,7 @@ pub fn replay<K: Kernel>(
 {
     process.laws();
     for line in lines {
-        replay_line(alloc, process, line, texts.take(), out)?;
+        replay_line(alloc, process, line, sheet)?;
         process.laws();
     }
     Ok(())

@@ -1,4 +1,5 @@
-//! Traces, and the reports that the rules give for them, worked out by hand or by a second implementation.
+//! Traces, and the reports and summaries that the rules give for them, worked out by hand or by a second
+//! implementation.
 
 /// The report on the header alone.
 pub(crate) const EMPTY: &[u8] = b"ptmreport 1 serial
@@ -172,6 +173,73 @@ in use bytes     =       2896
 Total (incl. mmap):
 system bytes     =     135168
 in use bytes     =       2896
+max mmap regions =          0
+max mmap bytes   =          0
+";
+
+/// The summary of the header alone.
+pub(crate) const NONE_COUNTED: &[u8] = b"\
+ptmsummary 1
+lines 0
+got 0
+null 0
+missed 0
+skip 0
+Total (incl. mmap):
+system bytes     =          0
+in use bytes     =          0
+max mmap regions =          0
+max mmap bytes   =          0
+";
+
+/// The summary of two lines that got a block each.
+pub(crate) const TWO_COUNTED: &[u8] = b"\
+ptmsummary 1
+lines 2
+got 2
+null 0
+missed 0
+skip 0
+Total (incl. mmap):
+system bytes     =     135168
+in use bytes     =        736
+max mmap regions =          0
+max mmap bytes   =          0
+";
+
+/// The summary of a request that is too big, and of its name without a block.
+pub(crate) const TOO_BIG_COUNTED: &[u8] = b"\
+ptmsummary 1
+lines 2
+got 0
+null 1
+missed 0
+skip 1
+Total (incl. mmap):
+system bytes     =          0
+in use bytes     =          0
+max mmap regions =          0
+max mmap bytes   =          0
+";
+
+/// The report on the first line of seed 5.
+pub(crate) const ONE_MADE: &[u8] = b"\
+ptmreport 1 serial
+0 m 158 30 -> 0x5555555592a0 48 arena 0
+arena 0 system 135168 max 135168 list 0 last -
+0x555555559010 656 structure 0
+0x5555555592a0 48 live 0 158
+0x5555555592d0 134464 top
+mapped
+thread 0 arena 0
+book free - next - limit 0
+dials threshold 131072 trim 131072 mapped 0 bytes 0
+Arena 0:
+system bytes     =     135168
+in use bytes     =        704
+Total (incl. mmap):
+system bytes     =     135168
+in use bytes     =        704
 max mmap regions =          0
 max mmap bytes   =          0
 ";

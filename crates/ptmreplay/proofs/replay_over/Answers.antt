@@ -5,5 +5,5 @@ use Rattle.address_space.specs.declared.kernel.Always.{Always}
 use Rattle.ptmreplay.proofs.replay_over.Goals as goal
 
 pub returns-in-Ok-clause-told : goal.returns-in-Ok-clause-told
-returns-in-Ok-clause-told g c bytes left =
-    rw c.in-Ok.ensures at (c.run.ensures.told bytes (record { bytes_left = left; ports = rw c.in-Ok.ensures (All-replicate (λ (k : Always). IsTrue true) 64 _ refl) }))
+returns-in-Ok-clause-told g c bytes input =
+    rw c.in-Ok.ensures at (c.run.ensures.told bytes (record { input = input; ports = rw c.in-Ok.ensures (All-replicate (λ (k : Always). IsTrue true) 64 _ refl) }))

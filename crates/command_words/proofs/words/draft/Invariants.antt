@@ -1,4 +1,5 @@
-use Rattle.std.proofs.Common.{◌≡◌, length}
+use Rattle.std.proofs.Common.{◌≡◌, ◌≤◌, length}
+use Rattle.std.specs.Prelude.{IfSome}
 use Rattle.std.specs.List.{fold}
 use Rattle.chunk_tags.specs.Tunables.{IsTuned}
 use Rattle.command_words.specs.Parts.{texts_of, parts_of}
@@ -9,6 +10,7 @@ abbrev pub invariant-loop-part : goal.invariant-loop-part
 invariant-loop-part l = record {
   chosen : draft_of l.fn.mode (parts_of (texts_of l.words)) ≡ fold with_part l.draft (parts_of (texts_of l.left));
   tuned : IsTuned l.draft.tunables;
+  lines : IfSome l.draft.lines (λ n. n ≤ 1000000);
 }
 
 abbrev pub decreases-loop-part : goal.decreases-loop-part

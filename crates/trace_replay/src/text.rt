@@ -1,0 +1,199 @@
+//! The text of a run: for what is asked, the bytes of the source where these are read, and the ports.
+
+ghost use Rattle.std.specs.Prelude.{◌≡◌, ◌≤◌, ℕ, List, Some, vec_len, IsTrue, IsOk, IfOk, IfErr, IfSome, OnOk, MatchResult, Ok, slice_get};
+ghost use Rattle.std.specs.List.{All};
+ghost use Rattle.chunk_tags.specs.Tunables.{IsTuned};
+ghost use Rattle.trace_text.specs.Grammar.{reading_of, threads};
+ghost use Rattle.trace_text.specs.Spelling.{spelling, Allows};
+ghost use Rattle.trace_replay.specs.Headline.{Told, TellsInput, AllTell, Refuses, AnswersJob, LeavesRead, LeavesSource, IsReadWhole, IsServed, IsUnwritten, IsTextRefusal, IsHalt, IsNumbered};
+ghost use Rattle.trace_replay.specs.Sheets.{Spells};
+ghost use Rattle.trace_replay.specs.Replays.{AnswersAs};
+ghost use Rattle.trace_replay.specs.SerialText.{lines_of, text_over, text_of, job_by, read_job, made_job, job_of, verdict};
+ghost use Rattle.trace_replay.specs.Tiling.{GivesTiles, ShowsTiles};
+
+use crate::exit::Exit;
+use crate::process::Process;
+use crate::replay::replay;
+use crate::sheet::Sheet;
+use crate::snapshot::snapshot;
+use address_space::{Kernel, Space, Windows};
+use byte_edge::{Source, read_input};
+use chunk_tags::NoMemory;
+use command_words::{Asked, Generated};
+use std::alloc::Global;
+use trace_maker::generate;
+use trace_text::{Line, Trace, print_trace, read_trace};
+
+/// The lines of the input, or its first fault.
+#[tactic(auto, using(crate::proofs::Numbered::numbered))]
+fn read_lines(alloc: Global, bytes: &[u8]) -> Result<Vec<Line>, Exit>
+    ensures exact { AnswersAs (λ read rules. read.items ≡ rules)
+        result (lines_of (reading_of bytes.now)) }
+    ensures numbered { IfOk result (λ read. All IsNumbered read.items) }
+    ensures spelled { IfOk result (λ read. Allows read.items × (bytes.now ≡ spelling read.items)) }
+    ensures kind { IfErr result IsTextRefusal }
+{
+    let trace = read_trace(alloc, bytes)?;
+    Ok(trace.lines)
+}
+
+/// The port of thread 0.
+fn first_port<K: Kernel>(mut kernels: Vec<K>) -> K
+    requires { vec_len kernels ≡ threads }
+    ensures { slice_get kernels.items 0 ≡ Some result }
+{
+    kernels.swap_remove(0)
+}
+
+/// The text on a run of lines over the port of thread 0. For a report `bytes` spell these lines.
+fn text_over<K: Kernel>(
+    alloc: Global,
+    asked: &Asked,
+    lines: &[Line],
+    bytes: &[u8],
+    kernel: K,
+) -> Result<Vec<u8>, Exit>
+    requires tuned { IsTuned asked.now.tunables }
+    requires numbered { All IsNumbered lines.now }
+    requires allowed { Allows lines.now }
+    requires spelled { Spells asked.now.summary bytes.now lines.now }
+    ensures told { IsTrue (K.port.tells kernel) → AnswersAs (λ text rules. text.items ≡ rules)
+        result (text_over K.port asked.now.summary asked.now.tunables lines.now kernel) }
+    ensures tiled { IsTrue (K.port.tells kernel) →
+        OnOk result (GivesTiles K.port asked.now.tunables lines.now kernel) }
+    ensures kind { IfErr result IsHalt }
+{
+    let t = &asked.tunables;
+    let windows = Windows {
+        main_max: t.main_max,
+        heap_max: t.heap_max,
+        heaps: t.heaps,
+    };
+    let mut process = Process::new(alloc, Space::new(kernel, 0, windows), t)?;
+    let mut sheet = Sheet::new(alloc, asked.summary, bytes)?;
+    replay(alloc, &mut process, lines, &mut sheet)?;
+    let shown = snapshot(alloc, process, !lines.is_empty())?;
+    Ok(sheet.finish(alloc, &shown)?)
+}
+
+/// The texts of a trace's lines, with which the records of a report begin; a summary has none.
+fn line_texts(alloc: Global, summary: bool, trace: &Trace) -> Result<Vec<u8>, NoMemory>
+    ensures { IfOk result (λ texts. Spells summary texts.items trace.now.lines.items) }
+{
+    if summary {
+        Ok(Vec::new(alloc))
+    } else {
+        print_trace(alloc, trace)
+    }
+}
+
+/// The text for a trace that is made, and the ports.
+fn text_of_made<K: Kernel>(
+    alloc: Global,
+    asked: &Asked,
+    made: Generated,
+    kernels: Vec<K>,
+) -> Result<Vec<u8>, Exit>
+    requires ports { vec_len kernels ≡ threads }
+    requires tuned { IsTuned asked.now.tunables }
+    requires few { made.lines ≤ 1000000 }
+    ensures told { AllTell K.port kernels.items → AnswersAs (λ text rules. text.items ≡ rules)
+        result (text_of K.port kernels.items (made_job asked.now made)) }
+    ensures tiled { AllTell K.port kernels.items →
+        OnOk result (ShowsTiles K.port kernels.items (made_job asked.now made)) }
+    ensures kind { IfErr result IsHalt }
+{
+    let trace = generate(alloc, made.seed, made.lines as u32)?;
+    let texts = line_texts(alloc, asked.summary, &trace)?;
+    text_over(
+        alloc,
+        asked,
+        trace.lines.as_slice(),
+        texts.as_slice(),
+        first_port(kernels),
+    )
+}
+
+/// The text for the bytes of a trace, which aren't too many, and the ports.
+fn text_of_bytes<K: Kernel>(
+    alloc: Global,
+    asked: &Asked,
+    bytes: &[u8],
+    kernels: Vec<K>,
+) -> Result<Vec<u8>, Exit>
+    requires ports { vec_len kernels ≡ threads }
+    requires tuned { IsTuned asked.now.tunables }
+    ensures told { AllTell K.port kernels.items → AnswersAs (λ text rules. text.items ≡ rules)
+        result (text_of K.port kernels.items (job_by asked.now bytes.now)) }
+    ensures tiled { AllTell K.port kernels.items →
+        OnOk result (ShowsTiles K.port kernels.items (job_by asked.now bytes.now)) }
+    ensures job { MatchResult result (λ _. IsOk (job_by asked.now bytes.now))
+        (AnswersJob (job_by asked.now bytes.now)) }
+    ensures kind { IfErr result IsTextRefusal }
+{
+    let lines = read_lines(alloc, bytes)?;
+    text_over(alloc, asked, lines.as_slice(), bytes, first_port(kernels))
+}
+
+/// The text for the bytes of the source, and the ports.
+fn text_of_source<S: Source, K: Kernel>(
+    alloc: Global,
+    asked: &Asked,
+    source: &mut S,
+    kernels: Vec<K>,
+) -> Result<Vec<u8>, Exit>
+    requires ports { vec_len kernels ≡ threads }
+    requires tuned { IsTuned asked.now.tunables }
+    ensures told { (bytes : List ℕ) → S.supply.left source.old ≡ Some bytes →
+        AllTell K.port kernels.items → MatchResult result
+        (λ text. text_of K.port kernels.items (read_job asked.now bytes) ≡ Ok text.items)
+        (Refuses (text_of K.port kernels.items (read_job asked.now bytes))) }
+    ensures tiled { (bytes : List ℕ) → S.supply.left source.old ≡ Some bytes →
+        AllTell K.port kernels.items →
+        OnOk result (ShowsTiles K.port kernels.items (read_job asked.now bytes)) }
+    ensures job { (bytes : List ℕ) → S.supply.left source.old ≡ Some bytes →
+        MatchResult result (λ _. IsOk (read_job asked.now bytes))
+        (AnswersJob (read_job asked.now bytes)) }
+    ensures source { MatchResult result
+        (λ _. IsReadWhole S.supply source.old source.new)
+        (λ exit. LeavesRead S.supply source.old exit source.new) }
+    ensures kind { IfErr result IsUnwritten }
+    ensures served { IfErr result IsServed }
+{
+    let bytes = read_input(alloc, source)?;
+    text_of_bytes(alloc, asked, bytes.as_slice(), kernels)
+}
+
+/// The text that a run writes: for what is asked, the bytes of the source where no trace is made, and the ports.
+#[tactic(auto, unfolding(crate::specs::SerialText::verdict))]
+pub(crate) fn text<S: Source, K: Kernel>(
+    alloc: Global,
+    asked: &Asked,
+    source: &mut S,
+    kernels: Vec<K>,
+) -> Result<Vec<u8>, Exit>
+    requires ports { vec_len kernels ≡ threads }
+    requires tuned { IsTuned asked.now.tunables }
+    requires few { IfSome asked.now.generated (λ made. made.lines ≤ 1000000) }
+    ensures told { (bytes : List ℕ) →
+        Told S.supply K.port (Ok asked.now) source.old kernels.items bytes →
+        MatchResult result
+        (λ text. verdict K.port kernels.items (Ok asked.now) bytes ≡ Ok text.items)
+        (Refuses (verdict K.port kernels.items (Ok asked.now) bytes)) }
+    ensures tiled { (bytes : List ℕ) →
+        Told S.supply K.port (Ok asked.now) source.old kernels.items bytes →
+        OnOk result (ShowsTiles K.port kernels.items (job_of (Ok asked.now) bytes)) }
+    ensures job { (bytes : List ℕ) → TellsInput S.supply (Ok asked.now) source.old bytes →
+        MatchResult result (λ _. IsOk (job_of (Ok asked.now) bytes))
+        (AnswersJob (job_of (Ok asked.now) bytes)) }
+    ensures source { MatchResult result
+        (λ _. LeavesSource S.supply asked.now.generated source.old Exit.Done source.new)
+        (λ exit. LeavesSource S.supply asked.now.generated source.old exit source.new) }
+    ensures kind { IfErr result IsUnwritten }
+    ensures served { IfErr result IsServed }
+{
+    match asked.generated {
+        Some(made) => text_of_made(alloc, asked, made, kernels),
+        None => text_of_source(alloc, asked, source, kernels),
+    }
+}
