@@ -1,7 +1,8 @@
 /* What a plain C program does with the same trace: it reads and checks every line, calls the machine's own malloc, calloc,
  * realloc, posix_memalign and free, and writes a record for each line in the form of a report. It keeps no list of chunks:
  * behind the records it writes the blocks that are left. With the word --summary it writes counts of the answers instead.
- * All threads of the trace are this one thread. */
+ * All threads of the trace are this one thread: a tray keeps a block for whoever takes it, and the end of a thread frees
+ * nothing. */
 #include <malloc.h>
 #include <stdint.h>
 #include <stdio.h>
@@ -16,6 +17,7 @@ struct name {
 };
 
 static struct name *names[THREADS];
+static unsigned char ended[THREADS];
 static void *trays[TRAYS];
 static unsigned cached[LISTS];
 
@@ -138,6 +140,17 @@ static void run_line(const char *text, const char *end, unsigned long line) {
     uint64_t thread = number(&at, end, line);
     if (thread >= THREADS)
         fail(line, "Thread");
+    if (ended[thread])
+        fail(line, "Ended");
+    if (end - at == 1 && *at == 'x') {
+        if (thread == 0)
+            fail(line, "MainExit");
+        ended[thread] = 1;
+        if (!summary)
+            fwrite(text, 1, (size_t)(end - text), stdout);
+        answer(" -> ended\n", NULL);
+        return;
+    }
     if (end - at < 3 || at[1] != ' ')
         fail(line, "Fields");
     char command = *at;
@@ -220,6 +233,13 @@ static void run_line(const char *text, const char *end, unsigned long line) {
     }
 }
 
+/* Where a block that is left is found: a text, and a number behind it. */
+static void write_place(const void *block, const char *front, unsigned number) {
+    char place[80], *to = put_number(put_text(put_block(place, block), front), number);
+    *to++ = '\n';
+    fwrite(place, 1, (size_t)(to - place), stdout);
+}
+
 int main(int words, char **word) {
     static const char header[] = "ptmtrace 1\n";
     summary = words > 1 && strcmp(word[1], "--summary") == 0;
@@ -239,11 +259,15 @@ int main(int words, char **word) {
     }
     if (summary)
         printf("ptmsummary 1\nlines %lu\ngot %lu\nnull %lu\nmissed %lu\nskip %lu\n", line - 2, got, null, missed, skip);
-    for (unsigned n = 1; !summary && names[0] && n < NAMES; n++)
-        if (names[0][n].block) {
-            char place[80], *to = put_number(put_text(put_block(place, names[0][n].block), " live 0 "), n);
-            *to++ = '\n';
-            fwrite(place, 1, (size_t)(to - place), stdout);
-        }
+    for (unsigned thread = 0; !summary && thread < THREADS; thread++)
+        for (unsigned n = 1; names[thread] && n < NAMES; n++)
+            if (names[thread][n].block) {
+                char front[32];
+                *put_text(put_number(put_text(front, " live "), thread), " ") = 0;
+                write_place(names[thread][n].block, front, n);
+            }
+    for (unsigned n = 0; !summary && n < TRAYS; n++)
+        if (trays[n])
+            write_place(trays[n], " tray ", n);
     return fflush(stdout) ? 7 : 0;
 }

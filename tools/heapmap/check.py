@@ -33,7 +33,7 @@ if sys.stdin.buffer.read() != %r or sys.argv[1:] != ["--mxfast", "0"]:
     sys.exit("another input")
 sys.stdout.buffer.write(%r)
 if %d:
-    print("ptmreplay: line 2: not built", file=sys.stderr)
+    print("ptmreplay: no memory", file=sys.stderr)
 sys.exit(%d)
 '''
 
@@ -403,7 +403,7 @@ class Tests(unittest.TestCase):
         os.unlink(self.page)
         self.refused(at(5, self.stand_in(trace, report)), '--at 5: the trace has 4 lines')
         self.refused(at(2, self.stand_in(trace, report)), 'the program ended with status 1 and said: another input')
-        self.refused(at(3, self.stand_in(trace, report, 9)), 'status 9 and said: ptmreplay: line 2: not built')
+        self.refused(at(3, self.stand_in(trace, report, 8)), 'status 8 and said: ptmreplay: no memory')
         self.refused(at(3, self.stand_in(trace, report[:99])), 'what the program wrote: line ')
         wrong = report.replace(b'2c0 48 live', b'2d0 48 live')
         self.refused(at(3, self.stand_in(trace, wrong)), 'what the program wrote: ')

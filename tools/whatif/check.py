@@ -103,6 +103,15 @@ class Whatif(unittest.TestCase):
         self.assertRegex(result[2], r'\Awhatif: [^\n]*\n\Z')
         self.assertIn(said, result[2])
 
+    def failing(self):
+        """Words for two values of --main-max, of which the first fails, over a stand-in that knows no others."""
+        for name, content in (('.report', read(MIXED + '.report')), ('+main_max_4096.report', ''),
+                              ('+main_max_4096.status', '8\n'), ('+main_max_4096.stderr', 'ptmreplay: no memory\n'),
+                              ('+main_max_1048576.report', read(MIXED + '+main_max_1048576.report'))):
+            self.script('failing' + name, content)
+        program = self.script('failing', STAND_IN.replace(MIXED, os.path.join(self.room, 'failing')))
+        return ['--program', program, MIXED + '.trace', '--main-max', '4096', '1048576']
+
     def cases(self, program):
         """Every option of which the tests have reports of several values, over the mixed calls."""
         values = {}
@@ -153,9 +162,9 @@ class Whatif(unittest.TestCase):
                      '--', '--mxfast', '2')
 
     def test_a_run_that_fails(self):
-        words = ['--svg', self.picture, '--program', self.stand_in, MIXED + '.trace', '--main-max', '4096', '1048576']
+        words = ['--svg', self.picture] + self.failing()
         _, rows = self.table(1, *words)
-        self.assertEqual(rows['4096'], 'failed, status 9: ' + read(MIXED + '+main_max_4096.stderr').strip())
+        self.assertEqual(rows['4096'], 'failed, status 8: ptmreplay: no memory')
         self.assertEqual(rows['1048576'], numbers_of(read(MIXED + '+main_max_1048576.report')))
         self.assertIn('>4096 failed</text>', read(self.picture))
         os.unlink(self.picture)
@@ -229,9 +238,8 @@ class Whatif(unittest.TestCase):
         if not shutil.which('parallel'):
             self.skipTest('there is no GNU parallel')
         for own in ('', '-j 1', '--nice 1'):
-            for option, values, status in (('mxfast', ('default', '0', '24'), 0), ('main-max', ('4096', '1048576'), 1)):
-                plain = self.table(status, *words, option, *values)
-                self.assertEqual(self.table(status, '--parallel', own, *words, option, *values), plain)
+            for tried, status in ((words + ['mxfast', 'default', '0', '24'], 0), (self.failing(), 1)):
+                self.assertEqual(self.table(status, '--parallel', own, *tried), self.table(status, *tried))
         self.refused(1, 'parallel ended with status', '--parallel', '--no-such', *words, 'mxfast', '0')
 
     def test_bad_input(self):

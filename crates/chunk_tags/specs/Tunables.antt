@@ -20,6 +20,8 @@ pub record IsTuned (t : Tunables) : Type 0 where
   pub heap_most : t.heap_max ≤ 67108864
   pub heaps : t.heaps ≤ 64
   pub one_heap : 0 < t.heaps
+  pub one_arena : 1 ≤ t.records
+  pub records : t.records ≤ 64
 
 -- a serial run's
 abbrev pub serial_values : Tunables

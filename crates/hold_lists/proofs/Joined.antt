@@ -4,7 +4,7 @@ use Rattle.mapped_chunks.specs.Mappings.{IsSteady}
 use Rattle.mapped_chunks.specs.PlainDials.{plain_dials}
 use Rattle.mapped_chunks.proofs.PlainSteady.{plain_steady}
 use Rattle.consolidate_trim.specs.Outside.{Apart}
-use Rattle.malloc_calls.proofs.Joining.{apart_joined}
+use Rattle.serial_places.proofs.Joining.{apart_joined}
 use Rattle.hold_lists.specs.Ports.{port_fast, port_dials}
 
 pub apart : Apart port_fast port_dials

@@ -45,7 +45,7 @@ use Rattle.realloc_align.specs.declared.to_size.Resized.{Resized}
 use Rattle.realloc_align.specs.declared.to_size.Resized.TheVariants.{Kept, Moved, Refused}
 use Rattle.realloc_align.specs.Calls.{ResizesBlock, AlignsBlock, resize_to, aligned_take}
 use Rattle.hold_lists.specs.declared.bench.Bench.{Bench}
-use Rattle.malloc_calls.specs.Playing.{PlainPort}
+use Rattle.serial_places.specs.Playing.{PlainPort}
 use Rattle.hold_lists.specs.Kept.{IsKept, chunks_of, times_of, times_taken, main_of}
 use Rattle.hold_lists.specs.Ports.{port_fast, port_dials}
 

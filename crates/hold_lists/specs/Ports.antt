@@ -3,8 +3,8 @@ use Rattle.fast_bins.specs.FastPorts.{Fast}
 use Rattle.fast_bins.specs.PlainBins.{plain_fast}
 use Rattle.mapped_chunks.specs.DialPorts.{Dialled}
 use Rattle.mapped_chunks.specs.PlainDials.{plain_dials}
-use Rattle.malloc_calls.specs.Joined.{joined_fast, joined_dials}
-use Rattle.malloc_calls.specs.Playing.{PlainPort}
+use Rattle.serial_places.specs.Joined.{joined_fast, joined_dials}
+use Rattle.serial_places.specs.Playing.{PlainPort}
 
 abbrev pub port_fast : Fast PlainPort
 port_fast = joined_fast plain_fast

@@ -16,9 +16,9 @@ use arena_core::{Arena, Take, Who};
 use arena_ground::Ground;
 use chunk_tags::{Block, NoMemory, Size, Tunables, cache_index, fast_index, request_size};
 use fast_bins::{FastPort, PlainFast};
-use malloc_calls::Both;
 use mapped_chunks::{DialState, PlainDials, unmap_freed};
 use realloc_align::{Resized, aligned, resize};
+use serial_places::Both;
 use std::alloc::Global;
 use thread_cache::{Cache, STRUCTURE_SIZE};
 

@@ -1,34 +1,53 @@
 -- Laws of the parts of a call: opening the cache, and a block beside the others of a thread.
 use Rattle.std.proofs.Common.{◌≡◌, ℕ, ◌<◌, Bool, true, false, List, Option, Some, None, length, refl, arith}
+use Rattle.std.specs.Prelude.{Result, Ok, Err, OnOk, OnErr, is_ok}
 use Rattle.std.proofs.lemmas.List.{length-set}
 use Rattle.chunk_tags.specs.Sizes.{structure_size}
 use Rattle.chunk_tags.specs.declared.block.Block.{Block}
 use Rattle.chunk_tags.specs.declared.tunables.Tunables.{Tunables}
-use Rattle.thread_cache.specs.Caches.{CacheValue, is_open}
+use Rattle.thread_cache.specs.Caches.{CacheValue, is_open, opened}
 use Rattle.arena_core.specs.declared.journal.Act.TheVariants as acts
 use Rattle.arena_core.specs.declared.journal.Who.{Who}
-use Rattle.malloc_calls.specs.Calls.{opening, cache_with_structure, taken_of}
-use Rattle.malloc_calls.specs.Going.{Does}
-use Rattle.malloc_calls.specs.Holding.{Takes}
+use Rattle.arena_holds.specs.Calls.{Call}
+use Rattle.arena_holds.specs.Going.{Does}
+use Rattle.arena_holds.specs.Holding.{Finds}
+use Rattle.arena_holds.specs.Places.{PlaceWays, Setting, Standing, Carries, Hands, both_of, weight_of, in_cache}
+use Rattle.arena_holds.specs.Searching.{search}
+use Rattle.malloc_calls.specs.Calls.{opening, cache_with_structure, structure_bytes}
 use Rattle.malloc_calls.specs.Names.{block_at, with_block, without_block}
-use Rattle.malloc_calls.specs.Places.{PlaceWays, Setting, Standing, Carries, Hands, both_of, in_names, in_cache, in_own}
+use Rattle.malloc_calls.specs.Own.{in_names, in_own}
 use Rattle.malloc_calls.specs.declared.own.Own.{Own}
-use Rattle.malloc_calls.proofs.Going.{does_here, does_last}
-use Rattle.malloc_calls.proofs.Carrying.{SameLaw, carries_as, carries_beside}
+use Rattle.arena_holds.proofs.Going.{does_here, does_last}
+use Rattle.arena_holds.proofs.Carrying.{SameLaw, FewerLaw, carries_as, carries_beside, carries_fewer, carries_short}
 use Rattle.malloc_calls.proofs.Put.{without_none}
-use Rattle.malloc_calls.proofs.Weights.{below, in_names-with, in_names-without}
+use Rattle.malloc_calls.proofs.Weights.{below, in_names-with, in_names-without, in_cache-opened, in_cache-closed}
 
 -- ---- opening
 
-pub opening_here : {P H D K : Type 0} (s : Setting P H D K) (t : Tunables) (who : Who) (a : ℕ) (cache : CacheValue) (o : Standing P K) →
-    is_open cache ≡ true → Does s t who (opening t a cache) o cache o
-opening_here s t who a cache o e = rw e (does_here cache o)
+pub opening_here : {P H D K : Type 0} (s : Setting P H D K) (t : Tunables) (who : Who) (thread : ℕ) (cache : CacheValue) (o : Standing P K) →
+    is_open cache ≡ true → Does s t who (opening t thread cache) o cache o
+opening_here s t who thread cache o e = rw e (does_here cache o)
 
-pub opening_taken : {P H D K : Type 0} {s : Setting P H D K} {t : Tunables} {who : Who} {a : ℕ} {cache left : CacheValue} {o z : Standing P K}
-    {place : ℕ} {block : Option Block} → is_open cache ≡ false → Takes s t who a (acts.Take structure_size) structure_size cache o place block left z →
-    Does s t who (opening t a cache) o (cache_with_structure t block left) z
-opening_taken {t = t} {a = a} {left = left} closed h =
-    rw (closed, h.found) (does_last (λ e. cache_with_structure t (taken_of a (acts.Take structure_size) e.ended) e.cache) h.does)
+pub opening_found : {P H D K : Type 0} {s : Setting P H D K} {t : Tunables} {who : Who} {left : CacheValue} {o z : Standing P K}
+    {place : ℕ} (thread : ℕ) (cache : CacheValue) (block : Option Block) → is_open cache ≡ false →
+    Finds s t who (search t thread structure_bytes structure_bytes (acts.Take structure_size) cache) (acts.Take structure_size) cache o place block left z →
+    Does s t who (opening t thread cache) o (cache_with_structure t block left) z
+opening_found {t = t} thread cache block closed h = rw closed (does_last (λ x. cache_with_structure t x.block x.cache) h.does)
+
+-- the cache was opened in a chunk, or memory was short for that
+pub opened_does : {P H D K E : Type 0} {s : Setting P H D K} {t : Tunables} {who : Who} {c : Call CacheValue} {o z : Standing P K} (now after : CacheValue)
+    (r : Result (Unit {0}) E) → OnOk r (now ≡ after) → Does s t who c o after z → OnOk r (Does s t who c o now z)
+opened_does now after (Ok u) e d = rw e d
+opened_does now after (Err x) e d = tt
+
+pub opened_carries : {P H D K E : Type 0} {ways : PlaceWays P H D} {o z : Standing P K} (structure : Block) (count bins : ℕ) (cache left now : CacheValue)
+    (r : Result (Unit {0}) E) → SameLaw ways → FewerLaw ways → is_open left ≡ false → OnOk r (now ≡ opened structure count bins) → OnErr r (now ≡ left) →
+    Carries ways true (in_cache cache) o (both_of (weight_of (Some structure)) (in_cache left)) z → Carries ways (is_ok r) (in_cache cache) o (in_cache now) z
+opened_carries structure count bins cache left now (Ok u) same fewer closed e short c = rw e
+    (carries_as same (in_cache cache) (in_cache (opened structure count bins)) (λ w. refl)
+    (λ w. omega (arith, in_cache-opened structure count bins w, in_cache-closed left w closed)) c)
+opened_carries structure count bins cache left now (Err x) same fewer closed e short c =
+    rw short (carries_fewer fewer (in_cache left) (λ w. omega arith) (carries_short c))
 
 -- ---- beside others
 

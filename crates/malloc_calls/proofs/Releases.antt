@@ -9,7 +9,8 @@ use Rattle.thread_cache.specs.Caches.{CacheValue, takes, with_newest}
 use Rattle.thread_cache.specs.Held.{IsSound}
 use Rattle.arena_core.specs.declared.journal.Who.{Who}
 use Rattle.arena_core.specs.declared.take.GiveShort.{GiveShort}
-use Rattle.malloc_calls.specs.Names.{IsHeld, block_at, with_block, with_some, without_block}
+use Rattle.arena_holds.specs.Blocks.{IsHeld}
+use Rattle.malloc_calls.specs.Names.{block_at, with_block, with_some, without_block}
 use Rattle.malloc_calls.specs.Calls.{past_cache, releasing, opening, with_cache}
 use Rattle.malloc_calls.specs.Frees.{free_call, free_of_block, free_to, without_name}
 use Rattle.malloc_calls.specs.declared.own.Own.{Own}
@@ -17,15 +18,16 @@ use Rattle.malloc_calls.specs.declared.reply.Reply.{Reply}
 use Rattle.malloc_calls.specs.declared.reply.Reply.TheVariants.{Freed}
 use Rattle.malloc_calls.specs.declared.reply.To.{To}
 use Rattle.malloc_calls.specs.declared.reply.To.TheVariants as sinks
-use Rattle.malloc_calls.specs.Going as going
-use Rattle.malloc_calls.specs.Going.{Does, Pushed, here, idled, pushed, freed}
-use Rattle.malloc_calls.specs.Holding.{Gives, FreesMapped, PushesWithRoom}
-use Rattle.malloc_calls.specs.Places.{PlaceWays, Setting, Standing, standing, both_of, Carries, weight_of, in_cache, in_own}
-use Rattle.malloc_calls.specs.Returning.{IsUnseen}
+use Rattle.arena_holds.specs.Going as going
+use Rattle.arena_holds.specs.Going.{Does, Pushed, here, idled, pushed, freed}
+use Rattle.arena_holds.specs.Holding.{Gives, FreesMapped, PushesWithRoom}
+use Rattle.arena_holds.specs.Places.{PlaceWays, Setting, Standing, standing, both_of, Carries, weight_of, in_cache}
+use Rattle.malloc_calls.specs.Own.{in_own}
+use Rattle.arena_holds.specs.Returning.{IsUnseen}
 use Rattle.malloc_calls.specs.Supplying.{Releases, ReleasesShort}
-use Rattle.malloc_calls.proofs.Going.{does_here, does_last, does_then}
+use Rattle.arena_holds.proofs.Going.{does_here, does_last, does_then}
 use Rattle.malloc_calls.proofs.Calling.{carries_given, carries_renamed, carries_unnamed}
-use Rattle.malloc_calls.proofs.Carrying.{SameLaw, carries_here, carries_as, carries_beside, carries_unseen}
+use Rattle.arena_holds.proofs.Carrying.{SameLaw, carries_here, carries_as, carries_beside, carries_unseen}
 use Rattle.malloc_calls.proofs.Put.{put_back}
 use Rattle.malloc_calls.proofs.Weights.{in_cache-put}
 
@@ -105,22 +107,22 @@ freed_to {s = s} {t = t} {who = who} {o = o} {z = z} a name b c own names to lef
     let d : Does s t who (releasing t a b own.cache) o (to, left) z = subst (λ (x : Block). Does s t who (releasing t a x own.cache) o (to, left) z) e h.does in
     rw named (does_last (λ r. (Freed r.0, with_cache r.1 (without_name name own))) d)
 
-pub free_does : {P H D K E : Type 0} (s : Setting P H D K) (t : Tunables) (who : Who) (o p z : Standing P K) (a name : ℕ) (b : Block) (own : Own)
+pub free_does : {P H D K E : Type 0} (s : Setting P H D K) (t : Tunables) (who : Who) (o p z : Standing P K) (thread a name : ℕ) (b : Block) (own : Own)
     (cache : CacheValue) (r : Result Reply E) (after : Own) →
     block_at own.names name ≡ Some b → b.arena ≡ Some a →
-    Does s t who (opening t 0 own.cache) o cache p →
+    Does s t who (opening t thread own.cache) o cache p →
     IfOk r (λ reply. (x : Block) → block_at own.names name ≡ Some x → Does s t who (free_to t a name x (with_cache cache own)) p (reply, after) z) →
-    IfOk r (λ reply. Does s t who (free_call t 0 name own) o (reply, after) z)
-free_does s t who o p z a name b own cache (Ok reply) after at arena d e =
-    let P : Option ℕ → Type 0 = λ x. Does s t who (free_of_block t 0 name b x own) o (reply, after) z in
+    IfOk r (λ reply. Does s t who (free_call t thread name own) o (reply, after) z)
+free_does s t who o p z thread a name b own cache (Ok reply) after at arena d e =
+    let P : Option ℕ → Type 0 = λ x. Does s t who (free_of_block t thread name b x own) o (reply, after) z in
     rw at (subst P (sym arena) (does_then (λ c. free_to t a name b (with_cache c own)) d (e b at)))
-free_does s t who o p z a name b own cache (Err x) after at arena d e = tt
+free_does s t who o p z thread a name b own cache (Err x) after at arena d e = tt
 
-pub free_unmaps : {P H D K : Type 0} {s : Setting P H D K} {t : Tunables} (who : Who) {o z : Standing P K} (name : ℕ) (b : Block) (own : Own) (names : List (Option Block)) →
+pub free_unmaps : {P H D K : Type 0} {s : Setting P H D K} {t : Tunables} (who : Who) {o z : Standing P K} (thread name : ℕ) (b : Block) (own : Own) (names : List (Option Block)) →
     block_at own.names name ≡ Some b → b.arena ≡ None → names ≡ without_block name own.names → FreesMapped s t b o z →
-    Does s t who (free_call t 0 name own) o (Freed sinks.Unmapped, record own { names = names }) z
-free_unmaps {s = s} {t = t} who {o = o} {z = z} name b own names at arena named h =
-    let P : Option ℕ → Type 0 = λ x. Does s t who (free_of_block t 0 name b x own) o (Freed sinks.Unmapped, without_name name own) z in
+    Does s t who (free_call t thread name own) o (Freed sinks.Unmapped, record own { names = names }) z
+free_unmaps {s = s} {t = t} who {o = o} {z = z} thread name b own names at arena named h =
+    let P : Option ℕ → Type 0 = λ x. Does s t who (free_of_block t thread name b x own) o (Freed sinks.Unmapped, without_name name own) z in
     rw (at, named) (subst P (sym arena) (record { told = going.Freed h.threshold ∷ []; goes = freed h.step here }))
 
 -- ---- memory was short for a name's block: it comes back, or doesn't

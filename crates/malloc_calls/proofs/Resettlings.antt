@@ -10,37 +10,40 @@ use Rattle.thread_cache.specs.Caches.{CacheValue}
 use Rattle.arena_core.specs.Arenas.{need_of}
 use Rattle.arena_core.specs.declared.journal.Act.TheVariants as acts
 use Rattle.arena_core.specs.declared.journal.Who.{Who}
-use Rattle.malloc_calls.specs.Names.{IsHeld, block_at, with_block, without_block}
-use Rattle.malloc_calls.specs.Calls.{Call, Done, Supplied, then_call, hold_of, hold_end, origin_of, plain_supply, releasing, FitsName}
-use Rattle.chunk_tags.specs.Sizes.{padded_request, chunk_size_of}
-use Rattle.malloc_calls.specs.Frees.{free_call, free_of_name, IsFreed}
-use Rattle.malloc_calls.specs.Reallocs.{realloc_call, realloc_of_name, realloc_in, Resettled, kept_block, got_block, refused_block, moved_from_arena, moved_from_mapping, after_resize, placed_block, resize_in_arena, resized_to, remapped, not_remapped, realloc_in_mapping, settled, IfAnswered}
+use Rattle.arena_holds.specs.Blocks.{IsHeld}
+use Rattle.malloc_calls.specs.Names.{block_at, with_block, without_block}
+use Rattle.arena_holds.specs.Calls.{Call, Done, then_call, hold_of, hold_end}
+use Rattle.malloc_calls.specs.Calls.{Supplied, origin_of, plain_supply, releasing, FitsName}
+use Rattle.chunk_tags.specs.Sizes.{padded_request}
+use Rattle.malloc_calls.specs.Frees.{IsFreed}
+use Rattle.malloc_calls.specs.Reallocs.{realloc_call, Resettled, kept_block, got_block, refused_block, moved_from_arena, moved_from_mapping, after_resize, resize_in_arena, remapped, not_remapped, realloc_in_mapping, settled, IfAnswered}
+use Rattle.arena_holds.specs.Holding.{resized_to}
 use Rattle.malloc_calls.specs.declared.own.Own.{Own}
 use Rattle.malloc_calls.specs.declared.realloc.Reallocated.{Reallocated}
 use Rattle.malloc_calls.specs.declared.reply.Reply.{Reply}
-use Rattle.malloc_calls.specs.declared.reply.Reply.TheVariants.{Got, Kept, Null, Freed, NotYours}
+use Rattle.malloc_calls.specs.declared.reply.Reply.TheVariants as replies
+use Rattle.malloc_calls.specs.declared.reply.Reply.TheVariants.{Got, Kept, Null, Freed, NotYours, Posted, Taken, Missed}
 use Rattle.malloc_calls.specs.declared.reply.Origin.{Origin}
 use Rattle.malloc_calls.specs.declared.reply.Origin.TheVariants as origins
 use Rattle.realloc_align.specs.declared.to_size.Resized.{Resized}
 use Rattle.realloc_align.specs.declared.to_size.Resized.TheVariants as sizes
 use Rattle.arena_core.specs.declared.journal.Ended.{Ended}
-use Rattle.arena_core.specs.declared.journal.Ended.TheVariants as ends
 use Rattle.arena_rules.specs.Rules.{windows_of}
 use Rattle.mapped_chunks.specs.Mappings.{remap_length, mapping_bytes, mapping_start, chunk_with_lead}
 use Rattle.malloc_calls.specs.declared.reply.Why.TheVariants.{Big, Refused}
 use Rattle.malloc_calls.specs.declared.reply.To.{To}
 use Rattle.malloc_calls.specs.declared.supplying.Supply.{Supply}
-use Rattle.malloc_calls.specs.Going as going
-use Rattle.malloc_calls.specs.Going.{Does, Goes, here}
-use Rattle.malloc_calls.specs.Holding.{Resizes, ResizesShort, UnmapsMapped, RemapsMapped}
-use Rattle.malloc_calls.specs.Places.{PlaceWays, Setting, Standing, Carries, Hands, IsServed, both_of, weight_of, in_cache}
+use Rattle.arena_holds.specs.Going as going
+use Rattle.arena_holds.specs.Going.{Does, Goes, here}
+use Rattle.arena_holds.specs.Holding.{Resizes, ResizesShort, UnmapsMapped, RemapsMapped}
+use Rattle.arena_holds.specs.Places.{PlaceWays, Setting, Standing, Carries, Hands, IsServed, both_of, weight_of, in_cache}
 use Rattle.malloc_calls.specs.Resettling.{Resettles}
 use Rattle.malloc_calls.specs.Supplying.{Supplies, Releases, ReleasesShort, block_of}
 use Rattle.malloc_calls.proofs.Calling.{carries_hand}
-use Rattle.malloc_calls.proofs.Carrying.{SameLaw, FewerLaw, carries_here, carries_as, carries_then, carries_beside, carries_fewer, served_after, served_fewer}
-use Rattle.malloc_calls.proofs.Going.{does_here, does_last, does_then}
+use Rattle.arena_holds.proofs.Carrying.{SameLaw, FewerLaw, carries_here, carries_as, carries_then, carries_beside, carries_fewer, served_after, served_fewer}
+use Rattle.arena_holds.proofs.Going.{does_here, does_last, does_then}
 use Rattle.malloc_calls.proofs.Put.{without_none}
-use Rattle.malloc_calls.proofs.Supplies.{rose_later, given_name, padded_is}
+use Rattle.malloc_calls.proofs.Supplies.{rose_later}
 
 -- ---- malloc in the place of a resize
 
@@ -138,33 +141,21 @@ short_then s b cache now left z (Err e) same carries h = record { held = h.held;
 
 -- ---- a block of an arena
 
--- a resize that was refused leaves the block as it was
-placed_not_refused : (b x c : Block) → sizes.Refused c ≡ placed_block b x → c ≡ b
-placed_not_refused b x c e =
-    let cases : (v : Bool) → sizes.Refused c ≡ cond v (sizes.Kept x) (sizes.Moved x) → c ≡ b = elim [ true ↦ λ h. absurd cc | false ↦ λ h. absurd cc ] in
-    cases _ e
-
-pub refused_is : (a : ℕ) (b c : Block) (nb : ℕ) (ended : Ended) → sizes.Refused c ≡ resized_to a b nb ended → c ≡ b
-refused_is a b c nb (ends.Got at size mapped) e = placed_not_refused b _ c e
-refused_is a b c nb ends.Done e = cc
-refused_is a b c nb ends.Refused e = cc
-refused_is a b c nb ends.Short e = cc
-
 resized_does : {P H D K : Type 0} {s : Setting P H D K} {t : Tunables} {who : Who} {o p z : Standing P K} {place : ℕ} {ended : Ended} {left : CacheValue}
-    (home nb a : ℕ) (b : Block) (cache : CacheValue) (resized : Resized) (y : Resettled) → resized ≡ resized_to a b nb ended →
+    (thread size nb a : ℕ) (b : Block) (cache : CacheValue) (resized : Resized) (y : Resettled) → resized ≡ resized_to a b nb ended →
     Does s t who (hold_of a (acts.Resize b.addr b.size nb) cache) o (hold_end place ended left) p →
-    Does s t who (after_resize t home nb a place resized left) p y z → Does s t who (resize_in_arena t home nb a b cache) o y z
-resized_does {s = s} {t = t} {who = who} {p = p} {z = z} {place = place} {left = left} home nb a b cache resized y became d e =
-    does_then (λ x. after_resize t home nb a x.place (resized_to a b nb x.ended) x.cache) d
-    (subst (λ (x : Resized). Does s t who (after_resize t home nb a place x left) p y z) became e)
+    Does s t who (after_resize t thread size nb a place resized left) p y z → Does s t who (resize_in_arena t thread size nb a b cache) o y z
+resized_does {s = s} {t = t} {who = who} {p = p} {z = z} {place = place} {left = left} thread size nb a b cache resized y became d e =
+    does_then (λ x. after_resize t thread size nb a x.place (resized_to a b nb x.ended) x.cache) d
+    (subst (λ (x : Resized). Does s t who (after_resize t thread size nb a place x left) p y z) became e)
 
 pub resized_kept : {P H D K : Type 0} {s : Setting P H D K} {t : Tunables} {who : Who} {o p : Standing P K} {place : ℕ} {left : CacheValue}
-    (home nb a : ℕ) (b c : Block) (cache : CacheValue) (from : Origin) (resized : Resized) → resized ≡ sizes.Kept c → from ≡ origin_of place c →
-    Resizes s t who a b nb cache o place resized left p → Resettles s t who (resize_in_arena t home nb a b cache) nb b cache o (kept_block from c) left p
-resized_kept {s = s} {t = t} {who = who} {o = o} {p = p} {place = place} {left = left} home nb a b c cache from resized is e r =
+    (thread size nb a : ℕ) (b c : Block) (cache : CacheValue) (from : Origin) (resized : Resized) → resized ≡ sizes.Kept c → from ≡ origin_of place c →
+    Resizes s t who a b nb cache o place resized left p → Resettles s t who (resize_in_arena t thread size nb a b cache) nb b cache o (kept_block from c) left p
+resized_kept {s = s} {t = t} {who = who} {o = o} {p = p} {place = place} {left = left} thread size nb a b c cache from resized is e r =
     let h : Resizes s t who a b nb cache o place (sizes.Kept c) left p = subst (λ x. Resizes s t who a b nb cache o place x left p) is r in
     rw e (record {
-      does = resized_does home nb a b cache (sizes.Kept c) (kept_block (origin_of place c) c, left) h.became h.does (does_here (kept_block (origin_of place c) c, left) p);
+      does = resized_does thread size nb a b cache (sizes.Kept c) (kept_block (origin_of place c) c, left) h.became h.does (does_here (kept_block (origin_of place c) c, left) p);
       held = h.held;
       fits = h.fits.room;
       refused = λ no. absurd cc;
@@ -172,12 +163,12 @@ resized_kept {s = s} {t = t} {who = who} {o = o} {p = p} {place = place} {left =
     })
 
 pub resized_moved : {P H D K : Type 0} {s : Setting P H D K} {t : Tunables} {who : Who} {o p : Standing P K} {place : ℕ} {left : CacheValue}
-    (home nb a : ℕ) (b c : Block) (cache : CacheValue) (from : Origin) (resized : Resized) → resized ≡ sizes.Moved c → from ≡ origin_of place c →
-    Resizes s t who a b nb cache o place resized left p → Resettles s t who (resize_in_arena t home nb a b cache) nb b cache o (got_block from c) left p
-resized_moved {s = s} {t = t} {who = who} {o = o} {p = p} {place = place} {left = left} home nb a b c cache from resized is e r =
+    (thread size nb a : ℕ) (b c : Block) (cache : CacheValue) (from : Origin) (resized : Resized) → resized ≡ sizes.Moved c → from ≡ origin_of place c →
+    Resizes s t who a b nb cache o place resized left p → Resettles s t who (resize_in_arena t thread size nb a b cache) nb b cache o (got_block from c) left p
+resized_moved {s = s} {t = t} {who = who} {o = o} {p = p} {place = place} {left = left} thread size nb a b c cache from resized is e r =
     let h : Resizes s t who a b nb cache o place (sizes.Moved c) left p = subst (λ x. Resizes s t who a b nb cache o place x left p) is r in
     rw e (record {
-      does = resized_does home nb a b cache (sizes.Moved c) (got_block (origin_of place c) c, left) h.became h.does (does_here (got_block (origin_of place c) c, left) p);
+      does = resized_does thread size nb a b cache (sizes.Moved c) (got_block (origin_of place c) c, left) h.became h.does (does_here (got_block (origin_of place c) c, left) p);
       held = h.held;
       fits = h.fits.room;
       refused = λ no. absurd cc;
@@ -185,20 +176,20 @@ resized_moved {s = s} {t = t} {who = who} {o = o} {p = p} {place = place} {left 
     })
 
 pub resized_refused : {P H D K E : Type 0} {s : Setting P H D K} {t : Tunables} {who : Who} {o p : Standing P K} {place : ℕ} {now : CacheValue}
-    (home nb a : ℕ) (b c : Block) (cache left : CacheValue) (z : Standing P K) (resized : Resized) (r : Result Reallocated E) → resized ≡ sizes.Refused c →
+    (thread size nb a : ℕ) (b c : Block) (cache left : CacheValue) (z : Standing P K) (resized : Resized) (r : Result Reallocated E) → resized ≡ sizes.Refused c →
     Resizes s t who a b nb cache o place resized now p →
-    IfOk r (λ done. Resettles s t who (then_call (plain_supply t home nb now) (moved_from_arena t a c)) nb c now p done left z) →
-    IfOk r (λ done. Resettles s t who (resize_in_arena t home nb a b cache) nb b cache o done left z)
-resized_refused {s = s} {t = t} {who = who} {o = o} {p = p} {place = place} {now = now} home nb a b c cache left z resized (Ok done) is r h =
+    IfOk r (λ done. Resettles s t who (then_call (plain_supply t thread size nb now) (moved_from_arena t a c)) nb c now p done left z) →
+    IfOk r (λ done. Resettles s t who (resize_in_arena t thread size nb a b cache) nb b cache o done left z)
+resized_refused {s = s} {t = t} {who = who} {o = o} {p = p} {place = place} {now = now} thread size nb a b c cache left z resized (Ok done) is r h =
     let x : Resizes s t who a b nb cache o place (sizes.Refused c) now p = subst (λ x. Resizes s t who a b nb cache o place x now p) is r in
     record {
-      does = resized_does home nb a b cache (sizes.Refused c) (done, left) x.became x.does h.does;
+      does = resized_does thread size nb a b cache (sizes.Refused c) (done, left) x.became x.does h.does;
       held = h.held;
       fits = h.fits;
       refused = λ e. rose_later _ (space_refusals s.means.kernel p.space) _ x.later (h.refused e);
       carries = carries_then x.carries h.carries;
     }
-resized_refused home nb a b c cache left z resized (Err e) is r h = tt
+resized_refused thread size nb a b c cache left z resized (Err e) is r h = tt
 
 pub resized_short : {P H D K A : Type 0} {s : Setting P H D K} {t : Tunables} {who : Who} {o p : Standing P K} {place : ℕ} {now : CacheValue}
     (nb a : ℕ) (b c : Block) (cache left : CacheValue) (z : Standing P K) (resized : Resized) (r : Result A Block) → resized ≡ sizes.Refused c →
@@ -208,13 +199,6 @@ resized_short nb a b c cache left z resized (Ok x) is r h = tt
 resized_short {s = s} {t = t} {who = who} {o = o} {p = p} {place = place} {now = now} nb a b c cache left z resized (Err e) is r h =
     let x : Resizes s t who a b nb cache o place (sizes.Refused c) now p = subst (λ x. Resizes s t who a b nb cache o place x now p) is r in
     record { held = h.held; carries = carries_then x.carries h.carries }
-
--- what is true of the block that a refused resize hands back
-pub block_refused : {P H D K : Type 0} {s : Setting P H D K} {t : Tunables} {who : Who} {o p : Standing P K} {place : ℕ} {now cache : CacheValue}
-    (nb a : ℕ) (b c : Block) (resized : Resized) → resized ≡ sizes.Refused c → Resizes s t who a b nb cache o place resized now p → c ≡ b
-block_refused {s = s} {t = t} {who = who} {o = o} {p = p} {place = place} {now = now} {cache = cache} nb a b c resized is r =
-    let x : Resizes s t who a b nb cache o place (sizes.Refused c) now p = subst (λ x. Resizes s t who a b nb cache o place x now p) is r in
-    refused_is a b c nb x.ended x.became
 
 pub served_refused : {P H D K : Type 0} {s : Setting P H D K} {t u : Tunables} {who : Who} {o p : Standing P K} {place : ℕ} {now cache : CacheValue}
     (nb a : ℕ) (b c : Block) (resized : Resized) → resized ≡ sizes.Refused c → Resizes s t who a b nb cache o place resized now p → SameLaw s.ways →
@@ -258,10 +242,10 @@ has_length_fits nb b same =
     omega (arith, length)
 
 -- another length was granted
-pub remapped_to : {P H D K : Type 0} {s : Setting P H D K} {t : Tunables} {who : Who} {o z : Standing P K} (home nb : ℕ) (b c : Block) (cache : CacheValue) (done : Reallocated) →
+pub remapped_to : {P H D K : Type 0} {s : Setting P H D K} {t : Tunables} {who : Who} {o z : Standing P K} (thread size nb : ℕ) (b c : Block) (cache : CacheValue) (done : Reallocated) →
     nat_eq (remap_length b nb) (mapping_bytes b) ≡ false → done ≡ remapped b c → RemapsMapped s b nb o (Ok c) z → SameLaw s.ways →
-    Resettles s t who (realloc_in_mapping t home nb b cache) nb b cache o done cache z
-remapped_to {s = s} {t = t} {who = who} {o = o} {z = z} home nb b c cache done other e h same =
+    Resettles s t who (realloc_in_mapping t thread size nb b cache) nb b cache o done cache z
+remapped_to {s = s} {t = t} {who = who} {o = o} {z = z} thread size nb b c cache done other e h same =
     let start : ℕ = mapping_start c in
     let ends : Goes {A = Resettled} s t who (Done (remapped b (chunk_with_lead (remap_length b nb) b start), cache)) z [] (Done (remapped b c, cache)) z =
     subst (λ (x : Block). Goes {A = Resettled} s t who (Done (remapped b x, cache)) z [] (Done (remapped b c, cache)) z) h.chunk here in
@@ -281,12 +265,12 @@ unremapped {s = s} {o = o} {p = p} same b c cache h =
     carries_beside same (in_cache cache) (subst (λ (k : Block). Carries s.ways true (λ weigh. weigh b) o (λ weigh. weigh k) p) h.back h.carries)
 
 -- it was refused, and this comes behind
-pub remap_refused : {P H D K E : Type 0} {s : Setting P H D K} {o p : Standing P K} (t : Tunables) (who : Who) (home nb : ℕ) (b c : Block) (cache left : CacheValue) (z : Standing P K)
+pub remap_refused : {P H D K E : Type 0} {s : Setting P H D K} {o p : Standing P K} (t : Tunables) (who : Who) (thread size nb : ℕ) (b c : Block) (cache left : CacheValue) (z : Standing P K)
     (r : Result Reallocated E) → nat_eq (remap_length b nb) (mapping_bytes b) ≡ false → RemapsMapped s b nb o (Err c) p → SameLaw s.ways →
-    IfOk r (λ done. Resettles s t who (not_remapped t home nb c cache) nb c cache p done left z) →
-    IfOk r (λ done. Resettles s t who (realloc_in_mapping t home nb b cache) nb b cache o done left z)
-remap_refused {s = s} {o = o} {p = p} t who home nb b c cache left z (Ok done) other h same x =
-    let y : Resettles s t who (not_remapped t home nb b cache) nb b cache p done left z = subst (λ (k : Block). Resettles s t who (not_remapped t home nb k cache) nb k cache p done left z) h.back x in
+    IfOk r (λ done. Resettles s t who (not_remapped t thread size nb c cache) nb c cache p done left z) →
+    IfOk r (λ done. Resettles s t who (realloc_in_mapping t thread size nb b cache) nb b cache o done left z)
+remap_refused {s = s} {o = o} {p = p} t who thread size nb b c cache left z (Ok done) other h same x =
+    let y : Resettles s t who (not_remapped t thread size nb b cache) nb b cache p done left z = subst (λ (k : Block). Resettles s t who (not_remapped t thread size nb k cache) nb k cache p done left z) h.back x in
     record {
       does = rw other (record { told = going.Remapped None ∷ y.does.told; goes = going.remapped h.step y.does.goes });
       held = y.held;
@@ -294,7 +278,7 @@ remap_refused {s = s} {o = o} {p = p} t who home nb b c cache left z (Ok done) o
       refused = λ e. rose_later _ (space_refusals s.means.kernel p.space) _ h.later (y.refused e);
       carries = carries_then (unremapped same b c cache h) y.carries;
     }
-remap_refused t who home nb b c cache left z (Err e) other h same x = tt
+remap_refused t who thread size nb b c cache left z (Err e) other h same x = tt
 
 pub served_unremapped : {P H D K : Type 0} {s : Setting P H D K} {t : Tunables} {nb : ℕ} {o p : Standing P K} → (b c : Block) (cache : CacheValue) → RemapsMapped s b nb o (Err c) p → SameLaw s.ways →
     IsServed s.ways t (both_of (λ weigh. weigh b) (in_cache cache)) o → IsServed s.ways t (both_of (λ weigh. weigh c) (in_cache cache)) p
@@ -316,7 +300,7 @@ served_own s = record {
   notes = s.notes;
   tunables = refl;
   windows = s.windows ∙ ap windows_of (sym s.tunables);
-  home = s.home;
+  whole = s.whole;
 }
 
 -- the old block is still given out behind what was got
@@ -340,17 +324,6 @@ settled_names name b names taken now e put = put ∙ (ap (with_block name b) e �
     set_twice zero b (o ∷ os) = refl
     set_twice (suc name) b (o ∷ os) = ap (λ (xs : List (Option Block)). o ∷ xs) (set_twice name b os)
 
--- what is true of a block that isn't another's name is as it was
-pub names_others : (name : ℕ) (b : Block) (names now : List (Option Block)) → now ≡ with_block name b names → (n : ℕ) → (n ≡ name → ⊥) → block_at now n ≡ block_at names n
-names_others name b names now e n other = rw e (at_other name b names n other)
-  where
-    at_other : (name : ℕ) (b : Block) (names : List (Option Block)) (n : ℕ) → (n ≡ name → ⊥) → block_at (with_block name b names) n ≡ block_at names n
-    at_other name b [] n other = refl
-    at_other zero b (o ∷ os) zero other = absurd (other refl)
-    at_other zero b (o ∷ os) (suc n) other = refl
-    at_other (suc name) b (o ∷ os) zero other = refl
-    at_other (suc name) b (o ∷ os) (suc n) other = at_other name b os n (λ e. other (ap suc e))
-
 pub settled_does : {P H D K : Type 0} {s : Setting P H D K} {t : Tunables} {who : Who} {nb : ℕ} {left : CacheValue} {o z : Standing P K}
     (rules : Block → Call Resettled) (name : ℕ) (b c : Block) (own : Own) (done : Reallocated) (taken names : List (Option Block)) → c ≡ b → taken ≡ without_block name own.names →
     names ≡ with_block name done.block taken → Resettles s t who (rules c) nb c own.cache o done left z →
@@ -359,35 +332,7 @@ settled_does {s = s} {t = t} {who = who} {left = left} {o = o} {z = z} rules nam
     let d : Does s t who (rules b) o (done, left) z = subst (λ (x : Block). Does s t who (rules x) o (done, left) z) e h.does in
     rw (settled_names name done.block own.names taken names gone put) (does_last (settled name own) d)
 
-answered_then : {X Y : Type 0} (r : Reply) → (X → Y) → IfAnswered r X → IfAnswered r Y
-answered_then (Got addr size from) f x = f x
-answered_then (Kept addr size from) f x = f x
-answered_then (Freed to) f x = f x
-answered_then NotYours f x = f x
-answered_then (Null why) f x = tt
-
-pub settled_fits : (nb name : ℕ) (done : Reallocated) (names now : List (Option Block)) → now ≡ with_block name done.block names →
-    IfAnswered done.reply (need_of done.block.arena nb ≤ done.block.size) → IfAnswered done.reply (FitsName nb name now)
-settled_fits nb name done names now e h =
-    answered_then {X = need_of done.block.arena nb ≤ done.block.size} {Y = FitsName nb name now} done.reply
-    (λ x. rw e (λ b is. subst (λ (y : Block). need_of y.arena nb ≤ y.size) (given_name names name done.block b is) x)) h
-
 -- ---- realloc by its size
-
-pub realloc_skips : {P H D K : Type 0} (s : Setting P H D K) (t : Tunables) (who : Who) (name size : ℕ) (own : Own) (o : Standing P K) →
-    block_at own.names name ≡ None → Does s t who (realloc_call t 0 name size own) o (NotYours, own) o
-realloc_skips s t who name size own o none = rw none (does_here (NotYours, own) o)
-
--- to 0 bytes it is free
-pub realloc_frees : {P H D K E : Type 0} (s : Setting P H D K) (t : Tunables) (who : Who) (name size : ℕ) (own after : Own) (o z : Standing P K) (r : Result Reply E) → size ≡ 0 →
-    IfOk r (λ reply. Does s t who (free_call t 0 name own) o (reply, after) z) → IfOk r (λ reply. Does s t who (realloc_call t 0 name size own) o (reply, after) z)
-realloc_frees s t who name size own after o z (Ok reply) none d =
-    let cases : (b : Option Block) → Does s t who (free_of_name t 0 name b own) o (reply, after) z → Does s t who (realloc_of_name t 0 name 0 b own) o (reply, after) z = elim [
-      | None ↦ λ h. h
-      | Some b ↦ λ h. h
-    ] in
-    rw none (cases (block_at own.names name) d)
-realloc_frees s t who name size own after o z (Err e) none d = tt
 
 freed_answered : (reply : Reply) (X : Type 0) → IsFreed reply → X → IfAnswered reply X
 freed_answered (Freed to) X h x = x
@@ -395,6 +340,10 @@ freed_answered NotYours X h x = x
 freed_answered (Got addr size from) X h x = absurd h
 freed_answered (Kept addr size from) X h x = absurd h
 freed_answered (Null why) X h x = absurd h
+freed_answered Posted X h x = absurd h
+freed_answered (Taken addr size) X h x = absurd h
+freed_answered (Missed seen) X h x = absurd h
+freed_answered replies.Ended X h x = absurd h
 
 pub freed_never : {E : Type 0} (R : Type 0) (r : Result Reply E) → IfOk r IsFreed → IfOk r (λ reply. reply ≡ Null Refused → R)
 freed_never R (Ok reply) h = λ e. let no : IsFreed (Null Refused) = subst IsFreed e h in absurd no
@@ -422,18 +371,6 @@ freed_others name names now (Err e) gone short n other = elim short [
   | inr lost ↦ ap (λ (x : List (Option Block)). block_at x n) lost ∙ unnamed_others name names n other
 ]
 
-pub realloc_big : {P H D K : Type 0} (s : Setting P H D K) (t : Tunables) (who : Who) (name size : ℕ) (b : Block) (own : Own) (o : Standing P K) →
-    block_at own.names name ≡ Some b → nat_eq size 0 ≡ false → padded_request size ≡ None → Does s t who (realloc_call t 0 name size own) o (Null Big, own) o
-realloc_big s t who name size b own o at some big = rw (at, some, big) (does_here (Null Big, own) o)
-
-pub realloc_padded : {P H D K E : Type 0} (s : Setting P H D K) (t : Tunables) (who : Who) (name size nb : ℕ) (b : Block) (own after : Own) (o z : Standing P K) (r : Result Reply E) →
-    block_at own.names name ≡ Some b → nat_eq size 0 ≡ false → padded_request size ≡ Some nb →
-    IfOk r (λ reply. (x : Block) → block_at own.names name ≡ Some x →
-    Does s t who (then_call (realloc_in t 0 nb x x.arena own.cache) (λ y. Done (settled name own y))) o (reply, after) z) →
-    IfOk r (λ reply. Does s t who (realloc_call t 0 name size own) o (reply, after) z)
-realloc_padded s t who name size nb b own after o z (Ok reply) at some padded d = rw (at, some, padded) (d b at)
-realloc_padded s t who name size nb b own after o z (Err e) at some padded d = tt
-
-pub fits_padded : {E : Type 0} (size nb name : ℕ) (names : List (Option Block)) (r : Result Reply E) → padded_request size ≡ Some nb →
-    IfOk r (λ reply. IfAnswered reply (FitsName nb name names)) → IfOk r (λ reply. IfAnswered reply (FitsName (chunk_size_of size) name names))
-fits_padded size nb name names r padded fits = subst (λ n. IfOk r (λ reply. IfAnswered reply (FitsName n name names))) (padded_is size nb padded) fits
+pub realloc_big : {P H D K : Type 0} (s : Setting P H D K) (t : Tunables) (who : Who) (thread name size : ℕ) (b : Block) (own : Own) (o : Standing P K) →
+    block_at own.names name ≡ Some b → nat_eq size 0 ≡ false → padded_request size ≡ None → Does s t who (realloc_call t thread name size own) o (Null Big, own) o
+realloc_big s t who thread name size b own o at some big = rw (at, some, big) (does_here (Null Big, own) o)

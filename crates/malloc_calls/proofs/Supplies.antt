@@ -1,7 +1,7 @@
 -- Laws of a block that is got for a request, and of a name that gets it.
-use Rattle.std.proofs.Common.{◌≡◌, ℕ, zero, suc, ◌+◌, ◌<◌, ◌≤◌, Bool, true, false, cond, List, [], ◌∷◌, Option, Some, None, length, refl, sym, ◌∙◌, subst, arith, ◌%◌, ◌&&◌}
-use Rattle.std.specs.Prelude.{Result, Ok, Err, IfOk, OnErr, IsSome, IfSome, option_map, nat_le}
-use Rattle.chunk_tags.specs.Sizes.{padded_request, chunk_size_of}
+use Rattle.std.proofs.Common.{◌≡◌, ℕ, ◌+◌, ◌-◌, ◌^◌, ◌<◌, ◌≤◌, Bool, true, false, cond, List, Option, Some, None, length, refl, sym, ◌∙◌, subst, arith, ◌%◌, ◌/◌, ◌*◌, ◌&&◌}
+use Rattle.std.specs.Prelude.{Result, Ok, Err, IfOk, OnErr, IsSome, IfSome, option_map, nat_le, nat_lt}
+use Rattle.chunk_tags.specs.Sizes.{padded_request, chunk_size_of, IsRequestSize}
 use Rattle.chunk_tags.specs.declared.block.Block.{Block}
 use Rattle.chunk_tags.specs.declared.tunables.Tunables.{Tunables}
 use Rattle.address_space.specs.Ports.{Rose}
@@ -11,25 +11,28 @@ use Rattle.arena_core.specs.Arenas.{need_of}
 use Rattle.arena_core.specs.declared.journal.Act.{Act}
 use Rattle.arena_core.specs.declared.journal.Act.TheVariants as acts
 use Rattle.arena_core.specs.declared.journal.Who.{Who}
-use Rattle.std.proofs.lemmas.Bool.{eqb-true, leb-false}
+use Rattle.std.proofs.lemmas.Bool.{eqb-true, leb-false, ltb-false}
 use Rattle.std.specs.Int.{is_power_of_two}
 use Rattle.arena_rules.specs.Align.{IsAlignment}
 use Rattle.malloc_calls.specs.Mallocs.{is_memalign}
-use Rattle.malloc_calls.specs.Names.{IsHeld, block_at, with_block}
+use Rattle.arena_holds.specs.Blocks.{IsHeld}
+use Rattle.malloc_calls.specs.Names.{block_at}
 use Rattle.malloc_calls.specs.Own.{newest_of_size, without_newest_of}
-use Rattle.malloc_calls.specs.Calls.{Call, Supplied, then_call, opening, taken_of, origin_of, supply_of, from_arena, from_cache, named, reply_of, names_with, answer_with, FitsName}
+use Rattle.arena_holds.specs.Calls.{Call, then_call}
+use Rattle.arena_holds.specs.Searching.{size_wanted, search}
+use Rattle.malloc_calls.specs.Calls.{Supplied, supplied_by, opening, origin_of, supply_of, from_arena, from_cache, named, reply_of, names_with, answer_with}
 use Rattle.malloc_calls.specs.declared.reply.Reply.{Reply}
-use Rattle.malloc_calls.specs.declared.reply.Reply.TheVariants.{Null}
-use Rattle.malloc_calls.specs.declared.reply.Why.TheVariants.{Refused}
 use Rattle.malloc_calls.specs.declared.reply.Origin.TheVariants.{Cached}
 use Rattle.malloc_calls.specs.declared.own.Own.{Own}
 use Rattle.malloc_calls.specs.declared.supplying.Supply.{Supply}
-use Rattle.malloc_calls.specs.Going.{Does}
-use Rattle.malloc_calls.specs.Holding.{Takes}
-use Rattle.malloc_calls.specs.Places.{PlaceWays, Setting, Standing, Carries, Hands, weight_of, in_names, in_cache, in_own}
+use Rattle.arena_holds.specs.Going.{Does}
+use Rattle.arena_holds.specs.declared.holding.Search.{Search}
+use Rattle.arena_holds.specs.Holding.{Finds}
+use Rattle.arena_holds.specs.Places.{PlaceWays, Setting, Standing, Carries, Hands, weight_of, in_cache}
+use Rattle.malloc_calls.specs.Own.{in_names, in_own}
 use Rattle.malloc_calls.specs.Supplying.{Supplies, block_of}
-use Rattle.malloc_calls.proofs.Going.{does_here, does_last, does_then}
-use Rattle.malloc_calls.proofs.Carrying.{SameLaw, carries_here, carries_as, carries_then, carries_beside}
+use Rattle.arena_holds.proofs.Going.{does_here, does_last, does_then}
+use Rattle.arena_holds.proofs.Carrying.{SameLaw, carries_here, carries_as, carries_then, carries_beside}
 use Rattle.malloc_calls.proofs.Weights.{in_names-with, in_cache-taken}
 
 -- ---- a block of a hold
@@ -58,19 +61,23 @@ pub aligned_found : (place : ℕ) (block : Option Block) (X : Block → Type 0) 
 aligned_found place None X h = h
 aligned_found place (Some b) X h = h
 
-does_found : {P H D K : Type 0} {s : Setting P H D K} {t : Tunables} {who : Who} {a nb : ℕ} {act : Act} {cache left : CacheValue} {o z : Standing P K}
-    {place : ℕ} (block : Option Block) → Takes s t who a act nb cache o place block left z →
-    Does s t who (from_arena a act cache) o (found_in place block, left) z
-does_found {a = a} {act = act} block h =
-    rw h.found (does_last (λ e. (found_in e.place (taken_of a act e.ended), e.cache)) h.does)
+-- said of the same cache
+pub finds_at : {P H D K E : Type 0} (s : Setting P H D K) (t : Tunables) (who : Who) (thread bytes again : ℕ) (act : Act) (cache now left : CacheValue)
+    (o z : Standing P K) (r : Result Search E) → now ≡ cache →
+    IfOk r (λ f. Finds s t who (search t thread bytes again act now) act now o f.hold f.block left z) →
+    IfOk r (λ f. Finds s t who (search t thread bytes again act cache) act cache o f.hold f.block left z)
+finds_at s t who thread bytes again act cache now left o z r same d =
+    subst (λ (c : CacheValue). IfOk r (λ f. Finds s t who (search t thread bytes again act c) act c o f.hold f.block left z)) same d
 
-pub supplied_by : {P H D K : Type 0} {s : Setting P H D K} {t : Tunables} {who : Who} {a nb : ℕ} {act : Act} {cache left : CacheValue} {o z : Standing P K}
-    {place : ℕ} (block : Option Block) (got : Option Supply) → got ≡ found_in place block → Takes s t who a act nb cache o place block left z →
-    Supplies s t who (from_arena a act cache) nb cache o got left z
-supplied_by {nb = nb} {left = left} {place = place} block got e h = rw e (record {
-  does = does_found block h;
+-- a search gave it
+pub supplies_found : {P H D K : Type 0} {s : Setting P H D K} {t : Tunables} {who : Who} {left : CacheValue} {o z : Standing P K}
+    (thread bytes again place : ℕ) (act : Act) (cache : CacheValue) (block : Option Block) (got : Option Supply) → got ≡ found_in place block →
+    Finds s t who (search t thread bytes again act cache) act cache o place block left z →
+    Supplies s t who (from_arena t thread bytes again act cache) (size_wanted act) cache o got left z
+supplies_found thread bytes again place act cache block got e h = rw e (record {
+  does = does_last supplied_by h.does;
   held = held_found place block h.held;
-  fits = fits_found nb place block h.fits;
+  fits = fits_found (size_wanted act) place block h.fits;
   refused = λ none. h.refused (none_found place block none);
   later = h.later;
   carries = rw (block_found place block) h.carries;
@@ -78,12 +85,12 @@ supplied_by {nb = nb} {left = left} {place = place} block got e h = rw e (record
 
 -- ---- a block of the cache
 
-pub supplies_past : {P H D K E : Type 0} (s : Setting P H D K) (t : Tunables) (who : Who) (a nb : ℕ) (o z : Standing P K) (cache now left : CacheValue)
+pub supplies_past : {P H D K E : Type 0} (s : Setting P H D K) (t : Tunables) (who : Who) (thread bytes nb : ℕ) (o z : Standing P K) (cache now left : CacheValue)
     (newest : Option Block) (r : Result (Option Supply) E) → newest ≡ None → now ≡ cache →
-    IfOk r (λ got. Supplies s t who (from_arena a (acts.Take nb) now) nb now o got left z) →
-    IfOk r (λ got. Supplies s t who (from_cache a nb newest cache) nb cache o got left z)
-supplies_past s t who a nb o z cache now left newest r none same d =
-    rw none (subst (λ (c : CacheValue). IfOk r (λ got. Supplies s t who (from_arena a (acts.Take nb) c) nb c o got left z)) same d)
+    IfOk r (λ got. Supplies s t who (from_arena t thread bytes bytes (acts.Take nb) now) nb now o got left z) →
+    IfOk r (λ got. Supplies s t who (from_cache t thread bytes nb newest cache) nb cache o got left z)
+supplies_past s t who thread bytes nb o z cache now left newest r none same d =
+    rw none (subst (λ (c : CacheValue). IfOk r (λ got. Supplies s t who (from_arena t thread bytes bytes (acts.Take nb) c) nb c o got left z)) same d)
 
 enough_cached : (nb : ℕ) (b : Block) → IsSome b.arena → b.size ≡ nb → need_of b.arena nb ≤ b.size
 enough_cached nb b some size =
@@ -93,11 +100,11 @@ enough_cached nb b some size =
     ] in
     cases b.arena some
 
-pub supplies_cached : {P H D K : Type 0} (s : Setting P H D K) (t : Tunables) (who : Who) (a nb : ℕ) (o : Standing P K) (cache left : CacheValue)
+pub supplies_cached : {P H D K : Type 0} (s : Setting P H D K) (t : Tunables) (who : Who) (thread bytes nb : ℕ) (o : Standing P K) (cache left : CacheValue)
     (newest : Option Block) (b : Block) → SameLaw s.ways → newest ≡ newest_of_size nb cache → newest ≡ Some b → left ≡ without_newest_of nb cache →
     IsHeld b → b.size ≡ nb → IsSome b.arena →
-    Supplies s t who (from_cache a nb newest cache) nb cache o (Some (supply_of b Cached)) left o
-supplies_cached s t who a nb o cache left newest b same is some rest held size arena = rw (some, rest) (record {
+    Supplies s t who (from_cache t thread bytes nb newest cache) nb cache o (Some (supply_of b Cached)) left o
+supplies_cached s t who thread bytes nb o cache left newest b same is some rest held size arena = rw (some, rest) (record {
   does = does_here _ o;
   held = held;
   fits = enough_cached nb b arena size;
@@ -111,13 +118,13 @@ supplies_cached s t who a nb o cache left newest b same is some rest held size a
 pub rose_later : (before mid now : ℕ) → before ≤ mid → Rose mid now → Rose before now
 rose_later before mid now le h = omega (arith, le, h)
 
-pub supplies_opened : {P H D K E : Type 0} {s : Setting P H D K} {t : Tunables} {who : Who} {o p : Standing P K} (a nb : ℕ) (cache now left : CacheValue) (z : Standing P K)
-    (f : CacheValue → Call Supplied) (r : Result (Option Supply) E) → Does s t who (opening t a cache) o now p →
+pub supplies_opened : {P H D K E : Type 0} {s : Setting P H D K} {t : Tunables} {who : Who} {o p : Standing P K} (thread nb : ℕ) (cache now left : CacheValue) (z : Standing P K)
+    (f : CacheValue → Call Supplied) (r : Result (Option Supply) E) → Does s t who (opening t thread cache) o now p →
     space_refusals s.means.kernel o.space ≤ space_refusals s.means.kernel p.space →
     Carries s.ways true (in_cache cache) o (in_cache now) p →
     IfOk r (λ got. Supplies s t who (f now) nb now p got left z) →
-    IfOk r (λ got. Supplies s t who (then_call (opening t a cache) f) nb cache o got left z)
-supplies_opened {s = s} {o = o} {p = p} a nb cache now left z f (Ok got) d later c h = record {
+    IfOk r (λ got. Supplies s t who (then_call (opening t thread cache) f) nb cache o got left z)
+supplies_opened {s = s} {o = o} {p = p} thread nb cache now left z f (Ok got) d later c h = record {
   does = does_then f d h.does;
   held = h.held;
   fits = h.fits;
@@ -125,7 +132,7 @@ supplies_opened {s = s} {o = o} {p = p} a nb cache now left z f (Ok got) d later
   later = omega (arith, later, h.later);
   carries = carries_then c h.carries;
 }
-supplies_opened a nb cache now left z f (Err e) d later c h = tt
+supplies_opened thread nb cache now left z f (Err e) d later c h = tt
 
 pub short_opened : {P H D K A E : Type 0} {ways : PlaceWays P H D} {given between : Hands} {o p : Standing P K} (got : Hands) (z : Standing P K) (r : Result A E) →
     Carries ways true given o between p → OnErr r (Carries ways false between p got z) → OnErr r (Carries ways false given o got z)
@@ -154,39 +161,31 @@ named_carries {left = left} name own got names same below empty h e =
     (λ w. rw e (omega (arith, named_weight name got own.names w below empty)))
     (carries_beside same (in_names own.names) h.carries)
 
--- nothing is answered only where nothing was got
-pub refused_got : {R : Type 0} (got : Option Supply) (reply : Reply) → reply ≡ reply_of got → (got ≡ None → R) → reply ≡ Null Refused → R
-refused_got None reply e none is = none refl
-refused_got (Some g) reply e none is = let no : reply_of (Some g) ≡ Null Refused = sym e ∙ is in absurd cc
-
 -- ---- what a name has is large enough
-
--- the block that a name was given
-pub given_name : (names : List (Option Block)) (name : ℕ) (a b : Block) → block_at (with_block name a names) name ≡ Some b → a ≡ b
-given_name [] name a b e = absurd cc
-given_name (o ∷ os) zero a b e = cc
-given_name (o ∷ os) (suc name) a b e = given_name os name a b e
-
-pub nothing_named : (X : Block → Type 0) (name : ℕ) (names : List (Option Block)) → block_at names name ≡ None → (b : Block) → block_at names name ≡ Some b → X b
-nothing_named X name names empty b is = let no : None ≡ Some b = sym empty ∙ is in absurd cc
-
--- what is true of the block that was got is true of the one that the name has
-pub got_named : (X : Block → Type 0) (name : ℕ) (got : Option Supply) (names now : List (Option Block)) → block_at names name ≡ None → now ≡ names_with name got names →
-    IfSome got (λ g. X g.block) → (b : Block) → block_at now name ≡ Some b → X b
-got_named X name None names now empty e h = rw e (nothing_named X name names empty)
-got_named X name (Some g) names now empty e h = rw e (λ b is. subst X (given_name names name g.block b is) h)
 
 pub padded_is : (size nb : ℕ) → padded_request size ≡ Some nb → nb ≡ chunk_size_of size
 padded_is size nb e =
     let cases : (v : Bool) → cond v None (Some (chunk_size_of size)) ≡ Some nb → nb ≡ chunk_size_of size = elim [ true ↦ λ h. absurd cc | false ↦ λ h. cc ] in
     cases _ e
 
--- so where a request has this size
-pub fits_got : (size nb name : ℕ) (got : Option Supply) (names now : List (Option Block)) → padded_request size ≡ Some nb →
-    block_at names name ≡ None → now ≡ names_with name got names →
-    IfSome got (λ g. need_of g.block.arena nb ≤ g.block.size) → FitsName (chunk_size_of size) name now
-fits_got size nb name got names now padded empty e h =
-    subst (λ n. FitsName n name now) (padded_is size nb padded) (got_named (λ b. need_of b.arena nb ≤ b.size) name got names now empty e h)
+-- such a request has at most so many bytes
+pub padded_small : (size nb : ℕ) → padded_request size ≡ Some nb → size ≤ 2 ^ 63 - 1
+padded_small size nb e =
+    let cases : (v : Bool) → nat_lt (2 ^ 63 - 1) size ≡ v → cond v None (Some (chunk_size_of size)) ≡ Some nb → size ≤ 2 ^ 63 - 1 = elim [
+      | true ↦ λ is h. absurd cc
+      | false ↦ λ is h. ltb-false (2 ^ 63 - 1) size is
+    ] in
+    cases _ refl e
+
+-- and its chunk is one of a request
+pub padded_chunk : (size nb : ℕ) → padded_request size ≡ Some nb → IsRequestSize nb
+padded_chunk size nb e =
+    let small : size ≤ 2 ^ 63 - 1 = padded_small size nb e in
+    let cases : (v : Bool) → nat_lt (size + 23) 32 ≡ v → IsRequestSize (cond v 32 ((size + 23) / 16 * 16)) = elim [
+      | true ↦ λ is. record { chunk = (omega arith, refl); largest = omega arith }
+      | false ↦ λ is. record { chunk = (omega (arith, ltb-false (size + 23) 32 is), omega arith); largest = omega (arith, small) }
+    ] in
+    subst IsRequestSize (sym (padded_is size nb e)) (cases _ refl)
 
 -- ---- alignments
 

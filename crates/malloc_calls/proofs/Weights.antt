@@ -1,18 +1,18 @@
 -- What the blocks of a thread weigh, when one of them moves.
 use Rattle.std.proofs.Common.{◌≡◌, ℕ, zero, suc, ◌+◌, ◌<◌, Bool, true, false, ◌&&◌, List, [], ◌∷◌, Option, Some, None, length, get_or, cond, refl, ap, arith}
-use Rattle.std.specs.Prelude.{IfSome, IsSome, IsTrue, is_some, nat_le, sum_by}
-use Rattle.std.specs.List.{AllByRecursion, flat_map}
+use Rattle.std.specs.Prelude.{IfSome, IsTrue, is_some, nat_le}
 use Rattle.std.proofs.lemmas.List.{length-set}
-use Rattle.std.proofs.lemmas.List.Sums.{sum_by-set, sum_by-append, sum_by-cons}
+use Rattle.std.proofs.lemmas.List.Sums.{sum_by-set}
 use Rattle.chunk_tags.specs.Sizes.{max_cached, cache_index_of}
 use Rattle.chunk_tags.specs.declared.block.Block.{Block}
 use Rattle.list_laws.proofs.Sums.{sum_by-flat-less, sum_by-flat-more}
-use Rattle.thread_cache.specs.Caches.{CacheValue, is_open, blocks_of, opened, has_room, takes, newest, without_newest, with_newest}
-use Rattle.thread_cache.specs.Held.{IsCachedAt, IsSound}
+use Rattle.thread_cache.specs.Caches.{CacheValue, is_open, opened, has_room, takes, newest, without_newest, with_newest}
+use Rattle.thread_cache.specs.Held.{IsSound}
 use Rattle.thread_cache.proofs.CacheLaws.{none_opened, HasRoomAt, room_at}
 use Rattle.malloc_calls.specs.Names.{block_at, with_block, without_block}
 use Rattle.malloc_calls.specs.Own.{newest_of_size, without_newest_of}
-use Rattle.malloc_calls.specs.Places.{weight_of, in_names, in_cache}
+use Rattle.arena_holds.specs.Places.{weight_of, in_cache}
+use Rattle.malloc_calls.specs.Own.{in_names}
 
 -- ---- names
 
@@ -45,21 +45,6 @@ in_cache-opened structure count bins weigh = rw (none_opened structure count bin
 pub in_cache-closed : (c : CacheValue) (weigh : Block → ℕ) → is_open c ≡ false → in_cache c weigh ≡ 0
 in_cache-closed None weigh e = refl
 in_cache-closed (Some c) weigh e = absurd cc
-
--- what weighs nothing in each list weighs nothing in all
-lists_nothing : (weigh : Block → ℕ) (lists : List (List Block)) → ((i : ℕ) → sum_by weigh (get_or lists i []) ≡ 0) → sum_by weigh (flat_map (λ blocks. blocks) lists) ≡ 0
-lists_nothing weigh [] each = refl
-lists_nothing weigh (l ∷ ls) each = omega (arith, sum_by-append weigh l (flat_map (λ blocks. blocks) ls), each 0, lists_nothing weigh ls (λ i. each (suc i)))
-
-list_nothing : (weigh : Block → ℕ) (i : ℕ) (blocks : List Block) → ((b : Block) → IsSome b.arena → weigh b ≡ 0) → AllByRecursion (IsCachedAt i) blocks → sum_by weigh blocks ≡ 0
-list_nothing weigh i [] none all = refl
-list_nothing weigh i (b ∷ blocks) none all = omega (arith, sum_by-cons weigh b blocks, none b all.0.arena, list_nothing weigh i blocks none all.1)
-
--- the blocks of a sound cache are chunks of arenas
-pub in_lists-nothing : (c : CacheValue) (weigh : Block → ℕ) → IfSome c IsSound → ((b : Block) → IsSome b.arena → weigh b ≡ 0) → sum_by weigh (blocks_of c) ≡ 0
-in_lists-nothing None weigh sound none = refl
-in_lists-nothing (Some c) weigh sound none =
-    lists_nothing weigh c.lists (λ i. list_nothing weigh i (get_or c.lists i []) none (sound.lists i).cached)
 
 in_cache-newest : (c : CacheValue) (i : ℕ) (b : Block) → newest c i ≡ Some b → (weigh : Block → ℕ) →
     weigh b + in_cache (without_newest c i) weigh ≡ in_cache c weigh

@@ -1,19 +1,18 @@
 -- Words for worked examples (this project's own).
-use Rattle.std.specs.Prelude.{true, List, [], ◌∷◌, Some, None}
+use Rattle.std.specs.Prelude.{ℕ, true, List, [], ◌∷◌, replicate, Some, None, slice_index_or, slice_set}
 use Rattle.chunk_tags.specs.Tunables.{serial_values}
 use Rattle.address_space.specs.declared.asks.Answer.TheVariants.{Granted}
+use Rattle.address_space.specs.declared.space.Space.{Space}
 use Rattle.address_space.specs.Ports.{Port}
 use Rattle.address_space.specs.Spaces.{new_space}
-use Rattle.arena_rules.specs.PlainArena.{empty_main}
 use Rattle.arena_rules.specs.Rules.{windows_of}
-use Rattle.fast_bins.specs.PlainBins.{empty_state}
+use Rattle.arena_holds.specs.Calls.{Call}
+use Rattle.serial_places.specs.SerialWays.{SerialWorld, first_world, played_call}
+use Rattle.serial_places.specs.declared.tray.Tray.TheVariants.{Empty}
 use Rattle.malloc_calls.specs.Names.{with_places_to}
 use Rattle.malloc_calls.specs.Own.{new_own}
 use Rattle.malloc_calls.specs.declared.own.Own.{Own}
 use Rattle.malloc_calls.specs.declared.reply.Reply.{Reply}
-use Rattle.malloc_calls.specs.Places.{with_journal}
-use Rattle.malloc_calls.specs.Calls.{Call}
-use Rattle.malloc_calls.specs.SerialWays.{SerialWorld, played_call}
 
 -- a kernel that grants every ask
 abbrev pub grants_all : Port (Unit {0})
@@ -25,23 +24,38 @@ grants_all = record {
   given = λ k _. k;
 }
 
--- the world before the first call
-abbrev pub first_world : SerialWorld (Unit {0})
-first_world = record {
-  main = with_journal empty_main [];
-  bins = empty_state;
-  dials = record { mmap_threshold = 131072; trim_threshold = 131072; mapped = 0; bytes = 0; max_mapped = 0; max_bytes = 0 };
-  space = new_space tt 0 (windows_of serial_values);
-}
+abbrev pub space_at_first : ℕ → Space (Unit {0})
+space_at_first thread = new_space tt thread (windows_of serial_values)
 
--- the answers to some calls of thread 0, each in the first line
-abbrev pub replies_from : List (Own → Call (Reply × Own)) → Own → SerialWorld (Unit {0}) → List Reply
-replies_from [] own w = []
-replies_from (c ∷ cs) own w = elim (played_call grants_all serial_values (record { thread = 0; line = 1 }) (c own) w) [
-  | None ↦ []
-  | Some r ↦ r.0.0 ∷ replies_from cs r.0.1 r.1
-]
+-- the world before the first call, with two trays
+abbrev pub world_at_first : SerialWorld (Unit {0})
+world_at_first = record (first_world serial_values (space_at_first 0)) { trays = replicate 2 Empty }
 
--- those of a thread that begins, with places for four names
-abbrev pub replies : List (Own → Call (Reply × Own)) → List Reply
-replies calls = replies_from calls (record new_own { names = with_places_to 4 [] }) first_world
+-- what a thread has between two calls; one that begins has places for four names
+pub record Actor : Type 0 where
+  pub own : Own
+  pub space : Space (Unit {0})
+
+abbrev pub first_actor : ℕ → Actor
+first_actor thread = record { own = record new_own { names = with_places_to 4 [] }; space = space_at_first thread }
+
+abbrev pub actor_in : List Actor → ℕ → Actor
+actor_in actors thread = slice_index_or actors thread (first_actor thread)
+
+-- a call of a thread
+abbrev pub Calling : Type 0
+Calling = ℕ × (Own → Call (Reply × Own))
+
+-- the answers to some calls of threads, each in the first line
+abbrev pub replies_from : List Calling → List Actor → SerialWorld (Unit {0}) → List Reply
+replies_from [] actors w = []
+replies_from (c ∷ cs) actors w =
+    let a = actor_in actors c.0 in
+    elim (played_call grants_all serial_values (record { thread = c.0; line = 1 }) (c.1 a.own) (record w { space = a.space })) [
+      | None ↦ []
+      | Some r ↦ r.0.0 ∷ replies_from cs (slice_set actors c.0 (record { own = r.0.1; space = r.1.space })) r.1
+    ]
+
+-- those of two threads that begin
+abbrev pub replies : List Calling → List Reply
+replies calls = replies_from calls (first_actor 0 ∷ first_actor 1 ∷ []) world_at_first

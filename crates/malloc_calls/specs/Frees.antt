@@ -2,7 +2,8 @@
 use Rattle.std.specs.Prelude.{ℕ, Option, Some, None}
 use Rattle.chunk_tags.specs.declared.block.Block.{Block}
 use Rattle.chunk_tags.specs.declared.tunables.Tunables.{Tunables}
-use Rattle.malloc_calls.specs.Calls.{Call, Done, Frees, then_call, opening, releasing, with_cache}
+use Rattle.arena_holds.specs.Calls.{Call, Done, Frees, then_call}
+use Rattle.malloc_calls.specs.Calls.{opening, releasing, with_cache}
 use Rattle.malloc_calls.specs.Names.{block_at, without_block}
 use Rattle.malloc_calls.specs.declared.own.Own.{Own}
 use Rattle.malloc_calls.specs.declared.reply.Reply.{Reply}
@@ -18,16 +19,16 @@ free_to t a name b own = then_call (releasing t a b own.cache) (λ r. Done (Free
 
 -- a block is freed with its mapping, or the cache is opened where it is closed, and the block released
 abbrev pub free_of_block : Tunables → ℕ → ℕ → Block → Option ℕ → Own → Call (Reply × Own)
-free_of_block t home name b None own = Frees b (Done (Freed sinks.Unmapped, without_name name own))
-free_of_block t home name b (Some a) own = then_call (opening t home own.cache) (λ cache.
+free_of_block t thread name b None own = Frees b (Done (Freed sinks.Unmapped, without_name name own))
+free_of_block t thread name b (Some a) own = then_call (opening t thread own.cache) (λ cache.
     free_to t a name b (with_cache cache own))
 
 abbrev pub free_of_name : Tunables → ℕ → ℕ → Option Block → Own → Call (Reply × Own)
-free_of_name t home name None own = Done (NotYours, own)
-free_of_name t home name (Some b) own = free_of_block t home name b b.arena own
+free_of_name t thread name None own = Done (NotYours, own)
+free_of_name t thread name (Some b) own = free_of_block t thread name b b.arena own
 
 abbrev pub free_call : Tunables → ℕ → ℕ → Own → Call (Reply × Own)
-free_call t home name own = free_of_name t home name (block_at own.names name) own
+free_call t thread name own = free_of_name t thread name (block_at own.names name) own
 
 -- the answers of a free
 abbrev pub IsFreed : Reply → Type 0

@@ -6,9 +6,11 @@ use Rattle.chunk_tags.specs.Pages.{user_address}
 use Rattle.chunk_tags.specs.Sizes.{padded_request}
 use Rattle.chunk_tags.specs.declared.block.Block.{Block}
 use Rattle.chunk_tags.specs.declared.tunables.Tunables.{Tunables}
+use Rattle.arena_rules.specs.Align.{request_with_lead}
 use Rattle.arena_core.specs.Replay.{has_lead_in_range}
 use Rattle.arena_core.specs.declared.journal.Act.TheVariants.{Align}
-use Rattle.malloc_calls.specs.Calls.{Call, Done, from_arena, plain_supply, fresh_supply, named}
+use Rattle.arena_holds.specs.Calls.{Call, Done}
+use Rattle.malloc_calls.specs.Calls.{from_arena, plain_supply, fresh_supply, named}
 use Rattle.malloc_calls.specs.Names.{block_at}
 use Rattle.malloc_calls.specs.declared.own.Own.{Own}
 use Rattle.malloc_calls.specs.declared.reply.Reply.{Reply}
@@ -21,40 +23,41 @@ abbrev pub refuse : Why → Own → Call (Reply × Own)
 refuse why own = Done (Null why, own)
 
 -- malloc of a padded size, or of one that is too big
-abbrev pub padded_malloc : Tunables → ℕ → ℕ → Option ℕ → Own → Call (Reply × Own)
-padded_malloc t home name None own = refuse whys.Big own
-padded_malloc t home name (Some nb) own = named name own (plain_supply t home nb own.cache)
+abbrev pub padded_malloc : Tunables → ℕ → ℕ → ℕ → Option ℕ → Own → Call (Reply × Own)
+padded_malloc t thread name size None own = refuse whys.Big own
+padded_malloc t thread name size (Some nb) own = named name own (plain_supply t thread size nb own.cache)
 
 abbrev pub malloc_call : Tunables → ℕ → ℕ → ℕ → Own → Call (Reply × Own)
-malloc_call t home name size own = padded_malloc t home name (padded_request size) own
+malloc_call t thread name size own = padded_malloc t thread name size (padded_request size) own
 
 -- calloc is malloc of the product, past the cache.
-abbrev pub padded_calloc : Tunables → ℕ → ℕ → Option ℕ → Own → Call (Reply × Own)
-padded_calloc t home name None own = refuse whys.Big own
-padded_calloc t home name (Some nb) own = named name own (fresh_supply t home nb own.cache)
+abbrev pub padded_calloc : Tunables → ℕ → ℕ → ℕ → Option ℕ → Own → Call (Reply × Own)
+padded_calloc t thread name product None own = refuse whys.Big own
+padded_calloc t thread name product (Some nb) own = named name own (fresh_supply t thread product nb own.cache)
 
 abbrev pub calloc_call : Tunables → ℕ → ℕ → ℕ → ℕ → Own → Call (Reply × Own)
-calloc_call t home name n size own = padded_calloc t home name (padded_request (n * size)) own
+calloc_call t thread name n size own = padded_calloc t thread name (n * size) (padded_request (n * size)) own
 
 -- an alignment that posix_memalign takes: a power of two that is a multiple of a pointer's size
 abbrev pub is_memalign : ℕ → Bool
 is_memalign align = is_power_of_two align && nat_eq (align % 8) 0
 
 -- Each chunk's user address is a multiple of 16. Beyond that an aligned chunk is searched for, and the cache stays closed
--- where it is; the padded size is looked at last.
-abbrev pub aligned_malloc : Tunables → ℕ → ℕ → ℕ → ℕ → Own → Call (Reply × Own)
-aligned_malloc t home name align nb own =
-    if nat_le align 16 then padded_malloc t home name (Some nb) own
-    else (if has_lead_in_range align nb then named name own (from_arena home (Align align nb) own.cache)
+-- where it is; the padded size is looked at last. The second try chooses an arena for the size alone.
+abbrev pub aligned_malloc : Tunables → ℕ → ℕ → ℕ → ℕ → ℕ → Own → Call (Reply × Own)
+aligned_malloc t thread name align size nb own =
+    if nat_le align 16 then padded_malloc t thread name size (Some nb) own
+    else (if has_lead_in_range align nb
+    then named name own (from_arena t thread (request_with_lead align size) size (Align align nb) own.cache)
     else refuse whys.Big own)
 
-abbrev pub padded_memalign : Tunables → ℕ → ℕ → ℕ → Option ℕ → Own → Call (Reply × Own)
-padded_memalign t home name align None own = refuse whys.Big own
-padded_memalign t home name align (Some nb) own =
-    if is_memalign align then aligned_malloc t home name align nb own else refuse whys.Align own
+abbrev pub padded_memalign : Tunables → ℕ → ℕ → ℕ → ℕ → Option ℕ → Own → Call (Reply × Own)
+padded_memalign t thread name align size None own = refuse whys.Big own
+padded_memalign t thread name align size (Some nb) own =
+    if is_memalign align then aligned_malloc t thread name align size nb own else refuse whys.Align own
 
 abbrev pub posix_memalign_call : Tunables → ℕ → ℕ → ℕ → ℕ → Own → Call (Reply × Own)
-posix_memalign_call t home name align size own = padded_memalign t home name align (padded_request size) own
+posix_memalign_call t thread name align size own = padded_memalign t thread name align size (padded_request size) own
 
 -- the user address of the block that a name has, if any, is a multiple
 abbrev pub IsAlignedName : ℕ → ℕ → List (Option Block) → Type 0

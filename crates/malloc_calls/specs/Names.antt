@@ -1,8 +1,7 @@
 -- The blocks of a thread by name (this project's own): what a program has in its variables, of what malloc gave it.
-use Rattle.std.specs.Prelude.{◌≡◌, ℕ, ◌+◌, ◌-◌, ◌^◌, ◌<◌, List, ◌++◌, length, replicate, Option, Some, None, IfSome, slice_index_or, slice_set}
-use Rattle.chunk_tags.specs.Sizes.{IsChunkSize}
+use Rattle.std.specs.Prelude.{ℕ, ◌+◌, ◌-◌, ◌^◌, ◌<◌, List, ◌++◌, length, replicate, Option, Some, None, IfSome, slice_index_or, slice_set}
 use Rattle.chunk_tags.specs.declared.block.Block.{Block}
-use Rattle.mapped_chunks.specs.Mappings.{IsMapped}
+use Rattle.arena_holds.specs.Blocks.{IsHeld}
 
 -- the block of a name, where it holds one
 abbrev pub block_at : List (Option Block) → ℕ → Option Block
@@ -22,11 +21,6 @@ with_some name (Some b) names = with_block name b names
 
 abbrev pub without_block : ℕ → List (Option Block) → List (Option Block)
 without_block name names = slice_set names name None
-
--- a block that a thread may hold: a chunk, and where it belongs to no arena a mapped one
-pub record IsHeld (b : Block) : Type 0 where
-  pub chunk : IsChunkSize b.size
-  pub mapped : b.arena ≡ None → IsMapped b
 
 -- what is true of every table: its names are numbers of 32 bits, and its blocks such
 pub record IsTable (names : List (Option Block)) : Type 0 where

@@ -1,12 +1,13 @@
 -- What a thread has of its own: its cache, glibc 2.31 malloc/malloc.c's tcache, and its blocks by name; and the calls
 -- that need no more, as in __libc_malloc and _int_free.
-use Rattle.std.specs.Prelude.{◌≡◌, ℕ, nat_le, List, [], Option, Some, None, if◌then◌else◌}
+use Rattle.std.specs.Prelude.{◌≡◌, ℕ, ◌+◌, nat_le, List, [], Option, Some, None, sum_by, if◌then◌else◌}
 use Rattle.std.specs.Option.{option_and_then}
 use Rattle.chunk_tags.specs.Sizes.{padded_request, max_cached, cache_index_of}
 use Rattle.chunk_tags.specs.declared.block.Block.{Block}
 use Rattle.address_space.specs.declared.space.Space.{Space}
 use Rattle.arena_core.specs.declared.journal.Who.{Who}
 use Rattle.thread_cache.specs.Caches.{CacheValue, newest, without_newest, with_newest, takes}
+use Rattle.arena_holds.specs.Places.{Hands, weight_of, in_cache}
 use Rattle.malloc_calls.specs.Names.{block_at, with_block, without_block}
 use Rattle.malloc_calls.specs.declared.own.Own.{Own}
 use Rattle.malloc_calls.specs.declared.thread.Thread.{Thread}
@@ -48,6 +49,16 @@ new_own = record { cache = None; names = [] }
 -- a thread that begins
 abbrev pub new_thread : {K : Type 0} → ℕ → Space K → Thread K
 new_thread number space = record { number = number; own = new_own; space = space }
+
+-- ---- its blocks in hands
+
+-- the blocks that have names
+abbrev pub in_names : List (Option Block) → Hands
+in_names names weigh = sum_by (λ o. weight_of o weigh) names
+
+-- the blocks of a thread
+abbrev pub in_own : Own → Hands
+in_own own weigh = in_names own.names weigh + in_cache own.cache weigh
 
 -- ---- malloc and free, as far as the cache answers
 

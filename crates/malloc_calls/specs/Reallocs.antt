@@ -1,6 +1,6 @@
 -- The call that gives a name's block another size: glibc 2.31 malloc/malloc.c, __libc_realloc. That a refused size changes
 -- nothing is this project's own.
-use Rattle.std.specs.Prelude.{ℕ, ◌-◌, nat_eq, nat_le, Option, Some, None, is_some, ◌&&◌, if◌then◌else◌}
+use Rattle.std.specs.Prelude.{ℕ, ◌-◌, nat_eq, nat_le, Option, Some, None, if◌then◌else◌}
 use Rattle.chunk_tags.specs.Sizes.{padded_request}
 use Rattle.chunk_tags.specs.declared.block.Block.{Block}
 use Rattle.chunk_tags.specs.declared.tunables.Tunables.{Tunables}
@@ -9,8 +9,9 @@ use Rattle.realloc_align.specs.declared.to_size.Resized.{Resized}
 use Rattle.realloc_align.specs.declared.to_size.Resized.TheVariants as sizes
 use Rattle.thread_cache.specs.Caches.{CacheValue}
 use Rattle.arena_core.specs.declared.journal.Act.TheVariants.{Resize}
-use Rattle.arena_core.specs.declared.journal.Ended.{Ended}
-use Rattle.malloc_calls.specs.Calls.{Call, Done, Unmaps, Remaps, then_call, hold_of, taken_of, origin_of, opening, plain_supply, Supplied, releasing, own_with}
+use Rattle.arena_holds.specs.Calls.{Call, Done, Unmaps, Remaps, then_call, hold_of}
+use Rattle.arena_holds.specs.Holding.{resized_to}
+use Rattle.malloc_calls.specs.Calls.{origin_of, opening, plain_supply, Supplied, releasing, own_with}
 use Rattle.malloc_calls.specs.Frees.{free_of_block}
 use Rattle.malloc_calls.specs.Mallocs.{refuse}
 use Rattle.malloc_calls.specs.Names.{block_at}
@@ -51,27 +52,20 @@ moved_from_mapping b (Some s, cache) = Unmaps b (Done (got_block s.from s.block,
 
 -- ---- a block of an arena
 
--- what a hold's end makes of a block that was to get another size: where it isn't mapped and has its address, it is kept
-abbrev pub placed_block : Block → Block → Resized
-placed_block b c = if is_some c.arena && nat_eq c.addr b.addr then sizes.Kept c else sizes.Moved c
-
-abbrev pub resized_to : ℕ → Block → ℕ → Ended → Resized
-resized_to a b nb ended = elim (taken_of a (Resize b.addr b.size nb) ended) [ None ↦ sizes.Refused b | Some c ↦ placed_block b c ]
-
 -- behind a resize in a hold whose entry has this place; where it was refused, malloc is called in its place
-abbrev pub after_resize : Tunables → ℕ → ℕ → ℕ → ℕ → Resized → CacheValue → Call Resettled
-after_resize t home nb a place (sizes.Kept c) cache = Done (kept_block (origin_of place c) c, cache)
-after_resize t home nb a place (sizes.Moved c) cache = Done (got_block (origin_of place c) c, cache)
-after_resize t home nb a place (sizes.Refused b) cache = then_call (plain_supply t home nb cache) (moved_from_arena t a b)
+abbrev pub after_resize : Tunables → ℕ → ℕ → ℕ → ℕ → ℕ → Resized → CacheValue → Call Resettled
+after_resize t thread size nb a place (sizes.Kept c) cache = Done (kept_block (origin_of place c) c, cache)
+after_resize t thread size nb a place (sizes.Moved c) cache = Done (got_block (origin_of place c) c, cache)
+after_resize t thread size nb a place (sizes.Refused b) cache = then_call (plain_supply t thread size nb cache) (moved_from_arena t a b)
 
 -- the block gets its size under the lock of its arena
-abbrev pub resize_in_arena : Tunables → ℕ → ℕ → ℕ → Block → CacheValue → Call Resettled
-resize_in_arena t home nb a b cache = then_call (hold_of a (Resize b.addr b.size nb) cache) (λ e.
-    after_resize t home nb a e.place (resized_to a b nb e.ended) e.cache)
+abbrev pub resize_in_arena : Tunables → ℕ → ℕ → ℕ → ℕ → Block → CacheValue → Call Resettled
+resize_in_arena t thread size nb a b cache = then_call (hold_of a (Resize b.addr b.size nb) cache) (λ e.
+    after_resize t thread size nb a e.place (resized_to a b nb e.ended) e.cache)
 
 -- the cache is opened first where it is closed
-abbrev pub realloc_in_arena : Tunables → ℕ → ℕ → ℕ → Block → CacheValue → Call Resettled
-realloc_in_arena t home nb a b cache = then_call (opening t home cache) (resize_in_arena t home nb a b)
+abbrev pub realloc_in_arena : Tunables → ℕ → ℕ → ℕ → ℕ → Block → CacheValue → Call Resettled
+realloc_in_arena t thread size nb a b cache = then_call (opening t thread cache) (resize_in_arena t thread size nb a b)
 
 -- ---- a mapped block
 
@@ -81,48 +75,48 @@ remapped b c = if nat_eq c.addr b.addr then kept_block origins.Mapped c else got
 
 -- The ask for another length was refused: a block that has 8 bytes more than the new size is kept, else malloc is called in
 -- its place.
-abbrev pub not_remapped : Tunables → ℕ → ℕ → Block → CacheValue → Call Resettled
-not_remapped t home nb b cache =
+abbrev pub not_remapped : Tunables → ℕ → ℕ → ℕ → Block → CacheValue → Call Resettled
+not_remapped t thread size nb b cache =
     if nat_le nb (b.size - 8) then Done (kept_block origins.Mapped b, cache)
-    else then_call (plain_supply t home nb cache) (moved_from_mapping b)
+    else then_call (plain_supply t thread size nb cache) (moved_from_mapping b)
 
-abbrev pub after_remap : Tunables → ℕ → ℕ → Block → CacheValue → Option ℕ → Call Resettled
-after_remap t home nb b cache (Some start) = Done (remapped b (chunk_with_lead (remap_length b nb) b start), cache)
-after_remap t home nb b cache None = not_remapped t home nb b cache
+abbrev pub after_remap : Tunables → ℕ → ℕ → ℕ → Block → CacheValue → Option ℕ → Call Resettled
+after_remap t thread size nb b cache (Some start) = Done (remapped b (chunk_with_lead (remap_length b nb) b start), cache)
+after_remap t thread size nb b cache None = not_remapped t thread size nb b cache
 
 -- a block whose mapping has the length already is kept
-abbrev pub realloc_in_mapping : Tunables → ℕ → ℕ → Block → CacheValue → Call Resettled
-realloc_in_mapping t home nb b cache =
+abbrev pub realloc_in_mapping : Tunables → ℕ → ℕ → ℕ → Block → CacheValue → Call Resettled
+realloc_in_mapping t thread size nb b cache =
     if nat_eq (remap_length b nb) (mapping_bytes b) then Done (kept_block origins.Mapped b, cache)
-    else Remaps b (remap_length b nb) (after_remap t home nb b cache)
+    else Remaps b (remap_length b nb) (after_remap t thread size nb b cache)
 
 -- ---- realloc
 
-abbrev pub realloc_in : Tunables → ℕ → ℕ → Block → Option ℕ → CacheValue → Call Resettled
-realloc_in t home nb b None cache = realloc_in_mapping t home nb b cache
-realloc_in t home nb b (Some a) cache = realloc_in_arena t home nb a b cache
+abbrev pub realloc_in : Tunables → ℕ → ℕ → ℕ → Block → Option ℕ → CacheValue → Call Resettled
+realloc_in t thread size nb b None cache = realloc_in_mapping t thread size nb b cache
+realloc_in t thread size nb b (Some a) cache = realloc_in_arena t thread size nb a b cache
 
 -- the name has the block then
 abbrev pub settled : ℕ → Own → Resettled → Reply × Own
 settled name own r = (r.0.reply, own_with name r.0.block r.1 own)
 
-abbrev pub padded_realloc : Tunables → ℕ → ℕ → Option ℕ → Block → Own → Call (Reply × Own)
-padded_realloc t home name None b own = refuse whys.Big own
-padded_realloc t home name (Some nb) b own =
-    then_call (realloc_in t home nb b b.arena own.cache) (λ r. Done (settled name own r))
+abbrev pub padded_realloc : Tunables → ℕ → ℕ → ℕ → Option ℕ → Block → Own → Call (Reply × Own)
+padded_realloc t thread name size None b own = refuse whys.Big own
+padded_realloc t thread name size (Some nb) b own =
+    then_call (realloc_in t thread size nb b b.arena own.cache) (λ r. Done (settled name own r))
 
 -- to 0 bytes the block is freed
 abbrev pub realloc_of_block : Tunables → ℕ → ℕ → ℕ → Block → Own → Call (Reply × Own)
-realloc_of_block t home name size b own =
-    if nat_eq size 0 then free_of_block t home name b b.arena own
-    else padded_realloc t home name (padded_request size) b own
+realloc_of_block t thread name size b own =
+    if nat_eq size 0 then free_of_block t thread name b b.arena own
+    else padded_realloc t thread name size (padded_request size) b own
 
 abbrev pub realloc_of_name : Tunables → ℕ → ℕ → ℕ → Option Block → Own → Call (Reply × Own)
-realloc_of_name t home name size None own = Done (NotYours, own)
-realloc_of_name t home name size (Some b) own = realloc_of_block t home name size b own
+realloc_of_name t thread name size None own = Done (NotYours, own)
+realloc_of_name t thread name size (Some b) own = realloc_of_block t thread name size b own
 
 abbrev pub realloc_call : Tunables → ℕ → ℕ → ℕ → Own → Call (Reply × Own)
-realloc_call t home name size own = realloc_of_name t home name size (block_at own.names name) own
+realloc_call t thread name size own = realloc_of_name t thread name size (block_at own.names name) own
 
 -- ---- what is promised
 

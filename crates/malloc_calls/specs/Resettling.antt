@@ -7,11 +7,11 @@ use Rattle.address_space.specs.Spaces.{space_refusals}
 use Rattle.thread_cache.specs.Caches.{CacheValue}
 use Rattle.arena_core.specs.Arenas.{need_of}
 use Rattle.arena_core.specs.declared.journal.Who.{Who}
-use Rattle.malloc_calls.specs.Names.{IsHeld}
-use Rattle.malloc_calls.specs.Calls.{Call}
+use Rattle.arena_holds.specs.Blocks.{IsHeld}
+use Rattle.arena_holds.specs.Calls.{Call}
 use Rattle.malloc_calls.specs.Reallocs.{Resettled, IfAnswered}
-use Rattle.malloc_calls.specs.Going.{Does}
-use Rattle.malloc_calls.specs.Places.{Setting, Standing, Carries, both_of, in_cache}
+use Rattle.arena_holds.specs.Going.{Does}
+use Rattle.arena_holds.specs.Places.{Setting, Standing, Carries, both_of, in_cache}
 use Rattle.malloc_calls.specs.declared.realloc.Reallocated.{Reallocated}
 use Rattle.malloc_calls.specs.declared.reply.Reply.TheVariants.{Null}
 use Rattle.malloc_calls.specs.declared.reply.Why.TheVariants.{Refused}

@@ -7,10 +7,11 @@ use Rattle.address_space.specs.Spaces.{space_refusals}
 use Rattle.thread_cache.specs.Caches.{CacheValue}
 use Rattle.arena_core.specs.Arenas.{need_of}
 use Rattle.arena_core.specs.declared.journal.Who.{Who}
-use Rattle.malloc_calls.specs.Names.{IsHeld}
-use Rattle.malloc_calls.specs.Calls.{Call, Supplied}
-use Rattle.malloc_calls.specs.Going.{Does}
-use Rattle.malloc_calls.specs.Places.{Setting, Standing, Carries, both_of, weight_of, in_cache}
+use Rattle.arena_holds.specs.Blocks.{IsHeld}
+use Rattle.arena_holds.specs.Calls.{Call}
+use Rattle.malloc_calls.specs.Calls.{Supplied}
+use Rattle.arena_holds.specs.Going.{Does}
+use Rattle.arena_holds.specs.Places.{Setting, Standing, Carries, both_of, weight_of, in_cache}
 use Rattle.malloc_calls.specs.declared.reply.To.{To}
 use Rattle.malloc_calls.specs.declared.supplying.Supply.{Supply}
 

@@ -3,23 +3,24 @@
 ghost use Rattle.std.specs.Prelude.{◌≡◌, ◌⊎◌, ◌<◌, Some, None, Ok, IsSome, IfSome, IfOk, OnOk, OnErr, is_ok, length};
 ghost use Rattle.chunk_tags.specs.Tunables.{IsTuned};
 ghost use Rattle.consolidate_trim.specs.Outside.{means};
-ghost use Rattle.malloc_calls.specs.Names.{IsHeld, block_at, with_some, without_block};
+ghost use Rattle.arena_holds.specs.Blocks.{IsHeld};
+ghost use Rattle.malloc_calls.specs.Names.{block_at, with_some, without_block};
 ghost use Rattle.malloc_calls.specs.Frees.{free_call, free_to, IsFreed};
 ghost use Rattle.chunk_tags.specs.declared.block.Block.{Block as Piece};
 ghost use Rattle.malloc_calls.specs.declared.reply.Reply.TheVariants.{Freed, NotYours};
 ghost use Rattle.malloc_calls.specs.declared.reply.To.TheVariants.{Unmapped};
-ghost use Rattle.malloc_calls.specs.Going.{Does};
-ghost use Rattle.malloc_calls.specs.Places.{setting, IsServed, Carries, standing, in_own};
+ghost use Rattle.arena_holds.specs.Going.{Does};
+ghost use Rattle.arena_holds.specs.Places.{setting, IsServed, Carries, standing};
+ghost use Rattle.malloc_calls.specs.Own.{in_own};
 
-use crate::mapping::free_mapped;
 use crate::names::Names;
 use crate::opening::open_cache;
 use crate::own::Own;
-use crate::places::Places;
 use crate::releasing::release;
 use crate::reply::{Reply, To};
 use address_space::{Kernel, Space};
 use arena_core::Who;
+use arena_holds::{Places, free_mapped};
 use chunk_tags::{Block, NoMemory, Tunables};
 use std::alloc::Global;
 
@@ -51,7 +52,8 @@ fn free_chunk<P: Places, K: Kernel>(
     requires tuned { IsTuned t.now }
     requires served { IsServed P.ways t.now (in_own own.old) (standing p.old space.old) }
     ensures does { IfOk result (λ reply. (b : Piece) → block_at own.old.names name ≡ Some b →
-        Does (setting P.ways (means P.Hold.fast P.Hold.dials K.port) P.Dial.dials) t.now who.now (free_to t.now a name b own.old)
+        Does (setting P.ways (means P.Hold.fast P.Hold.dials K.port) P.Dial.dials) t.now who.now
+        (free_to t.now a name b own.old)
         (standing p.old space.old) (reply, own.new) (standing p.new space.new)) }
     ensures carries { Carries P.ways (is_ok result) (in_own own.old) (standing p.old space.old)
         (in_own own.new) (standing p.new space.new) }
@@ -84,7 +86,8 @@ pub fn free<P: Places, K: Kernel>(
     requires tuned { IsTuned t.now }
     requires served { IsServed P.ways t.now (in_own own.old) (standing p.old space.old) }
     ensures does { IfOk result (λ reply.
-        Does (setting P.ways (means P.Hold.fast P.Hold.dials K.port) P.Dial.dials) t.now who.now (free_call t.now 0 name own.old)
+        Does (setting P.ways (means P.Hold.fast P.Hold.dials K.port) P.Dial.dials) t.now who.now
+        (free_call t.now who.now.thread name own.old)
         (standing p.old space.old) (reply, own.new) (standing p.new space.new)) }
     ensures none { block_at own.old.names name ≡ None → result ≡ Ok NotYours }
     ensures mapped { (b : Piece) → block_at own.old.names name ≡ Some b → b.arena ≡ None

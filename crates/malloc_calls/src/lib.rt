@@ -1,34 +1,30 @@
 //! The calls of a thread: which of its blocks, its cache and arenas answer them. Their main promise is the clause `does`:
-//! `Thread::malloc`, `calloc`, `posix_memalign`, `realloc` and `free` go through their trees (`Mallocs`, `Reallocs`, `Frees`)
-//! over any `Places`. `Serial` has the places of one order of calls.
+//! `Thread::malloc`, `calloc`, `posix_memalign`, `realloc`, `free`, `exit`, `post` and `take` go through their trees
+//! (`Mallocs`, `Reallocs`, `Frees`, `Exits`, `Trays`) over any `Places`.
 #![tactic(auto)]
 
-mod both;
 mod cached;
 #[cfg(test)]
 mod examples;
+mod exit;
 mod free;
-mod holding;
+mod handing;
 mod malloc;
-mod mapping;
 mod names;
 mod opening;
 mod own;
-mod places;
+mod own_cache;
 mod realloc;
 mod releasing;
 mod reply;
-mod serial;
 mod supplying;
 mod thread;
 
-pub use both::Both;
 pub use cached::CachedFree;
 pub use names::Names;
 pub use own::Own;
-pub use places::Places;
+pub use own_cache::OwnCache;
 pub use reply::{Origin, Reply, To, Why};
-pub use serial::{Serial, SerialEnd};
 pub use thread::Thread;
 
 #[cfg(test)]

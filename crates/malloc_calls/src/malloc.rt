@@ -7,21 +7,23 @@ ghost use Rattle.address_space.specs.Ports.{Rose};
 ghost use Rattle.address_space.specs.Spaces.{space_refusals};
 ghost use Rattle.arena_core.specs.Replay.{has_lead_in_range};
 ghost use Rattle.consolidate_trim.specs.Outside.{means};
-ghost use Rattle.malloc_calls.specs.Names.{IsHeld, block_at};
+ghost use Rattle.arena_holds.specs.Blocks.{IsHeld};
+ghost use Rattle.malloc_calls.specs.Names.{block_at};
 ghost use Rattle.malloc_calls.specs.Calls.{FitsName, reply_of, names_with};
 ghost use Rattle.malloc_calls.specs.Mallocs.{malloc_call, calloc_call, posix_memalign_call, is_memalign, IsAlignedName};
 ghost use Rattle.malloc_calls.specs.declared.reply.Reply.TheVariants.{Null};
 ghost use Rattle.malloc_calls.specs.declared.reply.Why.TheVariants.{Big, Align, Refused};
-ghost use Rattle.malloc_calls.specs.Going.{Does};
-ghost use Rattle.malloc_calls.specs.Places.{setting, IsServed, Carries, standing, in_own};
+ghost use Rattle.arena_holds.specs.Going.{Does};
+ghost use Rattle.arena_holds.specs.Places.{setting, IsServed, Carries, standing};
+ghost use Rattle.malloc_calls.specs.Own.{in_own};
 
 use crate::names::Names;
 use crate::own::Own;
-use crate::places::Places;
 use crate::reply::{Reply, Why};
-use crate::supplying::{Supply, aligned_supply, fresh_supply, plain_supply};
+use crate::supplying::{Supply, fresh_supply, plain_supply, supply_from_arena};
 use address_space::{Kernel, Space};
-use arena_core::Who;
+use arena_core::{Act, Who};
+use arena_holds::Places;
 use chunk_tags::{MAX_REQUEST, NoMemory, Size, Tunables, request_size};
 use std::alloc::Global;
 
@@ -88,7 +90,8 @@ pub fn malloc<P: Places, K: Kernel>(
     requires tuned { IsTuned t.now }
     requires served { IsServed P.ways t.now (in_own own.old) (standing p.old space.old) }
     ensures does { IfOk result (λ reply.
-        Does (setting P.ways (means P.Hold.fast P.Hold.dials K.port) P.Dial.dials) t.now who.now (malloc_call t.now 0 name size own.old)
+        Does (setting P.ways (means P.Hold.fast P.Hold.dials K.port) P.Dial.dials) t.now who.now
+        (malloc_call t.now who.now.thread name size own.old)
         (standing p.old space.old) (reply, own.new) (standing p.new space.new)) }
     ensures big { padded_request size ≡ None → result ≡ Ok (Null Big) }
     ensures fits { IfOk result (λ _. FitsName (chunk_size_of size) name own.new.names) }
@@ -101,7 +104,7 @@ pub fn malloc<P: Places, K: Kernel>(
     let Some(nb) = request_size(size) else {
         return Ok(Reply::Null(Why::Big));
     };
-    let got = plain_supply(&mut own.cache, alloc, p, who, nb, space, t)?;
+    let got = plain_supply(&mut own.cache, alloc, p, who, size, nb, space, t)?;
     Ok(answer(&mut own.names, name, got))
 }
 
@@ -123,7 +126,8 @@ pub fn calloc<P: Places, K: Kernel>(
     requires tuned { IsTuned t.now }
     requires served { IsServed P.ways t.now (in_own own.old) (standing p.old space.old) }
     ensures does { IfOk result (λ reply.
-        Does (setting P.ways (means P.Hold.fast P.Hold.dials K.port) P.Dial.dials) t.now who.now (calloc_call t.now 0 name n size own.old)
+        Does (setting P.ways (means P.Hold.fast P.Hold.dials K.port) P.Dial.dials) t.now who.now
+        (calloc_call t.now who.now.thread name n size own.old)
         (standing p.old space.old) (reply, own.new) (standing p.new space.new)) }
     ensures big { padded_request (n * size) ≡ None → result ≡ Ok (Null Big) }
     ensures fits { IfOk result (λ _. FitsName (chunk_size_of (n * size)) name own.new.names) }
@@ -136,7 +140,7 @@ pub fn calloc<P: Places, K: Kernel>(
     let Some(nb) = product_size(n, size) else {
         return Ok(Reply::Null(Why::Big));
     };
-    let got = fresh_supply(&mut own.cache, alloc, p, who, nb, space, t)?;
+    let got = fresh_supply(&mut own.cache, alloc, p, who, n * size, nb, space, t)?;
     Ok(answer(&mut own.names, name, got))
 }
 
@@ -159,11 +163,13 @@ pub fn posix_memalign<P: Places, K: Kernel>(
     requires tuned { IsTuned t.now }
     requires served { IsServed P.ways t.now (in_own own.old) (standing p.old space.old) }
     ensures does { IfOk result (λ reply.
-        Does (setting P.ways (means P.Hold.fast P.Hold.dials K.port) P.Dial.dials) t.now who.now (posix_memalign_call t.now 0 name align size own.old)
+        Does (setting P.ways (means P.Hold.fast P.Hold.dials K.port) P.Dial.dials) t.now who.now
+        (posix_memalign_call t.now who.now.thread name align size own.old)
         (standing p.old space.old) (reply, own.new) (standing p.new space.new)) }
     ensures big { padded_request size ≡ None → result ≡ Ok (Null Big) }
     ensures fits { IfOk result (λ _. FitsName (chunk_size_of size) name own.new.names) }
-    ensures align { IsSome (padded_request size) → is_memalign align ≡ false → result ≡ Ok (Null Align) }
+    ensures align { IsSome (padded_request size) → is_memalign align ≡ false
+        → result ≡ Ok (Null Align) }
     ensures lead { IsSome (padded_request size) → is_memalign align ≡ true → 16 < align
         → has_lead_in_range align (chunk_size_of size) ≡ false → result ≡ Ok (Null Big) }
     ensures aligned { 16 < align → IfOk result (λ _. IsAlignedName align name own.new.names) }
@@ -180,12 +186,14 @@ pub fn posix_memalign<P: Places, K: Kernel>(
         return Ok(Reply::Null(Why::Align));
     }
     if align <= LEAST_ALIGNMENT {
-        let got = plain_supply(&mut own.cache, alloc, p, who, nb, space, t)?;
+        let got = plain_supply(&mut own.cache, alloc, p, who, size, nb, space, t)?;
         return Ok(answer(&mut own.names, name, got));
     }
     if !has_lead_in_range(align, nb) {
         return Ok(Reply::Null(Why::Big));
     }
-    let got = aligned_supply(&mut own.cache, alloc, p, who, align, nb, space, t)?;
+    let act = Act::Align { align, nb };
+    let bytes = size + align + 32;
+    let got = supply_from_arena(&mut own.cache, alloc, p, who, &act, bytes, size, space, t)?;
     Ok(answer(&mut own.names, name, got))
 }

@@ -1,7 +1,8 @@
 //! The blocks of a thread, by name.
 
 ghost use Rattle.std.specs.Prelude.{◌≡◌, ◌-◌, ◌^◌, ◌<◌, ◌≤◌, [], ◌++◌, length, replicate, None, Some, IsSome, IfSome, OnOk, OnErr, option_copied, slice_set};
-ghost use Rattle.malloc_calls.specs.Names.{IsHeld, IsTable, block_at, with_places_to, with_block, without_block};
+ghost use Rattle.arena_holds.specs.Blocks.{IsHeld};
+ghost use Rattle.malloc_calls.specs.Names.{IsTable, block_at, with_places_to, with_block, without_block};
 
 use chunk_tags::{Block, NoMemory};
 use std::alloc::Global;

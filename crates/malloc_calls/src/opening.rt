@@ -1,28 +1,28 @@
 //! A thread's cache is opened.
 
-ghost use Rattle.std.specs.Prelude.{◌≡◌, ◌≤◌, OnOk, is_ok};
+ghost use Rattle.std.specs.Prelude.{◌≤◌, OnOk, is_ok};
 ghost use Rattle.address_space.specs.Spaces.{space_refusals};
 ghost use Rattle.chunk_tags.specs.Tunables.{IsTuned};
 ghost use Rattle.consolidate_trim.specs.Outside.{means};
 ghost use Rattle.malloc_calls.specs.Calls.{opening};
-ghost use Rattle.malloc_calls.specs.Going.{Does};
-ghost use Rattle.malloc_calls.specs.Places.{setting, IsServed, Carries, standing, in_cache};
+ghost use Rattle.arena_holds.specs.Going.{Does};
+ghost use Rattle.arena_holds.specs.Places.{setting, IsServed, Carries, standing, in_cache};
 
-use crate::holding::{Search, take_held};
-use crate::places::Places;
+use crate::own_cache::OwnCache;
 use address_space::{Kernel, Space};
-use arena_core::Who;
+use arena_core::{Act, Who};
+use arena_holds::{Places, Search};
 use chunk_tags::{NoMemory, Tunables};
 use std::alloc::Global;
-use thread_cache::{Cache, STRUCTURE_SIZE};
+use thread_cache::STRUCTURE_SIZE;
 
-/// The number of main.
-pub const MAIN: u8 = 0;
+/// The bytes of a cache's structure: glibc's `sizeof (tcache_perthread_struct)`.
+const STRUCTURE_BYTES: u64 = 640;
 
-/// Opens a cache where it is closed, in a chunk that is searched for in main; where that is refused it stays closed (glibc's
-/// `tcache_init`). After `NoMemory` a chunk that was found for the structure is in nobody's hand.
+/// Opens a cache where it is closed, in a chunk of an arena; where that is refused it stays closed (glibc's `tcache_init`). After
+/// `NoMemory` a chunk that was found for the structure is in nobody's hand.
 pub fn open_cache<P: Places, K: Kernel>(
-    cache: &mut Cache,
+    cache: &mut OwnCache,
     alloc: Global,
     p: &mut P,
     who: &Who,
@@ -32,30 +32,30 @@ pub fn open_cache<P: Places, K: Kernel>(
     requires tuned { IsTuned t.now }
     requires served { IsServed P.ways t.now (in_cache cache.old) (standing p.old space.old) }
     ensures does { OnOk result
-        (Does (setting P.ways (means P.Hold.fast P.Hold.dials K.port) P.Dial.dials) t.now who.now (opening t.now 0 cache.old)
+        (Does (setting P.ways (means P.Hold.fast P.Hold.dials K.port) P.Dial.dials) t.now who.now
+        (opening t.now who.now.thread cache.old)
         (standing p.old space.old) cache.new (standing p.new space.new)) }
-    ensures later { OnOk result (space_refusals K.port space.old ≤ space_refusals K.port space.new) }
+    ensures later { OnOk result
+        (space_refusals K.port space.old ≤ space_refusals K.port space.new) }
     ensures carries { Carries P.ways (is_ok result) (in_cache cache.old) (standing p.old space.old)
         (in_cache cache.new) (standing p.new space.new) }
 {
     if cache.is_open() {
         return Ok(());
     }
-    let Search { hold: _, block } = take_held(
+    let act = Act::Take { nb: STRUCTURE_SIZE };
+    let Search { hold: _, block } = cache.search(
         alloc,
         p,
-        MAIN,
         who,
-        STRUCTURE_SIZE,
-        cache,
+        &act,
+        STRUCTURE_BYTES,
+        STRUCTURE_BYTES,
         space,
         t,
     )?;
     match block {
         None => Ok(()),
-        Some(structure) => match cache.open(alloc, structure, t.tcache_count, t.tcache_bins) {
-            Ok(()) => Ok(()),
-            Err(_short) => Err(NoMemory),
-        },
+        Some(structure) => cache.open(alloc, structure, t),
     }
 }

@@ -4,25 +4,26 @@ ghost use Rattle.std.specs.Prelude.{◌≡◌, ◌<◌, None, IsSome, IfSome, If
 ghost use Rattle.std.specs.Option.{option_map};
 ghost use Rattle.chunk_tags.specs.Sizes.{IsChunkSize, chunk_size_of};
 ghost use Rattle.malloc_calls.specs.Calls.{FitsName};
-ghost use Rattle.malloc_calls.specs.Names.{block_at, IsHeld};
+ghost use Rattle.malloc_calls.specs.Names.{block_at};
+ghost use Rattle.arena_holds.specs.Blocks.{IsHeld};
 ghost use Rattle.malloc_calls.specs.Own.{new_own, newest_of_size, without_newest_of, cached_for, cached_malloc_of, cached_end, cached_free_of};
 
 use crate::cached::CachedFree;
 use crate::names::Names;
+use crate::own_cache::OwnCache;
 use chunk_tags::{Addr, Block, MAX_CACHED, Size, cache_index, request_size};
 use std::alloc::Global;
-use thread_cache::Cache;
 
 /// What a thread has of its own: its cache, and its blocks by name.
 #[derive(Debug, Drop)]
 pub struct Own {
-    pub cache: Cache,
+    pub cache: OwnCache,
     pub names: Names,
 }
 
 /// The newest block of the list for a size, which leaves the cache. `None` exactly where the size isn't cached or its list
 /// is empty.
-pub fn take_newest(cache: &mut Cache, nb: Size) -> Option<Block>
+pub fn take_newest(cache: &mut OwnCache, nb: Size) -> Option<Block>
     requires { IsChunkSize nb }
     ensures newest { result ≡ newest_of_size nb cache.old }
     ensures rest { cache.new ≡ without_newest_of nb cache.old }
@@ -43,7 +44,7 @@ impl Own {
         ensures { result ≡ new_own }
     {
         Own {
-            cache: Cache::closed(),
+            cache: OwnCache::closed(),
             names: Names::new(alloc),
         }
     }

@@ -1,37 +1,38 @@
 //! realloc.
 
-ghost use Rattle.std.specs.Prelude.{◌≡◌, ℕ, Some, None, Ok, IsSome, IfOk, IfErr, OnErr, is_ok};
+ghost use Rattle.std.specs.Prelude.{◌≡◌, ℕ, ◌^◌, ◌≤◌, Some, None, Ok, IsSome, IfOk, IfErr, OnErr, is_ok};
 ghost use Rattle.chunk_tags.specs.Sizes.{IsRequestSize, chunk_size_of, padded_request};
 ghost use Rattle.chunk_tags.specs.Tunables.{IsTuned};
 ghost use Rattle.address_space.specs.Ports.{Rose};
 ghost use Rattle.address_space.specs.Spaces.{space_refusals};
 ghost use Rattle.chunk_tags.specs.declared.block.Block.{Block as Piece};
 ghost use Rattle.consolidate_trim.specs.Outside.{means};
-ghost use Rattle.malloc_calls.specs.Names.{IsHeld, block_at};
-ghost use Rattle.malloc_calls.specs.Calls.{Done, then_call, plain_supply, FitsName};
+ghost use Rattle.arena_holds.specs.Blocks.{IsHeld};
+ghost use Rattle.malloc_calls.specs.Names.{block_at};
+ghost use Rattle.arena_holds.specs.Calls.{Done, then_call};
+ghost use Rattle.malloc_calls.specs.Calls.{plain_supply, FitsName};
 ghost use Rattle.malloc_calls.specs.Reallocs.{realloc_call, realloc_in, resize_in_arena, realloc_in_arena, realloc_in_mapping, moved_from_arena, moved_from_mapping, not_remapped, remapped, kept_block, got_block, refused_block, settled, IfAnswered};
 ghost use Rattle.malloc_calls.specs.Resettling.{Resettles};
-ghost use Rattle.malloc_calls.specs.Holding.{ResizesShort};
+ghost use Rattle.arena_holds.specs.Holding.{ResizesShort};
 ghost use Rattle.malloc_calls.specs.declared.reply.Reply.TheVariants.{NotYours, Null};
 ghost use Rattle.malloc_calls.specs.declared.reply.Why.TheVariants.{Big, Refused};
-ghost use Rattle.malloc_calls.specs.Going.{Does};
-ghost use Rattle.malloc_calls.specs.Places.{setting, IsServed, Carries, standing, both_of, in_cache, in_own};
+ghost use Rattle.arena_holds.specs.Going.{Does};
+ghost use Rattle.arena_holds.specs.Places.{setting, IsServed, Carries, standing, both_of, in_cache};
+ghost use Rattle.malloc_calls.specs.Own.{in_own};
 
 use crate::free::free;
-use crate::holding::{HeldResize, resize_held};
-use crate::mapping::{has_length, has_room, remap_mapped, unmap_mapped};
 use crate::opening::open_cache;
 use crate::own::Own;
-use crate::places::Places;
+use crate::own_cache::OwnCache;
 use crate::releasing::release;
 use crate::reply::{Origin, Reply, Why};
 use crate::supplying::{origin, plain_supply};
 use address_space::{Kernel, Space};
 use arena_core::Who;
+use arena_holds::{HeldResize, Places, has_length, has_room, remap_mapped, unmap_mapped};
 use chunk_tags::{Addr, Block, NoMemory, Size, Tunables, request_size};
 use realloc_align::Resized;
 use std::alloc::Global;
-use thread_cache::Cache;
 
 /// What a realloc came to: the block that the name has then, and the answer.
 #[derive(Debug, Drop)]
@@ -76,30 +77,35 @@ fn refused_block(block: Block) -> Reallocated
 
 /// malloc in the place of a resize that was refused: the block of an arena is released for the one that is got.
 fn move_from_arena<P: Places, K: Kernel>(
-    cache: &mut Cache,
+    cache: &mut OwnCache,
     alloc: Global,
     p: &mut P,
     who: &Who,
     a: u8,
     block: Block,
+    size: u64,
     nb: Size,
     space: &mut Space<K>,
     t: &Tunables,
 ) -> Result<Reallocated, Block>
+    requires bytes { size ≤ 2 ^ 63 }
     requires size { IsRequestSize nb }
     requires held { IsHeld block }
     requires arena { block.arena ≡ Some a }
     requires tuned { IsTuned t.now }
-    requires served { IsServed P.ways t.now (both_of (λ weigh. weigh block) (in_cache cache.old)) (standing p.old space.old) }
+    requires served { IsServed P.ways t.now (both_of (λ weigh. weigh block) (in_cache cache.old))
+        (standing p.old space.old) }
     ensures resettles { IfOk result (λ done.
-        Resettles (setting P.ways (means P.Hold.fast P.Hold.dials K.port) P.Dial.dials) t.now who.now
-        (then_call (plain_supply t.now 0 nb cache.old) (moved_from_arena t.now a block)) nb block
+        Resettles (setting P.ways (means P.Hold.fast P.Hold.dials K.port) P.Dial.dials)
+        t.now who.now
+        (then_call (plain_supply t.now who.now.thread size nb cache.old)
+        (moved_from_arena t.now a block)) nb block
         cache.old (standing p.old space.old) done cache.new (standing p.new space.new)) }
     ensures short { IfErr result (λ back.
         ResizesShort (setting P.ways (means P.Hold.fast P.Hold.dials K.port) P.Dial.dials) block
         cache.old (standing p.old space.old) back cache.new (standing p.new space.new)) }
 {
-    let found = match plain_supply(cache, alloc, p, who, nb, space, t) {
+    let found = match plain_supply(cache, alloc, p, who, size, nb, space, t) {
         Ok(found) => found,
         Err(NoMemory) => return Err(block),
     };
@@ -114,29 +120,34 @@ fn move_from_arena<P: Places, K: Kernel>(
 
 /// malloc in the place of another length that was refused: the block's mapping goes back for the one that is got.
 fn move_from_mapping<P: Places, K: Kernel>(
-    cache: &mut Cache,
+    cache: &mut OwnCache,
     alloc: Global,
     p: &mut P,
     who: &Who,
     block: Block,
+    size: u64,
     nb: Size,
     space: &mut Space<K>,
     t: &Tunables,
 ) -> Result<Reallocated, Block>
+    requires bytes { size ≤ 2 ^ 63 }
     requires size { IsRequestSize nb }
     requires held { IsHeld block }
     requires arena { block.arena ≡ None }
     requires tuned { IsTuned t.now }
-    requires served { IsServed P.ways t.now (both_of (λ weigh. weigh block) (in_cache cache.old)) (standing p.old space.old) }
+    requires served { IsServed P.ways t.now (both_of (λ weigh. weigh block) (in_cache cache.old))
+        (standing p.old space.old) }
     ensures resettles { IfOk result (λ done.
-        Resettles (setting P.ways (means P.Hold.fast P.Hold.dials K.port) P.Dial.dials) t.now who.now
-        (then_call (plain_supply t.now 0 nb cache.old) (moved_from_mapping block)) nb block
+        Resettles (setting P.ways (means P.Hold.fast P.Hold.dials K.port) P.Dial.dials)
+        t.now who.now
+        (then_call (plain_supply t.now who.now.thread size nb cache.old)
+        (moved_from_mapping block)) nb block
         cache.old (standing p.old space.old) done cache.new (standing p.new space.new)) }
     ensures short { IfErr result (λ back.
         ResizesShort (setting P.ways (means P.Hold.fast P.Hold.dials K.port) P.Dial.dials) block
         cache.old (standing p.old space.old) back cache.new (standing p.new space.new)) }
 {
-    let found = match plain_supply(cache, alloc, p, who, nb, space, t) {
+    let found = match plain_supply(cache, alloc, p, who, size, nb, space, t) {
         Ok(found) => found,
         Err(NoMemory) => return Err(block),
     };
@@ -152,64 +163,74 @@ fn move_from_mapping<P: Places, K: Kernel>(
 /// A block of an arena gets `nb` bytes under the lock of its arena, or malloc's block in its place. Where memory is short the
 /// block comes back where it is then, or the one that was got for it.
 fn resize_in_arena<P: Places, K: Kernel>(
-    cache: &mut Cache,
+    cache: &mut OwnCache,
     alloc: Global,
     p: &mut P,
     who: &Who,
     a: u8,
     block: Block,
+    size: u64,
     nb: Size,
     space: &mut Space<K>,
     t: &Tunables,
 ) -> Result<Reallocated, Block>
+    requires bytes { size ≤ 2 ^ 63 }
     requires size { IsRequestSize nb }
     requires held { IsHeld block }
     requires arena { block.arena ≡ Some a }
     requires tuned { IsTuned t.now }
-    requires served { IsServed P.ways t.now (both_of (λ weigh. weigh block) (in_cache cache.old)) (standing p.old space.old) }
+    requires served { IsServed P.ways t.now (both_of (λ weigh. weigh block) (in_cache cache.old))
+        (standing p.old space.old) }
     ensures resettles { IfOk result (λ done.
-        Resettles (setting P.ways (means P.Hold.fast P.Hold.dials K.port) P.Dial.dials) t.now who.now
-        (resize_in_arena t.now 0 nb a block cache.old) nb block
+        Resettles (setting P.ways (means P.Hold.fast P.Hold.dials K.port) P.Dial.dials)
+        t.now who.now
+        (resize_in_arena t.now who.now.thread size nb a block cache.old) nb block
         cache.old (standing p.old space.old) done cache.new (standing p.new space.new)) }
     ensures short { IfErr result (λ back.
         ResizesShort (setting P.ways (means P.Hold.fast P.Hold.dials K.port) P.Dial.dials) block
         cache.old (standing p.old space.old) back cache.new (standing p.new space.new)) }
 {
-    let HeldResize { hold, resized } = resize_held(alloc, p, a, who, block, nb, cache, space, t)?;
+    let HeldResize { hold, resized } = cache.resize(alloc, p, a, who, block, nb, space, t)?;
     match resized {
         Resized::Kept(block) => Ok(kept_block(origin(hold, &block), block)),
         Resized::Moved(block) => Ok(got_block(origin(hold, &block), block)),
-        Resized::Refused(block) => { move_from_arena(cache, alloc, p, who, a, block, nb, space, t) }
+        Resized::Refused(block) => {
+            move_from_arena(cache, alloc, p, who, a, block, size, nb, space, t)
+        }
     }
 }
 
 /// A block of an arena gets `nb` bytes, and the cache is opened first where it is closed.
 fn realloc_in_arena<P: Places, K: Kernel>(
-    cache: &mut Cache,
+    cache: &mut OwnCache,
     alloc: Global,
     p: &mut P,
     who: &Who,
     a: u8,
     block: Block,
+    size: u64,
     nb: Size,
     space: &mut Space<K>,
     t: &Tunables,
 ) -> Result<Reallocated, Block>
+    requires bytes { size ≤ 2 ^ 63 }
     requires size { IsRequestSize nb }
     requires held { IsHeld block }
     requires arena { block.arena ≡ Some a }
     requires tuned { IsTuned t.now }
-    requires served { IsServed P.ways t.now (both_of (λ weigh. weigh block) (in_cache cache.old)) (standing p.old space.old) }
+    requires served { IsServed P.ways t.now (both_of (λ weigh. weigh block) (in_cache cache.old))
+        (standing p.old space.old) }
     ensures resettles { IfOk result (λ done.
-        Resettles (setting P.ways (means P.Hold.fast P.Hold.dials K.port) P.Dial.dials) t.now who.now
-        (realloc_in_arena t.now 0 nb a block cache.old) nb block
+        Resettles (setting P.ways (means P.Hold.fast P.Hold.dials K.port) P.Dial.dials)
+        t.now who.now
+        (realloc_in_arena t.now who.now.thread size nb a block cache.old) nb block
         cache.old (standing p.old space.old) done cache.new (standing p.new space.new)) }
     ensures short { IfErr result (λ back.
         ResizesShort (setting P.ways (means P.Hold.fast P.Hold.dials K.port) P.Dial.dials) block
         cache.old (standing p.old space.old) back cache.new (standing p.new space.new)) }
 {
     match open_cache(cache, alloc, p, who, space, t) {
-        Ok(()) => resize_in_arena(cache, alloc, p, who, a, block, nb, space, t),
+        Ok(()) => resize_in_arena(cache, alloc, p, who, a, block, size, nb, space, t),
         Err(NoMemory) => Err(block),
     }
 }
@@ -228,23 +249,27 @@ fn remapped(before: Addr, block: Block) -> Reallocated
 /// A mapped block gets `nb` bytes: its mapping has the length already, or is asked for another, or malloc's block is got in
 /// its place. Where memory is short the block comes back.
 fn realloc_in_mapping<P: Places, K: Kernel>(
-    cache: &mut Cache,
+    cache: &mut OwnCache,
     alloc: Global,
     p: &mut P,
     who: &Who,
     block: Block,
+    size: u64,
     nb: Size,
     space: &mut Space<K>,
     t: &Tunables,
 ) -> Result<Reallocated, Block>
+    requires bytes { size ≤ 2 ^ 63 }
     requires size { IsRequestSize nb }
     requires held { IsHeld block }
     requires arena { block.arena ≡ None }
     requires tuned { IsTuned t.now }
-    requires served { IsServed P.ways t.now (both_of (λ weigh. weigh block) (in_cache cache.old)) (standing p.old space.old) }
+    requires served { IsServed P.ways t.now (both_of (λ weigh. weigh block) (in_cache cache.old))
+        (standing p.old space.old) }
     ensures resettles { IfOk result (λ done.
-        Resettles (setting P.ways (means P.Hold.fast P.Hold.dials K.port) P.Dial.dials) t.now who.now
-        (realloc_in_mapping t.now 0 nb block cache.old) nb block
+        Resettles (setting P.ways (means P.Hold.fast P.Hold.dials K.port) P.Dial.dials)
+        t.now who.now
+        (realloc_in_mapping t.now who.now.thread size nb block cache.old) nb block
         cache.old (standing p.old space.old) done cache.new (standing p.new space.new)) }
     ensures short { IfErr result (λ back.
         ResizesShort (setting P.ways (means P.Hold.fast P.Hold.dials K.port) P.Dial.dials) block
@@ -256,30 +281,34 @@ fn realloc_in_mapping<P: Places, K: Kernel>(
     let addr = block.addr;
     match remap_mapped(p, block, nb, space) {
         Ok(changed) => Ok(remapped(addr, changed)),
-        Err(block) => keep_or_move(cache, alloc, p, who, block, nb, space, t),
+        Err(block) => keep_or_move(cache, alloc, p, who, block, size, nb, space, t),
     }
 }
 
 /// A mapped block whose other length was refused: it is kept where it has 8 bytes more than `nb`, else malloc's block is got
 /// in its place.
 fn keep_or_move<P: Places, K: Kernel>(
-    cache: &mut Cache,
+    cache: &mut OwnCache,
     alloc: Global,
     p: &mut P,
     who: &Who,
     block: Block,
+    size: u64,
     nb: Size,
     space: &mut Space<K>,
     t: &Tunables,
 ) -> Result<Reallocated, Block>
+    requires bytes { size ≤ 2 ^ 63 }
     requires size { IsRequestSize nb }
     requires held { IsHeld block }
     requires arena { block.arena ≡ None }
     requires tuned { IsTuned t.now }
-    requires served { IsServed P.ways t.now (both_of (λ weigh. weigh block) (in_cache cache.old)) (standing p.old space.old) }
+    requires served { IsServed P.ways t.now (both_of (λ weigh. weigh block) (in_cache cache.old))
+        (standing p.old space.old) }
     ensures resettles { IfOk result (λ done.
-        Resettles (setting P.ways (means P.Hold.fast P.Hold.dials K.port) P.Dial.dials) t.now who.now
-        (not_remapped t.now 0 nb block cache.old) nb block
+        Resettles (setting P.ways (means P.Hold.fast P.Hold.dials K.port) P.Dial.dials)
+        t.now who.now
+        (not_remapped t.now who.now.thread size nb block cache.old) nb block
         cache.old (standing p.old space.old) done cache.new (standing p.new space.new)) }
     ensures short { IfErr result (λ back.
         ResizesShort (setting P.ways (means P.Hold.fast P.Hold.dials K.port) P.Dial.dials) block
@@ -288,36 +317,40 @@ fn keep_or_move<P: Places, K: Kernel>(
     if has_room(&block, nb) {
         Ok(kept_block(Origin::Mapped, block))
     } else {
-        move_from_mapping(cache, alloc, p, who, block, nb, space, t)
+        move_from_mapping(cache, alloc, p, who, block, size, nb, space, t)
     }
 }
 
 /// A block gets `nb` bytes where it is, or elsewhere.
 fn realloc_block<P: Places, K: Kernel>(
-    cache: &mut Cache,
+    cache: &mut OwnCache,
     alloc: Global,
     p: &mut P,
     who: &Who,
     block: Block,
+    size: u64,
     nb: Size,
     space: &mut Space<K>,
     t: &Tunables,
 ) -> Result<Reallocated, Block>
+    requires bytes { size ≤ 2 ^ 63 }
     requires size { IsRequestSize nb }
     requires held { IsHeld block }
     requires tuned { IsTuned t.now }
-    requires served { IsServed P.ways t.now (both_of (λ weigh. weigh block) (in_cache cache.old)) (standing p.old space.old) }
+    requires served { IsServed P.ways t.now (both_of (λ weigh. weigh block) (in_cache cache.old))
+        (standing p.old space.old) }
     ensures resettles { IfOk result (λ done.
-        Resettles (setting P.ways (means P.Hold.fast P.Hold.dials K.port) P.Dial.dials) t.now who.now
-        (realloc_in t.now 0 nb block block.arena cache.old) nb block
+        Resettles (setting P.ways (means P.Hold.fast P.Hold.dials K.port) P.Dial.dials)
+        t.now who.now
+        (realloc_in t.now who.now.thread size nb block block.arena cache.old) nb block
         cache.old (standing p.old space.old) done cache.new (standing p.new space.new)) }
     ensures short { IfErr result (λ back.
         ResizesShort (setting P.ways (means P.Hold.fast P.Hold.dials K.port) P.Dial.dials) block
         cache.old (standing p.old space.old) back cache.new (standing p.new space.new)) }
 {
     match block.arena {
-        None => realloc_in_mapping(cache, alloc, p, who, block, nb, space, t),
-        Some(a) => realloc_in_arena(cache, alloc, p, who, a, block, nb, space, t),
+        None => realloc_in_mapping(cache, alloc, p, who, block, size, nb, space, t),
+        Some(a) => realloc_in_arena(cache, alloc, p, who, a, block, size, nb, space, t),
     }
 }
 
@@ -328,28 +361,32 @@ fn realloc_name<P: Places, K: Kernel>(
     p: &mut P,
     who: &Who,
     name: u32,
+    size: u64,
     nb: Size,
     space: &mut Space<K>,
     t: &Tunables,
 ) -> Result<Reply, NoMemory>
+    requires bytes { size ≤ 2 ^ 63 }
     requires size { IsRequestSize nb }
     requires some { IsSome (block_at own.old.names name) }
     requires tuned { IsTuned t.now }
     requires served { IsServed P.ways t.now (in_own own.old) (standing p.old space.old) }
     ensures does { IfOk result (λ reply. (b : Piece) → block_at own.old.names name ≡ Some b →
         Does (setting P.ways (means P.Hold.fast P.Hold.dials K.port) P.Dial.dials) t.now who.now
-        (then_call (realloc_in t.now 0 nb b b.arena own.old.cache) (λ r. Done (settled name own.old r)))
+        (then_call (realloc_in t.now who.now.thread size nb b b.arena own.old.cache)
+        (λ r. Done (settled name own.old r)))
         (standing p.old space.old) (reply, own.new) (standing p.new space.new)) }
     ensures fits { IfOk result (λ reply. IfAnswered reply (FitsName nb name own.new.names)) }
     ensures refused { IfOk result (λ reply. reply ≡ Null Refused
         → Rose (space_refusals K.port space.old) (space_refusals K.port space.new)) }
     ensures carries { Carries P.ways (is_ok result) (in_own own.old) (standing p.old space.old)
         (in_own own.new) (standing p.new space.new) }
-    ensures others { (n : ℕ) → (n ≡ name → ⊥) → block_at own.new.names n ≡ block_at own.old.names n }
+    ensures others { (n : ℕ) → (n ≡ name → ⊥)
+        → block_at own.new.names n ≡ block_at own.old.names n }
     ensures back { OnErr result (IsSome (block_at own.new.names name)) }
 {
     let block = own.names.take(name).unwrap();
-    match realloc_block(&mut own.cache, alloc, p, who, block, nb, space, t) {
+    match realloc_block(&mut own.cache, alloc, p, who, block, size, nb, space, t) {
         Ok(Reallocated { block, reply }) => {
             own.names.put(name, block);
             Ok(reply)
@@ -377,16 +414,20 @@ pub fn realloc<P: Places, K: Kernel>(
     requires tuned { IsTuned t.now }
     requires served { IsServed P.ways t.now (in_own own.old) (standing p.old space.old) }
     ensures does { IfOk result (λ reply.
-        Does (setting P.ways (means P.Hold.fast P.Hold.dials K.port) P.Dial.dials) t.now who.now (realloc_call t.now 0 name size own.old)
+        Does (setting P.ways (means P.Hold.fast P.Hold.dials K.port) P.Dial.dials) t.now who.now
+        (realloc_call t.now who.now.thread name size own.old)
         (standing p.old space.old) (reply, own.new) (standing p.new space.new)) }
     ensures none { block_at own.old.names name ≡ None → result ≡ Ok NotYours }
-    ensures big { IsSome (block_at own.old.names name) → padded_request size ≡ None → result ≡ Ok (Null Big) }
-    ensures fits { IfOk result (λ reply. IfAnswered reply (FitsName (chunk_size_of size) name own.new.names)) }
+    ensures big { IsSome (block_at own.old.names name)
+        → padded_request size ≡ None → result ≡ Ok (Null Big) }
+    ensures fits { IfOk result
+        (λ reply. IfAnswered reply (FitsName (chunk_size_of size) name own.new.names)) }
     ensures refused { IfOk result (λ reply. reply ≡ Null Refused
         → Rose (space_refusals K.port space.old) (space_refusals K.port space.new)) }
     ensures carries { Carries P.ways (is_ok result) (in_own own.old) (standing p.old space.old)
         (in_own own.new) (standing p.new space.new) }
-    ensures others { (n : ℕ) → (n ≡ name → ⊥) → block_at own.new.names n ≡ block_at own.old.names n }
+    ensures others { (n : ℕ) → (n ≡ name → ⊥)
+        → block_at own.new.names n ≡ block_at own.old.names n }
     ensures back { (size ≡ 0 → ⊥) → OnErr result (IsSome (block_at own.new.names name)) }
 {
     let Some(_named) = own.names.get(name) else {
@@ -397,6 +438,6 @@ pub fn realloc<P: Places, K: Kernel>(
     }
     match request_size(size) {
         None => Ok(Reply::Null(Why::Big)),
-        Some(nb) => realloc_name(own, alloc, p, who, name, nb, space, t),
+        Some(nb) => realloc_name(own, alloc, p, who, name, size, nb, space, t),
     }
 }

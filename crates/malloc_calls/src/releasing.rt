@@ -5,20 +5,19 @@ ghost use Rattle.chunk_tags.specs.Tunables.{IsTuned};
 ghost use Rattle.consolidate_trim.specs.Outside.{means};
 ghost use Rattle.thread_cache.specs.Caches.{CacheValue};
 ghost use Rattle.malloc_calls.specs.Calls.{past_cache, releasing};
-ghost use Rattle.malloc_calls.specs.Holding.{PushesWithRoom};
-ghost use Rattle.malloc_calls.specs.Names.{IsHeld};
-ghost use Rattle.malloc_calls.specs.Places.{setting, IsServed, standing, both_of, in_cache};
-ghost use Rattle.malloc_calls.specs.Returning.{IsUnseen};
+ghost use Rattle.arena_holds.specs.Holding.{PushesWithRoom};
+ghost use Rattle.arena_holds.specs.Blocks.{IsHeld};
+ghost use Rattle.arena_holds.specs.Places.{setting, IsServed, standing, both_of, in_cache};
+ghost use Rattle.arena_holds.specs.Returning.{IsUnseen};
 ghost use Rattle.malloc_calls.specs.Supplying.{Releases, ReleasesShort};
 
-use crate::holding::give_held;
-use crate::places::Places;
+use crate::own_cache::OwnCache;
 use crate::reply::To;
 use address_space::{Kernel, Space};
 use arena_core::{GiveShort, Who};
+use arena_holds::{Places, give_held};
 use chunk_tags::{Block, NoMemory, Size, Tunables, fast_index};
 use std::alloc::Global;
-use thread_cache::Cache;
 
 /// Whether chunks of a size go into fast bins.
 fn is_fast(size: Size, t: &Tunables) -> bool
@@ -50,7 +49,7 @@ fn push_fast<P: Places>(p: &mut P, a: u8, block: Block) -> Result<(), Block>
 
 /// A chunk that the cache doesn't take goes into its fast bin where it is fast, else to its arena. Where there is no room for
 /// a push it comes back.
-fn release_past_cache<P: Places, K: Kernel>(
+pub fn release_past_cache<P: Places, K: Kernel>(
     alloc: Global,
     p: &mut P,
     who: &Who,
@@ -65,7 +64,8 @@ fn release_past_cache<P: Places, K: Kernel>(
     requires served { IsServed P.ways t.now (λ weigh. weigh block) (standing p.old space.old) }
     ensures releases { (cache : CacheValue) → IfOk result (λ to.
         Releases (setting P.ways (means P.Hold.fast P.Hold.dials K.port) P.Dial.dials) t.now who.now
-        (past_cache t.now a block cache) block cache (standing p.old space.old) to cache (standing p.new space.new)) }
+        (past_cache t.now a block cache) block cache (standing p.old space.old) to cache
+        (standing p.new space.new)) }
     ensures short { (cache : CacheValue) → IfErr result (λ e.
         ReleasesShort (setting P.ways (means P.Hold.fast P.Hold.dials K.port) P.Dial.dials) block
         cache (standing p.old space.old) e.back cache (standing p.new space.new)) }
@@ -87,7 +87,7 @@ fn release_past_cache<P: Places, K: Kernel>(
 /// Releases a chunk of an arena: into the cache where that takes it, else past it (glibc's `_int_free`). Where memory is short
 /// it comes back, or is in nobody's hand.
 pub fn release<P: Places, K: Kernel>(
-    cache: &mut Cache,
+    cache: &mut OwnCache,
     alloc: Global,
     p: &mut P,
     who: &Who,
@@ -99,10 +99,12 @@ pub fn release<P: Places, K: Kernel>(
     requires held { IsHeld block }
     requires arena { block.arena ≡ Some a }
     requires tuned { IsTuned t.now }
-    requires served { IsServed P.ways t.now (both_of (λ weigh. weigh block) (in_cache cache.old)) (standing p.old space.old) }
+    requires served { IsServed P.ways t.now (both_of (λ weigh. weigh block) (in_cache cache.old))
+        (standing p.old space.old) }
     ensures releases { IfOk result (λ to.
         Releases (setting P.ways (means P.Hold.fast P.Hold.dials K.port) P.Dial.dials) t.now who.now
-        (releasing t.now a block cache.old) block cache.old (standing p.old space.old) to cache.new (standing p.new space.new)) }
+        (releasing t.now a block cache.old) block cache.old (standing p.old space.old) to cache.new
+        (standing p.new space.new)) }
     ensures short { IfErr result (λ e.
         ReleasesShort (setting P.ways (means P.Hold.fast P.Hold.dials K.port) P.Dial.dials) block
         cache.old (standing p.old space.old) e.back cache.new (standing p.new space.new)) }

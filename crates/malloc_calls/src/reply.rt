@@ -58,4 +58,15 @@ pub enum Reply {
     Freed(To),
     /// The name holds nothing.
     NotYours,
+    /// The name's block is in the tray.
+    Posted,
+    /// The tray's block has the name.
+    Taken {
+        addr: Addr,
+        size: Size,
+    },
+    /// The tray had this (0 empty, 1 claimed, 2 full, 3 taken); the name holds what it held.
+    Missed(u64),
+    /// The thread has ended.
+    Ended,
 }

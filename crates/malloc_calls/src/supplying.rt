@@ -1,27 +1,24 @@
 //! A block is got for a request: from the cache, or from an arena.
 
-ghost use Rattle.std.specs.Prelude.{◌≡◌, ◌+◌, ◌-◌, ◌^◌, ◌%◌, ◌≤◌, false, IfSome, IfOk, OnErr, option_map};
-ghost use Rattle.chunk_tags.specs.Pages.{user_address};
+ghost use Rattle.std.specs.Prelude.{◌≡◌, ◌^◌, ◌≤◌, false, IfSome, IfOk, OnErr, option_map};
 ghost use Rattle.chunk_tags.specs.Sizes.{IsRequestSize};
 ghost use Rattle.chunk_tags.specs.Tunables.{IsTuned};
-ghost use Rattle.arena_rules.specs.Align.{IsAlignment};
-ghost use Rattle.arena_core.specs.declared.journal.Act.TheVariants as acts;
 ghost use Rattle.consolidate_trim.specs.Outside.{means};
+ghost use Rattle.arena_holds.specs.Places.{setting, IsServed, Carries, standing, in_cache};
+ghost use Rattle.arena_holds.specs.Searching.{IsSearch, IsAligned, size_wanted};
 ghost use Rattle.malloc_calls.specs.Calls.{from_arena, from_cache, plain_supply, fresh_supply, origin_of, supply_of};
 ghost use Rattle.malloc_calls.specs.Own.{newest_of_size};
-ghost use Rattle.malloc_calls.specs.Places.{setting, IsServed, Carries, standing, in_cache};
 ghost use Rattle.malloc_calls.specs.Supplying.{Supplies};
 
-use crate::holding::{Search, align_held, take_held};
-use crate::opening::{MAIN, open_cache};
+use crate::opening::open_cache;
 use crate::own::take_newest;
-use crate::places::Places;
+use crate::own_cache::OwnCache;
 use crate::reply::Origin;
 use address_space::{Kernel, Space};
-use arena_core::Who;
+use arena_core::{Act, Who};
+use arena_holds::{Places, Search};
 use chunk_tags::{Block, NoMemory, Size, Tunables};
 use std::alloc::Global;
-use thread_cache::Cache;
 
 /// A block for a request, and where it came from.
 #[derive(Debug, Drop)]
@@ -54,51 +51,65 @@ fn found(search: Search) -> Option<Supply>
     }
 }
 
-/// A block from main.
-fn supply_from_main<P: Places, K: Kernel>(
-    cache: &mut Cache,
+/// A block from an arena, which is chosen for so many bytes, at a second try for as many as `again`. After `NoMemory` no block
+/// of the thread was lost.
+pub fn supply_from_arena<P: Places, K: Kernel>(
+    cache: &mut OwnCache,
     alloc: Global,
     p: &mut P,
     who: &Who,
-    nb: Size,
+    act: &Act,
+    bytes: u64,
+    again: u64,
     space: &mut Space<K>,
     t: &Tunables,
 ) -> Result<Option<Supply>, NoMemory>
-    requires size { IsRequestSize nb }
+    requires act { IsSearch act.now }
+    requires bytes { bytes ≤ 2 ^ 63 }
+    requires again { again ≤ 2 ^ 63 }
     requires tuned { IsTuned t.now }
     requires served { IsServed P.ways t.now (in_cache cache.old) (standing p.old space.old) }
     ensures supplies { IfOk result (λ got.
         Supplies (setting P.ways (means P.Hold.fast P.Hold.dials K.port) P.Dial.dials) t.now who.now
-        (from_arena 0 (acts.Take nb) cache.old) nb cache.old (standing p.old space.old) got cache.new (standing p.new space.new)) }
+        (from_arena t.now who.now.thread bytes again act.now cache.old) (size_wanted act.now)
+        cache.old (standing p.old space.old) got cache.new (standing p.new space.new)) }
+    ensures aligned { IfOk result (λ got. IfSome got (λ g. IsAligned act.now g.block)) }
     ensures short { OnErr result
-        (Carries P.ways false (in_cache cache.old) (standing p.old space.old) (in_cache cache.new) (standing p.new space.new)) }
+        (Carries P.ways false (in_cache cache.old) (standing p.old space.old)
+        (in_cache cache.new) (standing p.new space.new)) }
 {
-    let search = take_held(alloc, p, MAIN, who, nb, cache, space, t)?;
+    let search = cache.search(alloc, p, who, act, bytes, again, space, t)?;
     Ok(found(search))
 }
 
-/// The newest chunk of its list in the cache, else a block from main.
+/// The newest chunk of its list in the cache, else a block from an arena.
 fn supply_open<P: Places, K: Kernel>(
-    cache: &mut Cache,
+    cache: &mut OwnCache,
     alloc: Global,
     p: &mut P,
     who: &Who,
+    bytes: u64,
     nb: Size,
     space: &mut Space<K>,
     t: &Tunables,
 ) -> Result<Option<Supply>, NoMemory>
+    requires bytes { bytes ≤ 2 ^ 63 }
     requires size { IsRequestSize nb }
     requires tuned { IsTuned t.now }
     requires served { IsServed P.ways t.now (in_cache cache.old) (standing p.old space.old) }
     ensures supplies { IfOk result (λ got.
         Supplies (setting P.ways (means P.Hold.fast P.Hold.dials K.port) P.Dial.dials) t.now who.now
-        (from_cache 0 nb (newest_of_size nb cache.old) cache.old) nb
+        (from_cache t.now who.now.thread bytes nb (newest_of_size nb cache.old) cache.old) nb
         cache.old (standing p.old space.old) got cache.new (standing p.new space.new)) }
     ensures short { OnErr result
-        (Carries P.ways false (in_cache cache.old) (standing p.old space.old) (in_cache cache.new) (standing p.new space.new)) }
+        (Carries P.ways false (in_cache cache.old) (standing p.old space.old)
+        (in_cache cache.new) (standing p.new space.new)) }
 {
     match take_newest(cache, nb) {
-        None => supply_from_main(cache, alloc, p, who, nb, space, t),
+        None => {
+            let act = Act::Take { nb };
+            supply_from_arena(cache, alloc, p, who, &act, bytes, bytes, space, t)
+        }
         Some(block) => Ok(Some(Supply {
             block,
             from: Origin::Cached,
@@ -106,78 +117,59 @@ fn supply_open<P: Places, K: Kernel>(
     }
 }
 
-/// A block for a request of `nb` bytes, from the cache, which is opened where it is closed, or from main (glibc's
-/// `__libc_malloc`). After `NoMemory` no block of the thread was lost.
+/// A block for a request of so many bytes, whose chunk has `nb`: from the cache, which is opened where it is closed, or from
+/// an arena (glibc's `__libc_malloc`). After `NoMemory` no block of the thread was lost.
 pub fn plain_supply<P: Places, K: Kernel>(
-    cache: &mut Cache,
+    cache: &mut OwnCache,
     alloc: Global,
     p: &mut P,
     who: &Who,
+    bytes: u64,
     nb: Size,
     space: &mut Space<K>,
     t: &Tunables,
 ) -> Result<Option<Supply>, NoMemory>
+    requires bytes { bytes ≤ 2 ^ 63 }
     requires size { IsRequestSize nb }
     requires tuned { IsTuned t.now }
     requires served { IsServed P.ways t.now (in_cache cache.old) (standing p.old space.old) }
     ensures supplies { IfOk result (λ got.
         Supplies (setting P.ways (means P.Hold.fast P.Hold.dials K.port) P.Dial.dials) t.now who.now
-        (plain_supply t.now 0 nb cache.old) nb cache.old (standing p.old space.old) got cache.new (standing p.new space.new)) }
+        (plain_supply t.now who.now.thread bytes nb cache.old) nb
+        cache.old (standing p.old space.old) got cache.new (standing p.new space.new)) }
     ensures short { OnErr result
-        (Carries P.ways false (in_cache cache.old) (standing p.old space.old) (in_cache cache.new) (standing p.new space.new)) }
+        (Carries P.ways false (in_cache cache.old) (standing p.old space.old)
+        (in_cache cache.new) (standing p.new space.new)) }
 {
     open_cache(cache, alloc, p, who, space, t)?;
-    supply_open(cache, alloc, p, who, nb, space, t)
+    supply_open(cache, alloc, p, who, bytes, nb, space, t)
 }
 
-/// A block for a request of `nb` bytes from main, past the cache, which is opened where it is closed (glibc's
-/// `__libc_calloc`). After `NoMemory` no block of the thread was lost.
+/// A block for a request of so many bytes, whose chunk has `nb`: from an arena, past the cache, which is opened where it is
+/// closed (glibc's `__libc_calloc`). After `NoMemory` no block of the thread was lost.
 pub fn fresh_supply<P: Places, K: Kernel>(
-    cache: &mut Cache,
+    cache: &mut OwnCache,
     alloc: Global,
     p: &mut P,
     who: &Who,
+    bytes: u64,
     nb: Size,
     space: &mut Space<K>,
     t: &Tunables,
 ) -> Result<Option<Supply>, NoMemory>
+    requires bytes { bytes ≤ 2 ^ 63 }
     requires size { IsRequestSize nb }
     requires tuned { IsTuned t.now }
     requires served { IsServed P.ways t.now (in_cache cache.old) (standing p.old space.old) }
     ensures supplies { IfOk result (λ got.
         Supplies (setting P.ways (means P.Hold.fast P.Hold.dials K.port) P.Dial.dials) t.now who.now
-        (fresh_supply t.now 0 nb cache.old) nb cache.old (standing p.old space.old) got cache.new (standing p.new space.new)) }
+        (fresh_supply t.now who.now.thread bytes nb cache.old) nb
+        cache.old (standing p.old space.old) got cache.new (standing p.new space.new)) }
     ensures short { OnErr result
-        (Carries P.ways false (in_cache cache.old) (standing p.old space.old) (in_cache cache.new) (standing p.new space.new)) }
+        (Carries P.ways false (in_cache cache.old) (standing p.old space.old)
+        (in_cache cache.new) (standing p.new space.new)) }
 {
     open_cache(cache, alloc, p, who, space, t)?;
-    supply_from_main(cache, alloc, p, who, nb, space, t)
-}
-
-/// A block of `nb` bytes from main whose user address is a multiple of `align`, a power of two from 32 on (glibc's
-/// `_int_memalign`). After `NoMemory` no block of the thread was lost.
-pub fn aligned_supply<P: Places, K: Kernel>(
-    cache: &mut Cache,
-    alloc: Global,
-    p: &mut P,
-    who: &Who,
-    align: u64,
-    nb: Size,
-    space: &mut Space<K>,
-    t: &Tunables,
-) -> Result<Option<Supply>, NoMemory>
-    requires size { IsRequestSize nb }
-    requires align { IsAlignment align }
-    requires most { nb + align + 32 ≤ 2 ^ 63 - 1 }
-    requires tuned { IsTuned t.now }
-    requires served { IsServed P.ways t.now (in_cache cache.old) (standing p.old space.old) }
-    ensures supplies { IfOk result (λ got.
-        Supplies (setting P.ways (means P.Hold.fast P.Hold.dials K.port) P.Dial.dials) t.now who.now
-        (from_arena 0 (acts.Align align nb) cache.old) nb cache.old (standing p.old space.old) got cache.new (standing p.new space.new)) }
-    ensures aligned { IfOk result (λ got. IfSome got (λ g. user_address g.block.addr % align ≡ 0)) }
-    ensures short { OnErr result
-        (Carries P.ways false (in_cache cache.old) (standing p.old space.old) (in_cache cache.new) (standing p.new space.new)) }
-{
-    let search = align_held(alloc, p, MAIN, who, align, nb, cache, space, t)?;
-    Ok(found(search))
+    let act = Act::Take { nb };
+    supply_from_arena(cache, alloc, p, who, &act, bytes, bytes, space, t)
 }

@@ -1,10 +1,10 @@
 ghost use Rattle.std.specs.Prelude.{◌≡◌};
 ghost use Rattle.chunk_tags.specs.Sizes.{IsChunkSize};
-ghost use Rattle.malloc_calls.specs.Names.{IsHeld};
+ghost use Rattle.arena_holds.specs.Blocks.{IsHeld};
 
 use super::*;
 use address_space::{Always, Space, Windows};
-use chunk_tags::{Addr, Block, Size};
+use chunk_tags::{Addr, Block, Mode, Size, Tunables};
 use std::alloc::Global;
 use std::test::Fail;
 
@@ -39,7 +39,9 @@ fn chunk(addr: u64, size: u64) -> Block
 fn own_with_places(alloc: Global) -> Result<Own, Fail> {
     let mut own = Own::new(alloc);
     own.names.ready(2)?;
-    own.cache.open(alloc, chunk(0x5555_5555_9000, 656), 7, 64)?;
+    let tunables = Tunables::defaults(Mode::Serial);
+    own.cache
+        .open(alloc, chunk(0x5555_5555_9000, 656), &tunables)?;
     Ok(own)
 }
 

@@ -12,24 +12,28 @@ ghost use Rattle.malloc_calls.specs.Calls.{FitsName};
 ghost use Rattle.malloc_calls.specs.Mallocs.{malloc_call, calloc_call, posix_memalign_call, is_memalign, IsAlignedName};
 ghost use Rattle.arena_core.specs.Replay.{has_lead_in_range};
 ghost use Rattle.malloc_calls.specs.Frees.{free_call};
+ghost use Rattle.malloc_calls.specs.Exits.{exit_call};
 ghost use Rattle.malloc_calls.specs.Reallocs.{realloc_call, IfAnswered};
-ghost use Rattle.malloc_calls.specs.declared.reply.Reply.TheVariants.{Freed, NotYours, Null};
+ghost use Rattle.malloc_calls.specs.declared.reply.Reply.TheVariants.{Freed, NotYours, Null, Ended};
 ghost use Rattle.malloc_calls.specs.declared.reply.To.TheVariants.{Unmapped};
 ghost use Rattle.malloc_calls.specs.declared.reply.Why.TheVariants.{Big, Align, Refused};
-ghost use Rattle.malloc_calls.specs.Going.{Does};
-ghost use Rattle.malloc_calls.specs.Places.{setting, IsServed, Carries, standing, in_own};
-ghost use Rattle.malloc_calls.specs.Names.{block_at, with_places_to, with_block, without_block, IsHeld, IsTable};
+ghost use Rattle.arena_holds.specs.Going.{Does};
+ghost use Rattle.arena_holds.specs.Places.{setting, IsServed, Carries, standing};
+ghost use Rattle.malloc_calls.specs.Own.{in_own};
+ghost use Rattle.malloc_calls.specs.Names.{block_at, with_places_to, with_block, without_block, IsTable};
+ghost use Rattle.arena_holds.specs.Blocks.{IsHeld};
 ghost use Rattle.malloc_calls.specs.Own.{new_thread, number_of, who_of, own_of, with_own, with_names, names_of, space_of, IsSpaceOf, cached_for, cached_malloc_of, cached_end, cached_free_of};
 
 use crate::cached::CachedFree;
+use crate::exit::exit;
 use crate::free::free;
 use crate::malloc::{calloc, malloc, posix_memalign};
 use crate::own::Own;
-use crate::places::Places;
 use crate::realloc::realloc;
 use crate::reply::Reply;
 use address_space::{Kernel, Space};
 use arena_core::Who;
+use arena_holds::Places;
 use chunk_tags::{Addr, Block, NoMemory, Tunables};
 use std::alloc::Global;
 use thread_cache::Cache;
@@ -38,7 +42,7 @@ use thread_cache::Cache;
 #[derive(Drop)]
 pub struct Thread<K: Kernel> {
     number: u8,
-    own: Own,
+    pub(crate) own: Own,
     space: Space<K>,
 }
 
@@ -83,7 +87,7 @@ impl<K: Kernel> Thread<K> {
     pub fn cache(&self) -> &Cache
         ensures { result.now ≡ (own_of self.now).cache }
     {
-        &self.own.cache
+        self.own.cache.cache()
     }
 
     /// Laws; the call does nothing. The place of the next mapping is an address, and each name that holds something holds a
@@ -163,7 +167,8 @@ impl<K: Kernel> Thread<K> {
             (standing p.old (space_of self.old)) }
         ensures does { IfOk result (λ reply.
             Does (setting P.ways (means P.Hold.fast P.Hold.dials K.port) P.Dial.dials) t.now
-            (who_of line self.old) (malloc_call t.now 0 name size (own_of self.old))
+            (who_of line self.old)
+            (malloc_call t.now (number_of self.old) name size (own_of self.old))
             (standing p.old (space_of self.old))
             (reply, own_of self.new) (standing p.new (space_of self.new))) }
         ensures big { padded_request size ≡ None → result ≡ Ok (Null Big) }
@@ -212,11 +217,13 @@ impl<K: Kernel> Thread<K> {
             (standing p.old (space_of self.old)) }
         ensures does { IfOk result (λ reply.
             Does (setting P.ways (means P.Hold.fast P.Hold.dials K.port) P.Dial.dials) t.now
-            (who_of line self.old) (calloc_call t.now 0 name n size (own_of self.old))
+            (who_of line self.old)
+            (calloc_call t.now (number_of self.old) name n size (own_of self.old))
             (standing p.old (space_of self.old))
             (reply, own_of self.new) (standing p.new (space_of self.new))) }
         ensures big { padded_request (n * size) ≡ None → result ≡ Ok (Null Big) }
-        ensures fits { IfOk result (λ _. FitsName (chunk_size_of (n * size)) name (names_of self.new)) }
+        ensures fits { IfOk result
+            (λ _. FitsName (chunk_size_of (n * size)) name (names_of self.new)) }
 
         // No block is answered only where the kernel refused an ask of this call.
         ensures refused { IfOk result (λ reply. reply ≡ Null Refused
@@ -262,7 +269,8 @@ impl<K: Kernel> Thread<K> {
             (standing p.old (space_of self.old)) }
         ensures does { IfOk result (λ reply.
             Does (setting P.ways (means P.Hold.fast P.Hold.dials K.port) P.Dial.dials) t.now
-            (who_of line self.old) (posix_memalign_call t.now 0 name align size (own_of self.old))
+            (who_of line self.old)
+            (posix_memalign_call t.now (number_of self.old) name align size (own_of self.old))
             (standing p.old (space_of self.old))
             (reply, own_of self.new) (standing p.new (space_of self.new))) }
         ensures big { padded_request size ≡ None → result ≡ Ok (Null Big) }
@@ -315,7 +323,8 @@ impl<K: Kernel> Thread<K> {
             (standing p.old (space_of self.old)) }
         ensures does { IfOk result (λ reply.
             Does (setting P.ways (means P.Hold.fast P.Hold.dials K.port) P.Dial.dials) t.now
-            (who_of line self.old) (realloc_call t.now 0 name size (own_of self.old))
+            (who_of line self.old)
+            (realloc_call t.now (number_of self.old) name size (own_of self.old))
             (standing p.old (space_of self.old))
             (reply, own_of self.new) (standing p.new (space_of self.new))) }
         ensures none { block_at (names_of self.old) name ≡ None → result ≡ Ok NotYours }
@@ -366,7 +375,7 @@ impl<K: Kernel> Thread<K> {
             (standing p.old (space_of self.old)) }
         ensures does { IfOk result (λ reply.
             Does (setting P.ways (means P.Hold.fast P.Hold.dials K.port) P.Dial.dials) t.now
-            (who_of line self.old) (free_call t.now 0 name (own_of self.old))
+            (who_of line self.old) (free_call t.now (number_of self.old) name (own_of self.old))
             (standing p.old (space_of self.old))
             (reply, own_of self.new) (standing p.new (space_of self.new))) }
         ensures none { block_at (names_of self.old) name ≡ None → result ≡ Ok NotYours }
@@ -381,5 +390,35 @@ impl<K: Kernel> Thread<K> {
     {
         let who = self.who(line);
         free(&mut self.own, alloc, p, &who, name, &mut self.space, t)
+    }
+
+    /// The end of a thread, in a line of the trace (glibc's `__malloc_arena_thread_freeres`): its cache is closed, and what it
+    /// had is released; then the thread leaves its arena. Its named blocks stay. After `NoMemory` it hasn't left, and what its
+    /// cache still has stays there.
+    pub fn exit<P: Places>(
+        &mut self,
+        alloc: Global,
+        p: &mut P,
+        line: u64,
+        t: &Tunables,
+    ) -> Result<Reply, NoMemory>
+        requires tuned { IsTuned t.now }
+        requires served { IsServed P.ways t.now (in_own (own_of self.old))
+            (standing p.old (space_of self.old)) }
+        ensures does { IfOk result (λ reply.
+            Does (setting P.ways (means P.Hold.fast P.Hold.dials K.port) P.Dial.dials) t.now
+            (who_of line self.old) (exit_call t.now (number_of self.old) (own_of self.old))
+            (standing p.old (space_of self.old))
+            (reply, own_of self.new) (standing p.new (space_of self.new))) }
+        ensures ended { IfOk result (λ reply. reply ≡ Ended) }
+        ensures closed { OnOk result ((own_of self.new).cache ≡ None) }
+        ensures carries { Carries P.ways (is_ok result)
+            (in_own (own_of self.old)) (standing p.old (space_of self.old))
+            (in_own (own_of self.new)) (standing p.new (space_of self.new)) }
+        ensures names { names_of self.new ≡ names_of self.old }
+        ensures number { number_of self.new ≡ number_of self.old }
+    {
+        let who = self.who(line);
+        exit(&mut self.own, alloc, p, &who, &mut self.space, t)
     }
 }

@@ -28,7 +28,7 @@ use thread_cache::Cache;
 const HEADER: u64 = 16;
 
 /// The size of a chunk which has an aligned part of `nb` bytes wherever it lies, and a smallest chunk behind it.
-fn size_with_lead(align: u64, nb: Size) -> Size
+pub fn size_with_lead(align: u64, nb: Size) -> Size
     requires { nb + align + 32 ≤ 2 ^ 63 - 1 }
     ensures { result ≡ size_with_lead align nb }
 {

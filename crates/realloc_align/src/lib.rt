@@ -10,5 +10,6 @@ mod resizing;
 mod to_align;
 mod to_size;
 
-pub use to_align::aligned;
+pub use aligning::size_with_lead;
+pub use to_align::{aligned, block_in_mapping};
 pub use to_size::{Resized, resize};

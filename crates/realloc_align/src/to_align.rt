@@ -26,7 +26,7 @@ use std::alloc::Global;
 use thread_cache::Cache;
 
 /// The block in a mapping, behind its lead.
-fn block_in_mapping(align: u64, nb: Size, c: &Chunk) -> Block
+pub fn block_in_mapping(align: u64, nb: Size, c: &Chunk) -> Block
     requires align { IsAlignment align }
     requires most { align < 2 ^ 63 }
     requires fits { FitsMapping align nb c.now }

@@ -1,10 +1,9 @@
--- Names that hold blocks are held in the text too.
-use Rattle.std.proofs.Common.{◌≡◌, ℕ, zero, suc, ◌+◌, ◌-◌, ◌*◌, ◌%◌, ◌<◌, ◌≤◌, ◌==◌, ◌⊎◌, inl, inr, Bool, true, false, not, ◌&&◌, ◌||◌, cond, eqb, List, [], ◌∷◌, ◌++◌, Option, Some, None, Ok, length, get_or, take, replicate, refl, sym, ap, ◌∙◌, subst, arith, append-nil, append_assoc}
+-- Names and trays that hold blocks are held, and posted to, in the text too.
+use Rattle.std.proofs.Common.{◌≡◌, ℕ, zero, suc, ◌+◌, ◌-◌, ◌*◌, ◌%◌, ◌<◌, ◌≤◌, ◌==◌, ◌⊎◌, inl, inr, Bool, true, false, not, ◌&&◌, ◌||◌, cond, eqb, List, [], ◌∷◌, ◌++◌, Option, Some, None, length, replicate, refl, sym, ap, ◌∙◌, subst, arith, eq-eqb, length-append}
 use Rattle.std.specs.Prelude.{nat_le}
 use Rattle.std.proofs.lemmas.Bool.Decides.{nat_tests, eqb_tells}
 use Rattle.std.proofs.lemmas.Bool.{cases_lt}
-use Rattle.std.proofs.lemmas.List.{take_more}
-use Rattle.std.proofs.lemmas.List.Sums.{fold-append}
+use Rattle.std.proofs.lemmas.List.{length-replicate}
 use Rattle.chunk_tags.specs.Pages.{user_address}
 use Rattle.chunk_tags.specs.Sizes.{chunk_size_of}
 use Rattle.chunk_tags.specs.declared.block.Block.{Block}
@@ -13,22 +12,22 @@ use Rattle.malloc_calls.specs.Names.{block_at, with_places_to}
 use Rattle.malloc_calls.specs.Calls.{FitsName}
 use Rattle.malloc_calls.specs.Mallocs.{IsAlignedName}
 use Rattle.malloc_calls.specs.Reallocs.{IfAnswered}
-use Rattle.malloc_calls.specs.declared.own.Own.{Own}
+use Rattle.malloc_calls.specs.Own.{names_of, own_of}
+use Rattle.malloc_calls.specs.declared.thread.Thread.{Thread}
 use Rattle.malloc_calls.specs.declared.reply.Reply.{Reply}
-use Rattle.malloc_calls.specs.declared.reply.Reply.TheVariants.{Got, Kept, Null, Freed, NotYours}
+use Rattle.malloc_calls.specs.declared.reply.Reply.TheVariants.{Got, Kept, Null, Freed, NotYours, Posted, Taken, Missed, Ended}
 use Rattle.malloc_calls.specs.declared.reply.Why.{Why}
+use Rattle.serial_places.specs.Trays.{tray_at}
+use Rattle.serial_places.specs.declared.tray.Tray.{Tray}
+use Rattle.serial_places.specs.declared.tray.Tray.TheVariants.{Empty, Full}
 use Rattle.trace_text.specs.declared.trace.Call.{Call}
-use Rattle.trace_text.specs.declared.trace.Call.TheVariants.{Malloc, Calloc, Realloc, Align, Free}
+use Rattle.trace_text.specs.declared.trace.Call.TheVariants.{Malloc, Calloc, Realloc, Align, Free, Post, Take, Exit}
 use Rattle.trace_text.specs.declared.trace.Line.{Line}
-use Rattle.trace_text.specs.Before.{held_after, is_held}
-use Rattle.trace_text.specs.Grammar.{fitting, fault_if}
-use Rattle.trace_text.specs.declared.fault.BadWhy.{BadWhy}
-use Rattle.trace_text.specs.declared.fault.BadWhy.TheVariants.{Held}
-use Rattle.trace_text.specs.Spelling.{Fits, AllFit, Allows}
-use Rattle.trace_text.proofs.Before.{is_held_push}
-use Rattle.trace_replay.specs.Naming.{HoldsWithin, IsFree, MayRun, LeavesNames, MakesName, ResizesName, EmptiesName}
-use Rattle.trace_replay.specs.Tiling.{Wanted, bytes_wanted, aligned_wanted, wanted_anew, wanted_next, wanted_under, IsEnough, IsFit, FitsWithin}
-use Rattle.trace_replay.proofs.CallResults.{KeepsOthers}
+use Rattle.trace_text.specs.Before.{held_after, is_post}
+use Rattle.trace_replay.specs.Naming.{FitsThread, LeavesBlocks, MakesName, ResizesName, EmptiesName, PostsName, TakesName}
+use Rattle.trace_replay.specs.Tiling.{Wanted, Wishes, bytes_wanted, aligned_wanted, wanted_anew, wanted_taken, wanted_posted, named_next, posted_next, wished_after, IsEnough, IsFit}
+use Rattle.trace_replay.proofs.CallResults.{KeepsOthers, LeavesName, Empties}
+use Rattle.trace_replay.proofs.Keeping.{readied}
 
 -- ---- a place for a name changes nothing else
 
@@ -45,7 +44,7 @@ padded (o ∷ os) (suc n) k = padded os n k
 pub block_at-with_places_to : (name n : ℕ) (names : List (Option Block)) → block_at (with_places_to name names) n ≡ block_at names n
 block_at-with_places_to name n names = padded names n (name + 1 - length names)
 
--- ---- what the calls leave
+-- ---- what is enough
 
 -- each number is a multiple of 1
 pub bytes_enough : (size : ℕ) (b : Block) → need_of b.arena (chunk_size_of size) ≤ b.size → IsEnough (bytes_wanted size) b
@@ -63,59 +62,78 @@ aligned_place align b above =
           subst (λ (v : Bool). user_address b.addr % cond v 1 align ≡ 0) (sym yes) each
     ]
 
--- a call that makes a name leaves what was asked for
-pub makes_bytes : (name size : ℕ) (names : List (Option Block)) (r : Reply × Own) → KeepsOthers name names r → FitsName (chunk_size_of size) name r.1.names →
-    MakesName name (bytes_wanted size) names r
-makes_bytes name size names r others fits = record { others = others; made = λ b is. bytes_enough size b (fits b is) }
+-- ---- what a call leaves of the names before a place was made
 
-pub makes_aligned : (name align size : ℕ) (names : List (Option Block)) (r : Reply × Own) → KeepsOthers name names r → FitsName (chunk_size_of size) name r.1.names →
-    (16 < align → IsAlignedName align name r.1.names) → MakesName name (aligned_wanted align size) names r
-makes_aligned name align size names r others fits aligned = record {
-  others = others;
-  made = λ b is. record { size = fits b is; place = aligned_place align b (λ more. aligned more b is) };
+names_there : {K : Type 0} (th there : Thread K) (name : ℕ) → there ≡ readied name th → names_of there ≡ with_places_to name (names_of th)
+names_there {K = K} th there name is = ap (λ (x : Thread K). names_of x) is
+
+block_there : {K : Type 0} (th there : Thread K) (name n : ℕ) → there ≡ readied name th → block_at (names_of there) n ≡ block_at (names_of th) n
+block_there th there name n is = ap (λ names. block_at names n) (names_there th there name is) ∙ block_at-with_places_to name n (names_of th)
+
+-- a name that holds nothing holds nothing there, and has a place
+pub nothing_there : {K : Type 0} (th there : Thread K) (name : ℕ) → there ≡ readied name th → block_at (names_of th) name ≡ None → block_at (names_of there) name ≡ None
+nothing_there th there name is none = block_there th there name name is ∙ none
+
+pub room_there : {K : Type 0} (th there : Thread K) (name : ℕ) → there ≡ readied name th → name < length (names_of there)
+room_there th there name is =
+    let names : List (Option Block) = names_of th in
+    let k : ℕ = name + 1 - length names in
+    omega (arith, ap length (names_there th there name is), length-append names (replicate k None), length-replicate {A = Option Block} k None)
+
+pub makes_bytes : {K : Type 0} (th there new : Thread K) (name size : ℕ) (reply : Reply) → there ≡ readied name th → KeepsOthers name (names_of there) (reply, own_of new) →
+    FitsName (chunk_size_of size) name (names_of new) → MakesName name (bytes_wanted size) (names_of th) (names_of new)
+makes_bytes th there new name size reply is others fits = record {
+  others = λ n other. others n other ∙ block_there th there name n is;
+  made = λ b at. bytes_enough size b (fits b at);
 }
+
+pub makes_aligned : {K : Type 0} (th there new : Thread K) (name align size : ℕ) (reply : Reply) → there ≡ readied name th → KeepsOthers name (names_of there) (reply, own_of new) →
+    FitsName (chunk_size_of size) name (names_of new) → (16 < align → IsAlignedName align name (names_of new)) → MakesName name (aligned_wanted align size) (names_of th) (names_of new)
+makes_aligned th there new name align size reply is others fits aligned = record {
+  others = λ n other. others n other ∙ block_there th there name n is;
+  made = λ b at. record { size = fits b at; place = aligned_place align b (λ more. aligned more b at) };
+}
+
+pub resizes_name : {K : Type 0} (th there new : Thread K) (name size : ℕ) (reply : Reply) → there ≡ readied name th → LeavesName name size (names_of there) (reply, own_of new) →
+    ((n : ℕ) → (n ≡ name → ⊥) → block_at (names_of new) n ≡ block_at (names_of there) n) → IfAnswered reply (FitsName (chunk_size_of size) name (names_of new)) →
+    ResizesName name size reply (names_of th) (names_of new)
+resizes_name th there new name size reply is leaves others made = record {
+  others = λ n other. others n other ∙ block_there th there name n is;
+  none = λ e. leaves.none (nothing_there th there name is e);
+  gone = leaves.gone;
+  stays = λ why e. leaves.stays why e ∙ block_there th there name name is;
+  made = made;
+}
+
+pub empties_name : {K : Type 0} (th there new : Thread K) (name : ℕ) (reply : Reply) → there ≡ readied name th → Empties name (names_of there) (reply, own_of new) →
+    EmptiesName name (names_of th) (names_of new)
+empties_name th there new name reply is empties = record {
+  others = λ n other. empties.others n other ∙ block_there th there name n is;
+  gone = empties.gone;
+}
+
+pub posts_name : {K : Type 0} (th there new : Thread K) (name tray : ℕ) (reply : Reply) (trays left : List Tray) → there ≡ readied name th →
+    PostsName name tray reply (names_of there) (names_of new) trays left → PostsName name tray reply (names_of th) (names_of new) trays left
+posts_name th there new name tray reply trays left is p = record {
+  empties = empties_name th there new name reply is p.empties;
+  others = p.others;
+  posted = λ b at. let q = p.posted b at in (q.0, sym (block_there th there name name is) ∙ q.1);
+}
+
+pub takes_name : {K : Type 0} (th there new : Thread K) (name tray : ℕ) (reply : Reply) (trays left : List Tray) → there ≡ readied name th →
+    TakesName name tray reply (names_of there) (names_of new) trays left → TakesName name tray reply (names_of th) (names_of new) trays left
+takes_name th there new name tray reply trays left is p = record {
+  others = λ n other. p.others n other ∙ block_there th there name n is;
+  empty = p.empty;
+  stays = p.stays;
+  taken = p.taken;
+}
+
+-- ---- what a line leaves
 
 or_false : (x y : Bool) → (x || y) ≡ false → (x ≡ false) × (y ≡ false)
 or_false true y h = absurd cc
 or_false false y h = (refl, h)
-
--- what a line leaves that makes a name
-made_leaves : (line : Line) (reply : Reply) (name : ℕ) (w : Wanted) (names : List (Option Block)) (own : Own) → line.thread ≡ 0 →
-    ((n : ℕ) (was : Bool) → held_after n was line.call ≡ (name == n || was)) →
-    ((n : ℕ) (was : Option Wanted) → wanted_next n line.call reply was ≡ cond (eqb name n) (Some w) was) →
-    MakesName name w (with_places_to name names) (reply, own) → LeavesNames line reply names own.names
-made_leaves line reply name w names own thread holds wants makes = record {
-  thread = thread;
-  held = λ n was before not_held.
-      let h : (name == n || was) ≡ false = sym (holds n was) ∙ not_held in
-      let parts : ((name == n) ≡ false) × (was ≡ false) = or_false (name == n) was h in
-      let other : n ≡ name → ⊥ = grind (arith, nat_tests) in
-      makes.others n other ∙ block_at-with_places_to name n names ∙ before parts.1;
-  fit = λ n was before b is.
-      subst (λ (o : Option Wanted). IsFit o b) (sym (wants n was))
-      (elim (eqb_tells name n) [
-        | inl same ↦
-            subst (λ (v : Bool). IsFit (cond v (Some w) was) b) (sym same.0) (makes.made b (ap (block_at own.names) same.1 ∙ is))
-        | inr other ↦
-            subst (λ (v : Bool). IsFit (cond v (Some w) was) b) (sym other.0)
-            (before b (sym (makes.others n (λ e. other.1 (sym e)) ∙ block_at-with_places_to name n names) ∙ is))
-      ]);
-}
-
-pub malloc_leaves : (line : Line) (reply : Reply) (name size : ℕ) (names : List (Option Block)) (own : Own) → line.thread ≡ 0 → line.call ≡ Malloc name size →
-    MakesName name (bytes_wanted size) (with_places_to name names) (reply, own) → LeavesNames line reply names own.names
-malloc_leaves line reply name size names own thread call makes =
-    made_leaves line reply name (bytes_wanted size) names own thread (λ n was. ap (held_after n was) call) (λ n was. ap (λ (c : Call). wanted_next n c reply was) call) makes
-
-pub calloc_leaves : (line : Line) (reply : Reply) (name n size : ℕ) (names : List (Option Block)) (own : Own) → line.thread ≡ 0 → line.call ≡ Calloc name n size →
-    MakesName name (bytes_wanted (n * size)) (with_places_to name names) (reply, own) → LeavesNames line reply names own.names
-calloc_leaves line reply name n size names own thread call makes =
-    made_leaves line reply name (bytes_wanted (n * size)) names own thread (λ m was. ap (held_after m was) call) (λ m was. ap (λ (c : Call). wanted_next m c reply was) call) makes
-
-pub memalign_leaves : (line : Line) (reply : Reply) (name align size : ℕ) (names : List (Option Block)) (own : Own) → line.thread ≡ 0 → line.call ≡ Align name align size →
-    MakesName name (aligned_wanted align size) (with_places_to name names) (reply, own) → LeavesNames line reply names own.names
-memalign_leaves line reply name align size names own thread call makes =
-    made_leaves line reply name (aligned_wanted align size) names own thread (λ n was. ap (held_after n was) call) (λ n was. ap (λ (c : Call). wanted_next n c reply was) call) makes
 
 and_false : (x y : Bool) → (not x && y) ≡ false → (x ≡ true) ⊎ (y ≡ false)
 and_false true y h = inl refl
@@ -125,137 +143,212 @@ both_true : (x y : Bool) → (x && y) ≡ true → (x ≡ true) × (y ≡ true)
 both_true true y h = (refl, h)
 both_true false y h = absurd cc
 
+-- what stands under a name of the line's own thread
+own_wish : (w : Wishes) (line : Line) (reply : Reply) (n : ℕ) → (wished_after w (line, reply)).named line.thread n ≡ named_next w n line.call reply (w.named line.thread n)
+own_wish w line reply n = ap (λ v. cond v (named_next w n line.call reply (w.named line.thread n)) (w.named line.thread n)) (eq-eqb line.thread line.thread refl)
+
+-- what is so of one name and one tray more, is so of all
+blocks_left : (line : Line) (reply : Reply) (names now : List (Option Block)) (trays left : List Tray) →
+    ((n : ℕ) (was : Bool) → (was ≡ false → block_at names n ≡ None) → held_after n was line.call ≡ false → block_at now n ≡ None) →
+    ((n : ℕ) → is_post n line.call ≡ false → tray_at trays n ≡ Empty → tray_at left n ≡ Empty) →
+    ((w : Wishes) → FitsThread w line.thread names trays → (n : ℕ) (b : Block) → block_at now n ≡ Some b → IsFit (named_next w n line.call reply (w.named line.thread n)) b) →
+    ((w : Wishes) → FitsThread w line.thread names trays → (n : ℕ) (b : Block) → tray_at left n ≡ Full b → IsFit (posted_next w line.thread n line.call reply) b) →
+    LeavesBlocks line reply names now trays left
+blocks_left line reply names now trays left held empty named posted = record {
+  held = held;
+  empty = empty;
+  fit = λ w fits. record {
+    named = λ n b at. subst (λ (o : Option Wanted). IsFit o b) (sym (own_wish w line reply n)) (named w fits n b at);
+    posted = posted w fits;
+  };
+}
+
+-- a line that makes a name
+made_leaves : (line : Line) (reply : Reply) (name : ℕ) (wanted : Wanted) (names now : List (Option Block)) (trays left : List Tray) →
+    ((n : ℕ) (was : Bool) → held_after n was line.call ≡ (name == n || was)) →
+    ((w : Wishes) (n : ℕ) (was : Option Wanted) → named_next w n line.call reply was ≡ cond (eqb name n) (Some wanted) was) →
+    ((w : Wishes) (n : ℕ) → posted_next w line.thread n line.call reply ≡ w.posted n) →
+    MakesName name wanted names now → left ≡ trays → LeavesBlocks line reply names now trays left
+made_leaves line reply name wanted names now trays left holds wants posts makes same =
+    blocks_left line reply names now trays left
+    (λ n was before not_held.
+    let parts : ((name == n) ≡ false) × (was ≡ false) = or_false (name == n) was (sym (holds n was) ∙ not_held) in
+    let other : n ≡ name → ⊥ = grind (arith, nat_tests) in
+    makes.others n other ∙ before parts.1)
+    (λ n none e. ap (λ ts. tray_at ts n) same ∙ e)
+    (λ w fits n b is.
+    subst (λ (o : Option Wanted). IsFit o b) (sym (wants w n (w.named line.thread n)))
+    (elim (eqb_tells name n) [
+      | inl equal ↦
+          subst (λ (v : Bool). IsFit (cond v (Some wanted) (w.named line.thread n)) b) (sym equal.0) (makes.made b (ap (block_at now) equal.1 ∙ is))
+      | inr other ↦
+          subst (λ (v : Bool). IsFit (cond v (Some wanted) (w.named line.thread n)) b) (sym other.0)
+          (fits.named n b (sym (makes.others n (λ e. other.1 (sym e))) ∙ is))
+    ]))
+    (λ w fits n b is. subst (λ (o : Option Wanted). IsFit o b) (sym (posts w n)) (fits.posted n b (sym (ap (λ ts. tray_at ts n) same) ∙ is)))
+
+pub malloc_leaves : (line : Line) (reply : Reply) (name size : ℕ) (names now : List (Option Block)) (trays left : List Tray) → line.call ≡ Malloc name size →
+    MakesName name (bytes_wanted size) names now → left ≡ trays → LeavesBlocks line reply names now trays left
+malloc_leaves line reply name size names now trays left call makes same =
+    made_leaves line reply name (bytes_wanted size) names now trays left (λ n was. ap (held_after n was) call) (λ w n was. ap (λ (c : Call). named_next w n c reply was) call)
+    (λ w n. ap (λ (c : Call). posted_next w line.thread n c reply) call) makes same
+
+pub calloc_leaves : (line : Line) (reply : Reply) (name n size : ℕ) (names now : List (Option Block)) (trays left : List Tray) → line.call ≡ Calloc name n size →
+    MakesName name (bytes_wanted (n * size)) names now → left ≡ trays → LeavesBlocks line reply names now trays left
+calloc_leaves line reply name n size names now trays left call makes same =
+    made_leaves line reply name (bytes_wanted (n * size)) names now trays left (λ m was. ap (held_after m was) call) (λ w m was. ap (λ (c : Call). named_next w m c reply was) call)
+    (λ w m. ap (λ (c : Call). posted_next w line.thread m c reply) call) makes same
+
+pub memalign_leaves : (line : Line) (reply : Reply) (name align size : ℕ) (names now : List (Option Block)) (trays left : List Tray) → line.call ≡ Align name align size →
+    MakesName name (aligned_wanted align size) names now → left ≡ trays → LeavesBlocks line reply names now trays left
+memalign_leaves line reply name align size names now trays left call makes same =
+    made_leaves line reply name (aligned_wanted align size) names now trays left (λ n was. ap (held_after n was) call) (λ w n was. ap (λ (c : Call). named_next w n c reply was) call)
+    (λ w n. ap (λ (c : Call). posted_next w line.thread n c reply) call) makes same
+
 -- what a block is behind realloc
-resized_fit : (name size : ℕ) (reply : Reply) (was : Option Wanted) (before now : List (Option Block)) → ((why : Why) → reply ≡ Null why → block_at now name ≡ block_at before name) →
-    IfAnswered reply (FitsName (chunk_size_of size) name now) → ((b : Block) → block_at before name ≡ Some b → IsFit was b) →
+resized_fit : (name size : ℕ) (reply : Reply) (was : Option Wanted) (names now : List (Option Block)) → ((why : Why) → reply ≡ Null why → block_at now name ≡ block_at names name) →
+    IfAnswered reply (FitsName (chunk_size_of size) name now) → ((b : Block) → block_at names name ≡ Some b → IsFit was b) →
     (b : Block) → block_at now name ≡ Some b → IsFit (wanted_anew size reply was) b
-resized_fit name size (Null why) was before now stays made fit b is = fit b (sym (stays why refl) ∙ is)
-resized_fit name size (Got addr chunk from) was before now stays made fit b is = bytes_enough size b (made b is)
-resized_fit name size (Kept addr chunk from) was before now stays made fit b is = bytes_enough size b (made b is)
-resized_fit name size (Freed to) was before now stays made fit b is = bytes_enough size b (made b is)
-resized_fit name size NotYours was before now stays made fit b is = bytes_enough size b (made b is)
+resized_fit name size (Null why) was names now stays made fit b is = fit b (sym (stays why refl) ∙ is)
+resized_fit name size (Got addr chunk from) was names now stays made fit b is = bytes_enough size b (made b is)
+resized_fit name size (Kept addr chunk from) was names now stays made fit b is = bytes_enough size b (made b is)
+resized_fit name size (Freed to) was names now stays made fit b is = bytes_enough size b (made b is)
+resized_fit name size NotYours was names now stays made fit b is = bytes_enough size b (made b is)
+resized_fit name size Posted was names now stays made fit b is = bytes_enough size b (made b is)
+resized_fit name size (Taken addr chunk) was names now stays made fit b is = bytes_enough size b (made b is)
+resized_fit name size (Missed seen) was names now stays made fit b is = bytes_enough size b (made b is)
+resized_fit name size Ended was names now stays made fit b is = bytes_enough size b (made b is)
 
-pub realloc_leaves : (line : Line) (reply : Reply) (name size : ℕ) (names : List (Option Block)) (own : Own) → line.thread ≡ 0 → line.call ≡ Realloc name size →
-    ResizesName name size (with_places_to name names) (reply, own) → LeavesNames line reply names own.names
-realloc_leaves line reply name size names own thread call resizes = record {
-  thread = thread;
-  held = λ n was before not_held.
-      let h : (not (size == 0 && name == n) && was) ≡ false = ap (held_after n was) (sym call) ∙ not_held in
-      elim (and_false (size == 0 && name == n) was h) [
-        | inl both ↦
-            let parts : ((size == 0) ≡ true) × ((name == n) ≡ true) = both_true (size == 0) (name == n) both in
-            let none : size ≡ 0 = grind (arith, nat_tests) in
-            let e : n ≡ name = grind (arith, nat_tests) in
-            ap (block_at own.names) e ∙ resizes.gone none
-        | inr free ↦
-            elim (eqb_tells name n) [
-              | inl same ↦
-                  ap (block_at own.names) (sym same.1)
-                  ∙ resizes.none (block_at-with_places_to name name names ∙ ap (block_at names) same.1 ∙ before free)
-              | inr other ↦ resizes.others n (λ e. other.1 (sym e)) ∙ block_at-with_places_to name n names ∙ before free
-            ]
-      ];
-  fit = λ n was before b is.
-      subst (λ (c : Call). IsFit (wanted_next n c reply was) b) (sym call)
-      (elim (eqb_tells name n) [
-        | inl same ↦
-            subst (λ (v : Bool). IsFit (cond v (wanted_anew size reply was) was) b) (sym same.0)
-            (resized_fit name size reply was (with_places_to name names) own.names resizes.stays resizes.made
-            (λ c at. before c (ap (block_at names) (sym same.1) ∙ sym (block_at-with_places_to name name names) ∙ at))
-            b (ap (block_at own.names) same.1 ∙ is))
-        | inr other ↦
-            subst (λ (v : Bool). IsFit (cond v (wanted_anew size reply was) was) b) (sym other.0)
-            (before b (sym (resizes.others n (λ e. other.1 (sym e)) ∙ block_at-with_places_to name n names) ∙ is))
-      ]);
-}
+pub realloc_leaves : (line : Line) (reply : Reply) (name size : ℕ) (names now : List (Option Block)) (trays left : List Tray) → line.call ≡ Realloc name size →
+    ResizesName name size reply names now → left ≡ trays → LeavesBlocks line reply names now trays left
+realloc_leaves line reply name size names now trays left call resizes same =
+    blocks_left line reply names now trays left
+    (λ n was before not_held.
+    let h : (not (size == 0 && name == n) && was) ≡ false = ap (held_after n was) (sym call) ∙ not_held in
+    elim (and_false (size == 0 && name == n) was h) [
+      | inl both ↦
+          let parts : ((size == 0) ≡ true) × ((name == n) ≡ true) = both_true (size == 0) (name == n) both in
+          let none : size ≡ 0 = grind (arith, nat_tests) in
+          let e : n ≡ name = grind (arith, nat_tests) in
+          ap (block_at now) e ∙ resizes.gone none
+      | inr free ↦
+          elim (eqb_tells name n) [
+            | inl equal ↦ ap (block_at now) (sym equal.1) ∙ resizes.none (ap (block_at names) equal.1 ∙ before free)
+            | inr other ↦ resizes.others n (λ e. other.1 (sym e)) ∙ before free
+          ]
+    ])
+    (λ n none e. ap (λ ts. tray_at ts n) same ∙ e)
+    (λ w fits n b is.
+    let was : Option Wanted = w.named line.thread n in
+    subst (λ (c : Call). IsFit (named_next w n c reply was) b) (sym call)
+    (elim (eqb_tells name n) [
+      | inl equal ↦
+          subst (λ (v : Bool). IsFit (cond v (wanted_anew size reply was) was) b) (sym equal.0)
+          (resized_fit name size reply was names now resizes.stays resizes.made (λ c at. fits.named n c (ap (block_at names) (sym equal.1) ∙ at))
+          b (ap (block_at now) equal.1 ∙ is))
+      | inr other ↦
+          subst (λ (v : Bool). IsFit (cond v (wanted_anew size reply was) was) b) (sym other.0)
+          (fits.named n b (sym (resizes.others n (λ e. other.1 (sym e))) ∙ is))
+    ]))
+    (λ w fits n b is.
+    subst (λ (c : Call). IsFit (posted_next w line.thread n c reply) b) (sym call) (fits.posted n b (sym (ap (λ ts. tray_at ts n) same) ∙ is)))
 
-pub free_leaves : (line : Line) (reply : Reply) (name : ℕ) (names : List (Option Block)) (own : Own) → line.thread ≡ 0 → line.call ≡ Free name →
-    EmptiesName name (with_places_to name names) (reply, own) → LeavesNames line reply names own.names
-free_leaves line reply name names own thread call empties = record {
-  thread = thread;
-  held = λ n was before not_held.
-      let h : (not (name == n) && was) ≡ false = ap (held_after n was) (sym call) ∙ not_held in
-      elim (and_false (name == n) was h) [
-        | inl same ↦ let e : n ≡ name = grind (arith, nat_tests) in ap (block_at own.names) e ∙ empties.gone
-        | inr free ↦
-            elim (eqb_tells name n) [
-              | inl same ↦ ap (block_at own.names) (sym same.1) ∙ empties.gone
-              | inr other ↦ empties.others n (λ e. other.1 (sym e)) ∙ block_at-with_places_to name n names ∙ before free
-            ]
-      ];
-  fit = λ n was before b is.
-      subst (λ (c : Call). IsFit (wanted_next n c reply was) b) (sym call)
-      (elim (eqb_tells name n) [
-        | inl same ↦ let no : None ≡ Some b = sym (ap (block_at own.names) (sym same.1) ∙ empties.gone) ∙ is in absurd cc
-        | inr other ↦ before b (sym (empties.others n (λ e. other.1 (sym e)) ∙ block_at-with_places_to name n names) ∙ is)
-      ]);
-}
+-- a name that holds nothing then
+emptied_held : (name n : ℕ) (was : Bool) (names now : List (Option Block)) → EmptiesName name names now → (was ≡ false → block_at names n ≡ None) → (not (name == n) && was) ≡ false →
+    block_at now n ≡ None
+emptied_held name n was names now empties before h =
+    elim (and_false (name == n) was h) [
+      | inl same ↦ let e : n ≡ name = grind (arith, nat_tests) in ap (block_at now) e ∙ empties.gone
+      | inr free ↦
+          elim (eqb_tells name n) [
+            | inl equal ↦ ap (block_at now) (sym equal.1) ∙ empties.gone
+            | inr other ↦ empties.others n (λ e. other.1 (sym e)) ∙ before free
+          ]
+    ]
 
--- ---- line by line
+-- a block that has a name then had it before
+emptied_named : (name n : ℕ) (names now : List (Option Block)) (b : Block) → EmptiesName name names now → block_at now n ≡ Some b → block_at names n ≡ Some b
+emptied_named name n names now b empties is =
+    elim (eqb_tells name n) [
+      | inl equal ↦ let no : None ≡ Some b = sym (ap (block_at now) (sym equal.1) ∙ empties.gone) ∙ is in absurd cc
+      | inr other ↦ sym (empties.others n (λ e. other.1 (sym e))) ∙ is
+    ]
 
-pub names_after : (before : List Line) (line : Line) (reply : Reply) (old now : List (Option Block)) → HoldsWithin before old → LeavesNames line reply old now →
-    HoldsWithin (before ++ line ∷ []) now
-names_after before line reply old now held leaves = λ name not_held.
-    let e : cond (eqb line.thread 0) (held_after name (is_held 0 name before) line.call) (is_held 0 name before) ≡ held_after name (is_held 0 name before) line.call =
-    ap (λ t. cond (eqb t 0) (held_after name (is_held 0 name before) line.call) (is_held 0 name before)) leaves.thread in
-    leaves.held name (is_held 0 name before) (held name) (sym e ∙ (sym (is_held_push 0 name before line) ∙ not_held))
+pub free_leaves : (line : Line) (reply : Reply) (name : ℕ) (names now : List (Option Block)) (trays left : List Tray) → line.call ≡ Free name →
+    EmptiesName name names now → left ≡ trays → LeavesBlocks line reply names now trays left
+free_leaves line reply name names now trays left call empties same =
+    blocks_left line reply names now trays left
+    (λ n was before not_held. emptied_held name n was names now empties before (ap (held_after n was) (sym call) ∙ not_held))
+    (λ n none e. ap (λ ts. tray_at ts n) same ∙ e)
+    (λ w fits n b is.
+    subst (λ (c : Call). IsFit (named_next w n c reply (w.named line.thread n)) b) (sym call) (fits.named n b (emptied_named name n names now b empties is)))
+    (λ w fits n b is.
+    subst (λ (c : Call). IsFit (posted_next w line.thread n c reply) b) (sym call) (fits.posted n b (sym (ap (λ ts. tray_at ts n) same) ∙ is)))
 
-nothing_held : (name : ℕ) (names : List (Option Block)) → names ≡ [] → block_at names name ≡ None
-nothing_held name names e = ap (λ (os : List (Option Block)). block_at os name) e
+pub exit_leaves : (line : Line) (reply : Reply) (names now : List (Option Block)) (trays left : List Tray) → line.call ≡ Exit → now ≡ names → left ≡ trays →
+    LeavesBlocks line reply names now trays left
+exit_leaves line reply names now trays left call stay same =
+    blocks_left line reply names now trays left
+    (λ n was before not_held. ap (λ names. block_at names n) stay ∙ before (ap (held_after n was) (sym call) ∙ not_held))
+    (λ n none e. ap (λ ts. tray_at ts n) same ∙ e)
+    (λ w fits n b is.
+    subst (λ (c : Call). IsFit (named_next w n c reply (w.named line.thread n)) b) (sym call) (fits.named n b (sym (ap (λ names. block_at names n) stay) ∙ is)))
+    (λ w fits n b is.
+    subst (λ (c : Call). IsFit (posted_next w line.thread n c reply) b) (sym call) (fits.posted n b (sym (ap (λ ts. tray_at ts n) same) ∙ is)))
 
-wanted_under_push : (name : ℕ) (replies : List (Line × Reply)) (x : Line × Reply) →
-    wanted_under (replies ++ x ∷ []) name
-    ≡ cond (eqb x.0.thread 0) (wanted_next name x.0.call x.1 (wanted_under replies name)) (wanted_under replies name)
-unfolding wanted_under
-wanted_under_push name replies x =
-    fold-append (λ (was : Option Wanted) (r : Line × Reply). cond (eqb r.0.thread 0) (wanted_next name r.0.call r.1 was) was) None replies (x ∷ [])
+-- ---- trays
 
-pub fits_after : (replies : List (Line × Reply)) (line : Line) (reply : Reply) (old now : List (Option Block)) → FitsWithin replies old → LeavesNames line reply old now →
-    FitsWithin (replies ++ (line, reply) ∷ []) now
-fits_after replies line reply old now fit leaves = λ name b is.
-    let was : Option Wanted = wanted_under replies name in
-    let next : Option Wanted = wanted_next name line.call reply was in
-    let e : cond (eqb line.thread 0) next was ≡ next = ap (λ t. cond (eqb t 0) next was) leaves.thread in
-    subst (λ o. IsFit o b) (sym (wanted_under_push name replies (line, reply) ∙ e)) (leaves.fit name was (fit name) b is)
+-- the block of the tray to which was posted
+posted_fit : (reply : Reply) (named was : Option Wanted) (b : Block) → reply ≡ Posted → IsFit named b → IsFit (wanted_posted reply named was) b
+posted_fit reply named was b is fit = subst (λ (r : Reply). IsFit (wanted_posted r named was) b) (sym is) fit
 
-pub nothing_fits : (names : List (Option Block)) → names ≡ [] → FitsWithin [] names
-nothing_fits names e = λ name b is. let no : None ≡ Some b = sym (nothing_held name names e) ∙ is in absurd cc
+pub post_leaves : (line : Line) (reply : Reply) (name tray : ℕ) (names now : List (Option Block)) (trays left : List Tray) → line.call ≡ Post name tray →
+    PostsName name tray reply names now trays left → LeavesBlocks line reply names now trays left
+post_leaves line reply name tray names now trays left call posts =
+    blocks_left line reply names now trays left
+    (λ n was before not_held. emptied_held name n was names now posts.empties before (ap (held_after n was) (sym call) ∙ not_held))
+    (λ n none e.
+    let h : (tray == n) ≡ false = ap (is_post n) (sym call) ∙ none in
+    let other : n ≡ tray → ⊥ = grind (arith, nat_tests) in
+    posts.others n other ∙ e)
+    (λ w fits n b is.
+    subst (λ (c : Call). IsFit (named_next w n c reply (w.named line.thread n)) b) (sym call) (fits.named n b (emptied_named name n names now b posts.empties is)))
+    (λ w fits n b is.
+    let was : Option Wanted = w.posted n in
+    let named : Option Wanted = w.named line.thread name in
+    subst (λ (c : Call). IsFit (posted_next w line.thread n c reply) b) (sym call)
+    (elim (eqb_tells tray n) [
+      | inl equal ↦
+          let p = posts.posted b (ap (tray_at left) equal.1 ∙ is) in
+          subst (λ (v : Bool). IsFit (cond v (wanted_posted reply named was) was) b) (sym equal.0) (posted_fit reply named was b p.0 (fits.named name b p.1))
+      | inr other ↦
+          subst (λ (v : Bool). IsFit (cond v (wanted_posted reply named was) was) b) (sym other.0)
+          (fits.posted n b (sym (posts.others n (λ e. other.1 (sym e))) ∙ is))
+    ]))
 
-not_faulty : (held : Bool) (why : BadWhy) → fault_if held why ≡ Ok tt → held ≡ false
-not_faulty true why h = absurd cc
-not_faulty false why h = refl
+-- the block that came from the tray
+taken_fit : (reply : Reply) (posted was : Option Wanted) (addr size : ℕ) (b : Block) → reply ≡ Taken addr size → IsFit posted b → IsFit (wanted_taken reply posted was) b
+taken_fit reply posted was addr size b is fit = subst (λ (r : Reply). IsFit (wanted_taken r posted was) b) (sym is) fit
 
-free_of_making : (before : List Line) (call : Call) (names : List (Option Block)) → fitting before 0 call ≡ Ok tt → HoldsWithin before names → IsFree call names
-unfolding fitting
-free_of_making before (Malloc name size) names fit held = held name (not_faulty (is_held 0 name before) Held fit)
-free_of_making before (Calloc name n size) names fit held = held name (not_faulty (is_held 0 name before) Held fit)
-free_of_making before (Align name align size) names fit held = held name (not_faulty (is_held 0 name before) Held fit)
-free_of_making before call names fit held = tt
-
--- a line that fits those before it may be run
-pub may_run : (before : List Line) (line : Line) (names : List (Option Block)) → Fits before line → HoldsWithin before names → MayRun line names
-may_run before line names fit held = record {
-  call = fit.call;
-  free = λ thread. free_of_making before line.call names (subst (λ t. fitting before t line.call ≡ Ok tt) thread fit.suits) held;
-}
-
--- the line at a place fits those before it
-fits_from : (before lines : List Line) (i : ℕ) (d : Line) → AllFit before lines → i < length lines → Fits (before ++ take i lines) (get_or lines i d)
-unfolding AllFit
-fits_from before [] i d fit lt = absurd (omega arith)
-fits_from before (line ∷ lines) zero d fit lt = subst (λ b. Fits b line) (sym (append-nil before)) fit.0
-fits_from before (line ∷ lines) (suc i) d fit lt =
-    subst (λ b. Fits b (get_or lines i d)) (append_assoc before (line ∷ []) (take i lines)) (fits_from (before ++ line ∷ []) lines i d fit.1 (omega arith))
-
-pub fits_at : (lines : List Line) (i : ℕ) (d : Line) → Allows lines → i < length lines → Fits (take i lines) (get_or lines i d)
-fits_at lines i d fit lt = fits_from [] lines i d fit lt
-
--- before the first line nothing has a name
-pub nothing_named : (names : List (Option Block)) → names ≡ [] → HoldsWithin [] names
-nothing_named names e = λ name not_held. nothing_held name names e
-
--- one line more
-pub names_next : (lines : List Line) (i : ℕ) (d : Line) (reply : Reply) (old now : List (Option Block)) → i < length lines → HoldsWithin (take i lines) old →
-    LeavesNames (get_or lines i d) reply old now → HoldsWithin (take (i + 1) lines) now
-names_next lines i d reply old now lt held leaves =
-    subst (λ b. HoldsWithin b now) (sym (take_more lines i d lt)) (names_after (take i lines) (get_or lines i d) reply old now held leaves)
+pub take_leaves : (line : Line) (reply : Reply) (name tray : ℕ) (names now : List (Option Block)) (trays left : List Tray) → line.call ≡ Take name tray →
+    TakesName name tray reply names now trays left → LeavesBlocks line reply names now trays left
+take_leaves line reply name tray names now trays left call takes =
+    blocks_left line reply names now trays left
+    (λ n was before not_held.
+    let parts : ((name == n) ≡ false) × (was ≡ false) = or_false (name == n) was (ap (held_after n was) (sym call) ∙ not_held) in
+    let other : n ≡ name → ⊥ = grind (arith, nat_tests) in
+    takes.others n other ∙ before parts.1)
+    (λ n none e. takes.empty n e)
+    (λ w fits n b is.
+    let was : Option Wanted = w.named line.thread n in
+    subst (λ (c : Call). IsFit (named_next w n c reply was) b) (sym call)
+    (elim (eqb_tells name n) [
+      | inl equal ↦
+          let p = takes.taken b (ap (block_at now) equal.1 ∙ is) in
+          subst (λ (v : Bool). IsFit (cond v (wanted_taken reply (w.posted tray) was) was) b) (sym equal.0)
+          (taken_fit reply (w.posted tray) was p.1.0 p.1.1 b p.1.2 (fits.posted tray b p.0))
+      | inr other ↦
+          subst (λ (v : Bool). IsFit (cond v (wanted_taken reply (w.posted tray) was) was) b) (sym other.0)
+          (fits.named n b (sym (takes.others n (λ e. other.1 (sym e))) ∙ is))
+    ]))
+    (λ w fits n b is. subst (λ (c : Call). IsFit (posted_next w line.thread n c reply) b) (sym call) (fits.posted n b (takes.stays n b is)))

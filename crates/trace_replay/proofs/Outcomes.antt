@@ -1,10 +1,11 @@
 -- A run that writes nothing, and one that writes its text.
-use Rattle.std.proofs.Common.{ℕ, List, Option, Some, None, Result, Err, refl, inr}
+use Rattle.std.proofs.Common.{◌≡◌, ℕ, List, Option, Some, None, Result, Ok, Err, refl}
+use Rattle.std.specs.Prelude.{IsOk}
 use Rattle.byte_edge.specs.Streams.{Supply, Store}
 use Rattle.command_words.specs.declared.asked.Generated.{Generated}
 use Rattle.trace_replay.specs.declared.exit.Exit.{Exit}
-use Rattle.trace_replay.specs.declared.exit.Exit.TheVariants.{Done, Usage, WriteFault, NotBuilt}
-use Rattle.trace_replay.specs.Headline.{LeavesSource, LeavesSink, IsUnwritten, IsWordRefusal, Answers, AnswersJob, Refuses}
+use Rattle.trace_replay.specs.declared.exit.Exit.TheVariants.{Done, Usage, ReadFault, WriteFault, NoMemory, NotBuilt}
+use Rattle.trace_replay.specs.Headline.{LeavesSource, LeavesSink, IsUnwritten, IsWordRefusal, Answers, AnswersJob, Refuses, IsFaultless, IsDoneOrShort}
 
 pub untouched : {W : Type 0} (store : Store W) (sink : W) (exit : Exit) → IsUnwritten exit → LeavesSink store sink exit sink
 untouched store sink Done h = absurd h
@@ -34,5 +35,20 @@ refused_words store sink _ h = absurd h
 
 pub refused_job : (A : Type 0) (exit : Exit) → IsWordRefusal exit → AnswersJob {A = A} (Err exit) exit
 refused_job A Usage h = refl
-refused_job A (NotBuilt line) h = inr refl
+refused_job A (NotBuilt line) h = refl
 refused_job A _ h = absurd h
+
+-- ---- a job that is given, and no fault counted
+
+not_given : {A : Type 0} (job : Result A Exit) (exit : Exit) → IsOk job → job ≡ Err exit → ⊥
+not_given (Ok j) exit ok is = absurd cc
+not_given (Err e) exit ok is = absurd cc
+
+pub done_or_short : {S W A : Type 0} (supply : Supply S) (store : Store W) (made : Option Generated) (job : Result A Exit) (source read : S) (sink written : W) (exit : Exit) → IsOk job → AnswersJob job exit →
+    LeavesSource supply made source exit read → LeavesSink store sink exit written → IsFaultless supply store source sink read written → IsDoneOrShort exit
+done_or_short supply store made job source read sink written Done ok answers left stored faultless = tt
+done_or_short supply store made job source read sink written NoMemory ok answers left stored faultless = tt
+done_or_short supply store made job source read sink written WriteFault ok answers left stored faultless = absurd (faultless.sink_kept stored.rose)
+done_or_short supply store None job source read sink written ReadFault ok answers left stored faultless = absurd (faultless.source_kept left.rose)
+done_or_short supply store (Some made) job source read sink written ReadFault ok answers left stored faultless = absurd left
+done_or_short supply store made job source read sink written _ ok answers left stored faultless = absurd (not_given job _ ok answers)

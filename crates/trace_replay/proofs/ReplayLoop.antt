@@ -1,22 +1,20 @@
 -- A run over lines, one after another.
-use Rattle.std.proofs.Common.{◌≡◌, ℕ, Bool, List, [], ◌∷◌, ◌++◌, Result, Ok, Err, refl, sym, ap, ◌∙◌, append_assoc, append-nil, ◌+◌, ◌<◌, ◌≤◌, inl, inr, length, get_or, take, drop, add-one, subst, arith}
+use Rattle.std.proofs.Common.{◌≡◌, ℕ, Bool, List, [], ◌∷◌, ◌++◌, Some, Result, Ok, Err, refl, sym, ap, ◌∙◌, append_assoc, append-nil, ◌+◌, ◌<◌, ◌≤◌, inl, inr, length, get_or, take, drop, add-one, subst, arith}
 use Rattle.std.proofs.Math.Seq.{drop-cons}
 use Rattle.std.proofs.lemmas.Bool.{cases_lt}
-use Rattle.std.proofs.lemmas.List.{take_more, take_all, take-append-drop}
+use Rattle.std.proofs.lemmas.List.{take_more, take_all}
 use Rattle.chunk_tags.specs.declared.tunables.Tunables.{Tunables}
 use Rattle.address_space.specs.Ports.{Port}
 use Rattle.malloc_calls.specs.declared.reply.Reply.{Reply}
 use Rattle.trace_text.specs.declared.trace.Line.{Line}
-use Rattle.trace_replay.specs.declared.sheet.Sheet.{Sheet}
 use Rattle.trace_replay.specs.declared.exit.Exit.{Exit}
-use Rattle.trace_replay.specs.declared.exit.Exit.TheVariants.{NoMemory}
 use Rattle.trace_replay.specs.World.{World, step}
-use Rattle.trace_replay.specs.SerialText.{Run, in_front, answer_of, line_and_rest, run_of}
+use Rattle.trace_replay.specs.declared.sheet.Sheet.{Sheet}
 use Rattle.trace_replay.specs.Sheets.{HasNoted, Awaits, CanNote, Notes, NotesRun}
-use Rattle.trace_replay.specs.Replays.{RefusesAs}
-use Rattle.trace_replay.specs.Naming.{LeavesNames}
-use Rattle.trace_replay.specs.Tiling.{IsTiled, FitsWithin, TilesAfter}
-use Rattle.trace_replay.proofs.HeldNames.{nothing_fits, fits_after}
+use Rattle.trace_replay.specs.Runs.{Run, in_front, answer_of, line_and_rest, run_of}
+use Rattle.trace_replay.specs.Naming.{LeavesLine}
+use Rattle.trace_replay.specs.Tiling.{Wishes, IsTiled, FitsWithin, TilesAfter, no_wishes, wishes_of}
+use Rattle.trace_replay.proofs.LinesAfter.{no_replies, wishes_push, fits_after}
 use Rattle.trace_replay.proofs.SheetLaws.{can_note}
 
 -- replies in front of what the rest of a run gives
@@ -30,7 +28,7 @@ pub record SoFar {K : Type 0} (port : Port K) (t : Tunables) (front : List Line)
   pub replies : List (Line × Reply)
   pub noted : (summary : Bool) → HasNoted summary before [] → HasNoted summary sheet replies
   pub all : (rest : List Line) → in_fronts replies (run_of port t rest now) ≡ run_of port t (front ++ rest) first
-  pub fit : FitsWithin replies now.own.names
+  pub fit : FitsWithin (wishes_of replies) now
 
 in_fronts-nil : {K : Type 0} (r : Result (Run K) Exit) → in_fronts [] r ≡ r
 in_fronts-nil (Ok run) = refl
@@ -41,23 +39,24 @@ in_fronts-push : {K : Type 0} (replies : List (Line × Reply)) (x : Line × Repl
 in_fronts-push replies x (Ok run) = ap (λ rs. Ok (record run { replies = rs })) (append_assoc replies (x ∷ []) run.replies)
 in_fronts-push replies x (Err exit) = refl
 
-pub nothing_yet : {K : Type 0} (port : Port K) (t : Tunables) (first : World K) (sheet : Sheet) → first.own.names ≡ [] → SoFar port t [] first first sheet sheet
-nothing_yet port t first sheet unnamed = record {
+pub nothing_yet : {K : Type 0} (port : Port K) (t : Tunables) (first : World K) (sheet : Sheet) → FitsWithin no_wishes first → SoFar port t [] first first sheet sheet
+nothing_yet port t first sheet fit = record {
   replies = [];
   noted = λ summary blank. blank;
   all = λ rest. in_fronts-nil (run_of port t rest first);
-  fit = nothing_fits first.own.names unnamed;
+  fit = subst (λ (w : Wishes). FitsWithin w first) (sym no_replies) fit;
 }
 
 -- what a line and the rest give
-run_of-cons : {K : Type 0} (port : Port K) (t : Tunables) (line : Line) (rest : List Line) (w : World K) → run_of port t (line ∷ rest) w ≡ line_and_rest line (answer_of line (step port t line w)) (run_of port t rest)
+run_of-cons : {K : Type 0} (port : Port K) (t : Tunables) (line : Line) (rest : List Line) (w : World K) → run_of port t (line ∷ rest) w ≡ line_and_rest line (answer_of (step port t line w)) (run_of port t rest)
 unfolding run_of
 run_of-cons port t line rest w = refl
 
-one_more : {K : Type 0} (port : Port K) (t : Tunables) (front : List Line) (line : Line) (reply : Reply) (first now next : World K) (before sheet after : Sheet) (rest : List Line) (answer : Reply × World K) → SoFar port t front first now before sheet → answer_of line (step port t line now) ≡ Ok answer → answer ≡ (reply, next) → Notes sheet line reply rest after → LeavesNames line reply now.own.names next.own.names → SoFar port t (front ++ line ∷ []) first next before after
-one_more {K} port t front line reply first now next before sheet after rest answer so_far is answered notes leaves =
+one_more : {K : Type 0} (port : Port K) (t : Tunables) (front : List Line) (line : Line) (reply : Reply) (first now next : World K) (before sheet after : Sheet) (rest : List Line) → SoFar port t front first now before sheet →
+    step port t line now ≡ Some (reply, next) → Notes sheet line reply rest after → LeavesLine line reply now next → SoFar port t (front ++ line ∷ []) first next before after
+one_more {K} port t front line reply first now next before sheet after rest so_far is notes leaves =
     let x : Line × Reply = (line, reply) in
-    let here : answer_of line (step port t line now) ≡ Ok (reply, next) = is ∙ ap (λ (a : Reply × World K). Ok a) answered in
+    let here : answer_of (step port t line now) ≡ Ok (reply, next) = ap answer_of is in
     record {
       replies = so_far.replies ++ x ∷ [];
       noted = λ summary blank. notes.noted summary so_far.replies (so_far.noted summary blank);
@@ -67,14 +66,8 @@ one_more {K} port t front line reply first now next before sheet after rest answ
           ∙ ap (in_fronts so_far.replies) (sym (run_of-cons port t line rest now))
           ∙ so_far.all (line ∷ rest)
           ∙ ap (λ (lines : List Line). run_of port t lines first) (sym (append_assoc front (line ∷ []) rest));
-      fit = fits_after so_far.replies line reply now.own.names next.own.names so_far.fit leaves;
+      fit = subst (λ (w : Wishes). FitsWithin w next) (sym (wishes_push so_far.replies x)) (fits_after (wishes_of so_far.replies) line reply now next so_far.fit leaves);
     }
-
-refused : {K : Type 0} (port : Port K) (t : Tunables) (front : List Line) (line : Line) (rest : List Line) (first now : World K) (before sheet : Sheet) (exit : Exit) → SoFar port t front first now before sheet → answer_of line (step port t line now) ≡ Err exit → run_of port t (front ++ line ∷ rest) first ≡ Err exit
-refused port t front line rest first now before sheet exit so_far is =
-    sym (so_far.all (line ∷ rest))
-    ∙ ap (in_fronts so_far.replies) (run_of-cons port t line rest now
-    ∙ ap (λ (r : Result (Reply × World _) Exit). line_and_rest line r (run_of port t rest)) is)
 
 drop_at : (lines : List Line) (i : ℕ) (d : Line) → i < length lines → drop i lines ≡ get_or lines i d ∷ drop (i + 1) lines
 drop_at lines i d lt = rw add-one (drop-cons lines i d lt)
@@ -88,39 +81,26 @@ pub can_note_next : (sheet : Sheet) (lines : List Line) (i : ℕ) → i < length
 can_note_next sheet [] i lt awaits = let no : ⊥ = omega arith in absurd no
 can_note_next sheet (d ∷ lines) i lt awaits = can_note sheet _ _ (awaits_next sheet (d ∷ lines) i d lt awaits)
 
--- the lines in front, one line, and those behind it
-parts_at : (lines : List Line) (i : ℕ) (d : Line) → i < length lines → take i lines ++ get_or lines i d ∷ drop (i + 1) lines ≡ lines
-parts_at lines i d lt = ap (λ (rest : List Line). take i lines ++ rest) (sym (drop_at lines i d lt)) ∙ take-append-drop i lines
-
 -- the loop goes on behind a line that was answered, under tunables that stayed
-pub goes_on : {K : Type 0} (port : Port K) (t now_t : Tunables) (lines : List Line) (i : ℕ) (d : Line) (reply : Reply) (first now next : World K) (before sheet after : Sheet) (rest : List Line) (answer : Reply × World K) → now_t ≡ t → i < length lines → SoFar port t (take i lines) first now before sheet → answer_of (get_or lines i d) (step port now_t (get_or lines i d) now) ≡ Ok answer → answer ≡ (reply, next) → Notes sheet (get_or lines i d) reply rest after → LeavesNames (get_or lines i d) reply now.own.names next.own.names → SoFar port t (take (i + 1) lines) first next before after
-goes_on port t now_t lines i d reply first now next before sheet after rest answer same lt so_far is answered notes leaves =
+pub goes_on : {K : Type 0} (port : Port K) (t now_t : Tunables) (lines : List Line) (i : ℕ) (d : Line) (reply : Reply) (first now next : World K) (before sheet after : Sheet) (rest : List Line) → now_t ≡ t → i < length lines → SoFar port t (take i lines) first now before sheet →
+    step port now_t (get_or lines i d) now ≡ Some (reply, next) → Notes sheet (get_or lines i d) reply rest after → LeavesLine (get_or lines i d) reply now next → SoFar port t (take (i + 1) lines) first next before after
+goes_on {K} port t now_t lines i d reply first now next before sheet after rest same lt so_far is notes leaves =
     subst (λ (front : List Line). SoFar port t front first next before after) (sym (take_more lines i d lt))
-    (one_more port t (take i lines) (get_or lines i d) reply first now next before sheet after rest answer so_far
-    (subst (λ u. answer_of (get_or lines i d) (step port u (get_or lines i d) now) ≡ Ok answer) same is) answered notes leaves)
-
--- where a line is refused, the run is
-pub ends : {K : Type 0} (port : Port K) (t now_t : Tunables) (lines : List Line) (i : ℕ) (d : Line) (first now : World K) (before sheet : Sheet) (exit : Exit) → now_t ≡ t → i < length lines → SoFar port t (take i lines) first now before sheet → RefusesAs exit (answer_of (get_or lines i d) (step port now_t (get_or lines i d) now)) → RefusesAs exit (run_of port t lines first)
-ends port t now_t lines i d first now before sheet NoMemory same lt so_far is = tt
-ends port t now_t lines i d first now before sheet exit same lt so_far is =
-    ap (λ (ls : List Line). run_of port t ls first) (sym (parts_at lines i d lt))
-    ∙ refused port t (take i lines) (get_or lines i d) (drop (i + 1) lines) first now before sheet exit so_far
-    (subst (λ u. answer_of (get_or lines i d) (step port u (get_or lines i d) now) ≡ Err exit) same is)
+    (one_more port t (take i lines) (get_or lines i d) reply first now next before sheet after rest so_far
+    (subst (λ (u : Tunables). step port u (get_or lines i d) now ≡ Some (reply, next)) same is) notes leaves)
 
 -- what the run gives, where no line is left
 gives : {K : Type 0} (port : Port K) (t : Tunables) (lines : List Line) (first now : World K) (before sheet : Sheet) (so_far : SoFar port t lines first now before sheet) → run_of port t lines first ≡ Ok (record { replies = so_far.replies ++ []; world = now })
 unfolding run_of
 gives port t lines first now before sheet so_far = ap (λ (ls : List Line). run_of port t ls first) (sym (append-nil lines)) ∙ sym (so_far.all [])
 
-pub finished : {K : Type 0} (port : Port K) (t : Tunables) (lines : List Line) (first now : World K) (before sheet : Sheet) → SoFar port t lines first now before sheet → (run : Run K) × (run_of port t lines first ≡ Ok run) × NotesRun before sheet now run
-finished port t lines first now before sheet so_far = (
-  record { replies = so_far.replies ++ []; world = now },
-  gives port t lines first now before sheet so_far,
-  record {
-    noted = λ summary blank. subst (HasNoted summary sheet) (sym (append-nil so_far.replies)) (so_far.noted summary blank);
-    world = refl;
-  },
-)
+pub finished : {K : Type 0} (port : Port K) (t : Tunables) (lines : List Line) (first now : World K) (before sheet : Sheet) → SoFar port t lines first now before sheet → NotesRun before sheet (run_of port t lines first) now
+finished port t lines first now before sheet so_far = record {
+  run = record { replies = so_far.replies ++ []; world = now };
+  gives = gives port t lines first now before sheet so_far;
+  world = refl;
+  noted = λ summary blank. subst (HasNoted summary sheet) (sym (append-nil so_far.replies)) (so_far.noted summary blank);
+}
 
 -- ---- behind each line
 
@@ -133,15 +113,15 @@ tiles_here port t front first now before sheet so_far tiled = record {
   run = record { replies = so_far.replies ++ []; world = now };
   gives = gives port t front first now before sheet so_far;
   tiled = tiled;
-  fit = subst (λ (rs : List (Line × Reply)). FitsWithin rs now.own.names) (sym (append-nil so_far.replies)) so_far.fit;
+  fit = subst (λ (rs : List (Line × Reply)). FitsWithin (wishes_of rs) now) (sym (append-nil so_far.replies)) so_far.fit;
 }
 
-pub tiles_first : {K : Type 0} (port : Port K) (t : Tunables) (lines : List Line) (first : World K) (sheet : Sheet) → IsTiled first → first.own.names ≡ [] → TilesSoFar port t lines 0 first
+pub tiles_first : {K : Type 0} (port : Port K) (t : Tunables) (lines : List Line) (first : World K) (sheet : Sheet) → IsTiled first → FitsWithin no_wishes first → TilesSoFar port t lines 0 first
 unfolding TilesSoFar
-tiles_first port t lines first sheet tiled unnamed = λ count none.
+tiles_first port t lines first sheet tiled fit = λ count none.
     let is : 0 ≡ count = omega arith in
     subst (λ n. TilesAfter port t (take n lines) first) is
-    (tiles_here port t [] first first sheet sheet (nothing_yet port t first sheet unnamed) tiled)
+    (tiles_here port t [] first first sheet sheet (nothing_yet port t first sheet fit) tiled)
 
 pub tiles_next : {K : Type 0} (port : Port K) (t : Tunables) (lines : List Line) (i : ℕ) (first now : World K) (before sheet : Sheet) → TilesSoFar port t lines i first → SoFar port t (take (i + 1) lines) first now before sheet → IsTiled now → TilesSoFar port t lines (i + 1) first
 unfolding TilesSoFar

@@ -1,71 +1,91 @@
--- What a call leaves is answered where none of its holds was refused, as main's journal says.
-use Rattle.std.proofs.Common.{◌≡◌, ℕ, ◌+◌, ◌<◌, ◌≤◌, Bool, true, false, not, ◌||◌, cond, List, ◌∷◌, drop, length, get_or, add-one, Option, Some, None, Result, Ok, Err, sym, ap, ◌∙◌}
-use Rattle.std.specs.Prelude.{option_map, IfOk, OnOk}
-use Rattle.std.specs.List.{list_any}
-use Rattle.std.proofs.Math.Seq.{drop-cons}
-use Rattle.std.proofs.lemmas.List.{drop_all}
-use Rattle.arena_core.specs.Journal.{Recorded}
-use Rattle.malloc_calls.specs.declared.own.Own.{Own}
+-- A line's call, over the threads by number.
+use Rattle.std.proofs.Common.{◌≡◌, ℕ, ◌<◌, ◌≤◌, List, map, length, get_or, set, Some, refl, sym, ap, ◌∙◌, subst, arith}
+use Rattle.std.specs.Prelude.{slice_get, option_map}
+use Rattle.std.specs.List.{All}
+use Rattle.std.specs.Option.{option_and_then}
+use Rattle.std.proofs.lemmas.List.{map-set}
+use Rattle.std.proofs.lemmas.List.Elements.{All-get_or, All-set}
+use Rattle.std.proofs.lemmas.Option.{slice_get-get_or, slice_get-map, slice_get_within, get_or_from_slice_get}
+use Rattle.chunk_tags.specs.declared.tunables.Tunables.{Tunables}
+use Rattle.address_space.specs.Ports.{Port}
+use Rattle.arena_core.specs.declared.journal.Who.{Who}
 use Rattle.malloc_calls.specs.declared.reply.Reply.{Reply}
-use Rattle.malloc_calls.specs.Places.{KeptArena}
-use Rattle.malloc_calls.specs.SerialWays.{SerialState, SerialWorld}
-use Rattle.trace_replay.specs.Halts.{built_reply, Yields}
-use Rattle.trace_replay.specs.Processes.{main_in}
-use Rattle.trace_replay.specs.World.{World, Lack, Unbuilt, journal_of, is_refused, is_answered, reply_after}
+use Rattle.malloc_calls.specs.declared.thread.Thread.{Thread}
+use Rattle.malloc_calls.specs.Own.{own_of, space_of, number_of, who_of}
+use Rattle.malloc_calls.specs.Names.{IsTable}
+use Rattle.malloc_calls.specs.Own.{names_of}
+use Rattle.arena_holds.specs.Going.{Does}
+use Rattle.arena_holds.specs.Places.{standing}
+use Rattle.serial_places.specs.SerialWays.{SerialState, serial_setting, world_at}
+use Rattle.serial_places.proofs.Serving.{PlaysTo, plays_call}
+use Rattle.trace_text.specs.declared.trace.Line.{Line}
+use Rattle.trace_replay.specs.Naming.{LeavesLine, MayCall, MayRun}
+use Rattle.trace_replay.specs.Processes.{thread_world, world_with, ThreadTells, AreSettled, Calls}
+use Rattle.trace_replay.specs.World.{World, ThreadWorld, who_in, call_of, answer_left, played_line, step}
+use Rattle.trace_replay.proofs.Settling.{settled_next}
 
--- ---- the journal
+-- ---- the thread of a line
 
-journal_at : (st : SerialState) (o : Option KeptArena) (journal : List Recorded) → option_map (λ (main : KeptArena). main.journal) o ≡ Some journal →
-    journal ≡ (main_in (record st { main = o })).journal
-journal_at st None journal e = absurd cc
-journal_at st (Some main) journal e = cc
+pub thread_at : {K : Type 0} (threads : List (Thread K)) (k n : ℕ) (d th : Thread K) → k ≡ n → n ≤ 63 → length threads ≡ 64 → th ≡ get_or threads k d → slice_get threads n ≡ Some th
+thread_at threads k n d th is most count value =
+    let lt : n < length threads = omega (arith, most, count) in
+    slice_get-get_or threads n d lt ∙ ap Some (ap (λ i. get_or threads i d) (sym is) ∙ sym value)
 
--- the journal of main, where it isn't lent
-pub journal_there : (st : SerialState) (journal : List Recorded) → option_map (λ (main : KeptArena). main.journal) st.main ≡ Some journal → journal ≡ (main_in st).journal
-journal_there st journal e = journal_at st st.main journal e
+pub world_there : {K : Type 0} (threads : List (Thread K)) (n : ℕ) (th : Thread K) → slice_get threads n ≡ Some th → slice_get (map thread_world threads) n ≡ Some (thread_world th)
+world_there threads n th at = slice_get-map thread_world threads n ∙ ap (option_map thread_world) at
 
--- ---- entry by entry
+pub may_call : {K : Type 0} (line : Line) (threads : List (Thread K)) (st : SerialState) (th : Thread K) → MayRun line (world_with threads st) → slice_get threads line.thread ≡ Some th →
+    MayCall line (names_of th) st.trays
+may_call line threads st th may at = may.may (thread_world th) (world_there threads line.thread th at)
 
-abbrev was_refused : Recorded → Bool
-was_refused entry = is_refused entry.ended
+-- ---- over kernels that tell
 
-entry_at : (journal : List Recorded) (i : ℕ) (d : Recorded) → i < length journal → drop i journal ≡ get_or journal i d ∷ drop (i + 1) journal
-entry_at journal i d lt = rw add-one (drop-cons journal i d lt)
+tells_there : {K : Type 0} (port : Port K) (threads : List (Thread K)) (n : ℕ) (th : Thread K) → slice_get threads n ≡ Some th → All (ThreadTells port) threads → ThreadTells port th
+tells_there port threads n th at all =
+    subst (ThreadTells port) (get_or_from_slice_get threads n th th at) (All-get_or (ThreadTells port) threads n th (slice_get_within threads n th at) all)
 
--- an entry that wasn't refused says nothing
-pub answered_on : (journal : List Recorded) (i : ℕ) (d : Recorded) → i < length journal → is_refused (get_or journal i d).ended ≡ false →
-    is_answered i journal ≡ is_answered (i + 1) journal
-answered_on journal i d lt is =
-    ap (λ (es : List Recorded). not (list_any was_refused es)) (entry_at journal i d lt)
-    ∙ ap (λ (v : Bool). not (v || list_any was_refused (drop (i + 1) journal))) is
+-- the call is what it plays
+plays_line : {K : Type 0} (port : Port K) (t : Tunables) (line : Line) (th new : Thread K) (st next : SerialState) (reply : Reply) → number_of th ≡ line.thread → st.tunables ≡ t → ThreadTells port th →
+    Calls port t line th st reply new next →
+    PlaysTo (λ (v : SerialState). v) port t (who_in line) (call_of t line.thread line.call (own_of th)) (world_at st (space_of th)) (reply, own_of new) (standing next (space_of new))
+plays_line {K} port t line th new st next reply number tunables tells c =
+    let D : Who → Type 0 = λ who. Does (serial_setting (λ (v : SerialState). v) port) t who (call_of t line.thread line.call (own_of th)) (standing st (space_of th)) (reply, own_of new) (standing next (space_of new)) in
+    let who : who_of line.number th ≡ who_in line = ap (λ (n : ℕ). record { thread = n; line = line.number }) number in
+    let d : D (who_in line) = subst D who c.does in
+    plays_call (λ (v : SerialState). v) port (reply, own_of new) refl (record { tunables = tunables; tells = tells }) d.goes
 
--- one that was refused says all
-pub answered_not : (journal : List Recorded) (i : ℕ) (d : Recorded) → i < length journal → is_refused (get_or journal i d).ended ≡ true → is_answered i journal ≡ false
-answered_not journal i d lt is =
-    ap (λ (es : List Recorded). not (list_any was_refused es)) (entry_at journal i d lt)
-    ∙ ap (λ (v : Bool). not (v || list_any was_refused (drop (i + 1) journal))) is
+left_world : {K : Type 0} (threads : List (Thread K)) (k n : ℕ) (new : Thread K) → k ≡ n → set (map thread_world threads) n (thread_world new) ≡ map thread_world (set threads k new)
+left_world threads k n new is = ap (λ i. set (map thread_world threads) i (thread_world new)) (sym is) ∙ sym (map-set thread_world threads k new)
 
-pub answered_all : (journal : List Recorded) (i : ℕ) → length journal ≤ i → is_answered i journal ≡ true
-answered_all journal i all = ap (λ (es : List Recorded). not (list_any was_refused es)) (drop_all i journal all)
+pub step_told : {K : Type 0} (port : Port K) (t : Tunables) (line : Line) (threads : List (Thread K)) (st next : SerialState) (th new : Thread K) (reply : Reply) (k : ℕ) → k ≡ line.thread → slice_get threads line.thread ≡ Some th →
+    AreSettled t threads st → All (ThreadTells port) threads → Calls port t line th st reply new next → step port t line (world_with threads st) ≡ Some (reply, world_with (set threads k new) next)
+unfolding step
+step_told {K} port t line threads st next th new reply k is at s tells c =
+    let w : World K = world_with threads st in
+    let p = plays_line port t line th new st next reply (s.ready line.thread th at).numbered s.tunables (tells_there port threads line.thread th at tells) c in
+    ap (option_and_then (λ (x : ThreadWorld K). option_map (answer_left w line.thread) (played_line port t line w x))) (world_there threads line.thread th at)
+    ∙ ap (option_map (answer_left w line.thread)) p.played
+    ∙ ap (λ ts. Some (reply, record (world_with threads next) { threads = ts })) (left_world threads k line.thread new is)
 
--- ---- a line
+pub tells_next : {K : Type 0} (port : Port K) (t : Tunables) (line : Line) (threads : List (Thread K)) (st next : SerialState) (th new : Thread K) (reply : Reply) (k : ℕ) → slice_get threads line.thread ≡ Some th →
+    AreSettled t threads st → All (ThreadTells port) threads → Calls port t line th st reply new next → All (ThreadTells port) (set threads k new)
+tells_next port t line threads st next th new reply k at s tells c =
+    All-set (ThreadTells port) threads k new
+    (plays_line port t line th new st next reply (s.ready line.thread th at).numbered s.tunables (tells_there port threads line.thread th at tells) c).at.tells tells
 
-pub built_told : {K : Type 0} (before : World K) (own : Own) (serial : SerialWorld K) (reply : Reply) (answered : Bool) (rules : Result ((Reply × Own) × SerialWorld K) Lack) →
-    rules ≡ Ok ((reply, own), serial) → answered ≡ is_answered (length (journal_of before)) serial.main.journal →
-    Yields (built_reply answered reply) (record { own = own; serial = serial }) (reply_after before rules)
-built_told {K} before own serial reply true rules e is =
-    let world : World K = record { own = own; serial = serial } in
-    let answer : Bool → Result (Reply × World K) Lack = λ v. cond v (Ok (reply, world)) (Err Unbuilt) in
-    ap (reply_after before) e ∙ ap answer (sym is)
-built_told {K} before own serial reply false rules e is =
-    let world : World K = record { own = own; serial = serial } in
-    let answer : Bool → Result (Reply × World K) Lack = λ v. cond v (Ok (reply, world)) (Err Unbuilt) in
-    ap (reply_after before) e ∙ ap answer (sym is)
+-- ---- what it leaves
 
-pub built_if_ok : (P : Reply → Type 0) (answered : Bool) (reply : Reply) → P reply → IfOk (built_reply answered reply) P
-built_if_ok P true reply p = p
-built_if_ok P false reply p = tt
+pub line_left : {K : Type 0} (port : Port K) (t : Tunables) (line : Line) (threads : List (Thread K)) (st next : SerialState) (th new : Thread K) (reply : Reply) (k : ℕ) → k ≡ line.thread → slice_get threads line.thread ≡ Some th →
+    Calls port t line th st reply new next → LeavesLine line reply (world_with threads st) (world_with (set threads k new) next)
+line_left port t line threads st next th new reply k is at c = record {
+  old = thread_world th;
+  new = thread_world new;
+  thread = world_there threads line.thread th at;
+  threads = sym (left_world threads k line.thread new is);
+  blocks = c.blocks;
+}
 
-pub built_on_ok : (P : Type 0) (answered : Bool) (reply : Reply) → P → OnOk (built_reply answered reply) P
-built_on_ok P true reply p = p
-built_on_ok P false reply p = tt
+pub step_settled : {K : Type 0} (port : Port K) (t : Tunables) (line : Line) (threads : List (Thread K)) (st next : SerialState) (th new : Thread K) (reply : Reply) (k : ℕ) → k ≡ line.thread → slice_get threads line.thread ≡ Some th →
+    Calls port t line th st reply new next → IsTable (names_of new) → AreSettled t threads st → AreSettled t (set threads k new) next
+step_settled port t line threads st next th new reply k is at c held s =
+    subst (λ i. AreSettled t (set threads i new) next) (sym is) (settled_next t threads st next line.thread th new at c.keeps held s)

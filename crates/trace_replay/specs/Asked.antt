@@ -1,7 +1,8 @@
 -- What a run serves of what the words of the command line ask for (this project's own).
-use Rattle.std.specs.Prelude.{ℕ, Bool, true, false, List, Option, Some, None, Result, Ok, Err, String, if◌then◌else◌}
+use Rattle.std.specs.Prelude.{ℕ, ◌≤◌, Bool, true, false, List, Option, Some, None, IfSome, Result, Ok, Err, String, if◌then◌else◌}
 use Rattle.chunk_tags.specs.declared.tunables.Mode.{Mode}
 use Rattle.chunk_tags.specs.declared.tunables.Mode.TheVariants.{Serial, Threads}
+use Rattle.chunk_tags.specs.Tunables.{IsTuned}
 use Rattle.command_words.specs.declared.asked.Asked.{Asked}
 use Rattle.command_words.specs.Asked.{asked_by}
 use Rattle.command_words.specs.Parts.{texts_of}
@@ -27,3 +28,8 @@ served_by words = served_if (asked_by words)
 
 abbrev pub served_of : {A : Type 0} → List (String A) → Result Asked Exit
 served_of words = served_by (texts_of words)
+
+-- what is served has tunables in their ranges, and a trace that is made has at most a million lines
+pub record IsServable (asked : Asked) : Type 0 where
+  pub tuned : IsTuned asked.tunables
+  pub few : IfSome asked.generated (λ made. made.lines ≤ 1000000)

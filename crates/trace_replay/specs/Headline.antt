@@ -1,11 +1,10 @@
 -- What a run promises (this project's own).
-use Rattle.std.specs.Prelude.{◌≡◌, ℕ, ◌≤◌, List, IsTrue, Option, Some, None, Result, Ok, Err, IsOk, IsOkAnd, ◌⊎◌}
+use Rattle.std.specs.Prelude.{◌≡◌, ℕ, List, IsTrue, Option, Some, None, Result, Ok, Err, IsOk, IsOkAnd}
 use Rattle.std.specs.List.{All}
 use Rattle.address_space.specs.Ports.{Port, Rose}
 use Rattle.byte_edge.specs.Streams.{Supply, Store, EndsInFailedCall}
 use Rattle.byte_edge.specs.Input.{IsWhole, IsTooMuch, IsCutOff}
 use Rattle.byte_edge.specs.Output.{HasText, HasPrefix}
-use Rattle.trace_text.specs.declared.trace.Line.{Line}
 use Rattle.command_words.specs.declared.asked.Asked.{Asked}
 use Rattle.command_words.specs.declared.asked.Generated.{Generated}
 use Rattle.trace_replay.specs.declared.exit.Exit.{Exit}
@@ -91,20 +90,13 @@ Refuses rules NoMemory = Unit {0}
 Refuses rules exit = rules ≡ Err exit
 
 -- What a run answers where this is its job, whatever the ports are: what the words and the bytes alone refuse,
--- exactly where they do. A line that isn't built stands behind the header.
+-- exactly where they do.
 abbrev pub AnswersJob : {A : Type 0} → Result A Exit → Exit → Type 0
 AnswersJob job Done = IsOk job
 AnswersJob job WriteFault = IsOk job
 AnswersJob job ReadFault = Unit {0}
 AnswersJob job NoMemory = Unit {0}
-AnswersJob job (NotBuilt line) = (IsOk job × (2 ≤ line)) ⊎ (job ≡ Err (NotBuilt line))
 AnswersJob job exit = job ≡ Err exit
-
--- how the lines of a run may stop it: a call that isn't built, of a line behind the header, or want of memory
-abbrev pub IsHalt : Exit → Type 0
-IsHalt (NotBuilt line) = 2 ≤ line
-IsHalt NoMemory = Unit {0}
-IsHalt exit = ⊥
 
 -- how words are refused: they aren't taken, or ask for what isn't built
 abbrev pub IsWordRefusal : Exit → Type 0
@@ -112,22 +104,31 @@ IsWordRefusal Usage = Unit {0}
 IsWordRefusal (NotBuilt line) = line ≡ 0
 IsWordRefusal exit = ⊥
 
--- an answer that no refusal of words is: a line that isn't built stands behind the header
+-- an answer that no refusal of words is
 abbrev pub IsServed : Exit → Type 0
 IsServed Usage = ⊥
-IsServed (NotBuilt line) = 2 ≤ line
+IsServed (NotBuilt line) = ⊥
 IsServed exit = Unit {0}
 
 -- a refusal of the text, once the bytes are read: no end of its writing, no fault of the reading, none of the words
 abbrev pub IsTextRefusal : Exit → Type 0
 IsTextRefusal Done = ⊥
 IsTextRefusal Usage = ⊥
-IsTextRefusal (NotBuilt line) = 2 ≤ line
+IsTextRefusal (NotBuilt line) = ⊥
 IsTextRefusal WriteFault = ⊥
 IsTextRefusal ReadFault = ⊥
 IsTextRefusal TooLong = ⊥
 IsTextRefusal exit = Unit {0}
 
--- the number of a line behind the header
-abbrev pub IsNumbered : Line → Type 0
-IsNumbered line = 2 ≤ line.number
+-- ---- what is answered of a trace that may be run
+
+-- no fault of the source was counted, and none of the sink
+pub record IsFaultless {S W : Type 0} (supply : Supply S) (store : Store W) (source : S) (sink : W) (read : S) (written : W) : Type 0 where
+  pub source_kept : Rose (supply.faults source) (supply.faults read) → ⊥
+  pub sink_kept : Rose (store.faults sink) (store.faults written) → ⊥
+
+-- a run that is done, or for which the memory of the program itself ran out
+abbrev pub IsDoneOrShort : Exit → Type 0
+IsDoneOrShort Done = Unit {0}
+IsDoneOrShort NoMemory = Unit {0}
+IsDoneOrShort exit = ⊥

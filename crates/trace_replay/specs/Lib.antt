@@ -3,10 +3,10 @@ pub use Rattle.byte_edge.specs.Input
 pub use Rattle.byte_edge.specs.Output
 pub mod Status
 pub mod World
-pub mod Halts
 pub mod Asked
 pub mod Records
-pub mod Places
+pub mod Runs
+pub mod Views
 pub mod SerialText
 pub mod Sheets
 pub mod Tiling

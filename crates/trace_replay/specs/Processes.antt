@@ -1,99 +1,127 @@
 -- A process of the code, as the world that it stands for (this project's own). No public clause cites this file.
-use Rattle.std.specs.Prelude.{◌≡◌, ℕ, Bool, true, List, [], IsTrue, Option, Some, None, Result, Ok, Err}
-use Rattle.chunk_tags.specs.declared.block.Block.{Block}
-use Rattle.address_space.specs.declared.space.Space.{Space}
+use Rattle.std.specs.Prelude.{◌≡◌, ℕ, ◌+◌, ◌≤◌, true, List, [], ◌∷◌, map, length, IsTrue, Option, Some, Result, sum_by, slice_get}
+use Rattle.std.specs.List.{All}
+use Rattle.chunk_tags.specs.declared.tunables.Tunables.{Tunables}
 use Rattle.address_space.specs.Ports.{Port}
-use Rattle.address_space.specs.Spaces.{space_tells}
-use Rattle.arena_rules.specs.PlainArena.{empty_main}
-use Rattle.fast_bins.specs.PlainBins.{FastState, empty_state, state_of}
-use Rattle.mapped_chunks.specs.declared.plain.DialState.{DialState}
+use Rattle.address_space.specs.Spaces.{space_tells, map_length, new_space}
+use Rattle.arena_rules.specs.Rules.{windows_of}
 use Rattle.malloc_calls.specs.declared.own.Own.{Own}
 use Rattle.malloc_calls.specs.declared.reply.Reply.{Reply}
-use Rattle.malloc_calls.specs.Calls.{Call}
-use Rattle.malloc_calls.specs.Mallocs.{malloc_call, calloc_call, posix_memalign_call}
-use Rattle.malloc_calls.specs.Reallocs.{realloc_call}
-use Rattle.malloc_calls.specs.Frees.{free_call}
-use Rattle.malloc_calls.specs.Own.{own_of, names_of, space_of}
-use Rattle.malloc_calls.specs.Places.{KeptArena, with_journal, in_own, IsServed, standing}
-use Rattle.malloc_calls.specs.SerialWays.{SerialState, SerialWorld, Serves, first_words, serial_ways, played_call}
+use Rattle.malloc_calls.specs.declared.thread.Thread.{Thread}
+use Rattle.malloc_calls.specs.Names.{IsTable}
+use Rattle.malloc_calls.specs.Own.{new_thread, own_of, names_of, space_of, number_of, who_of, in_own, IsSpaceOf}
+use Rattle.arena_holds.specs.Calls.{Call}
+use Rattle.arena_holds.specs.Going.{Does}
+use Rattle.arena_holds.specs.Places.{Hands, both_of, as_mapped_byte, given_byte, IsServed, standing}
+use Rattle.serial_places.specs.SerialWays.{SerialState, Serves, Notes, IsWhole, seen_slots, state_ways, serial_setting}
+use Rattle.serial_places.specs.Trays.{in_trays}
 use Rattle.trace_text.specs.declared.trace.Line.{Line}
-use Rattle.trace_replay.specs.declared.halt.Halt.{Halt}
-use Rattle.trace_replay.specs.declared.halt.Halt.TheVariants.{NoMemory, NotBuilt}
-use Rattle.trace_replay.specs.declared.process.Process.{Process}
-use Rattle.trace_replay.specs.Tiling.{IsInWindow}
 use Rattle.trace_replay.specs.declared.exit.Exit.{Exit}
-use Rattle.trace_replay.specs.SerialText.{Run, answer_of, run_of}
-use Rattle.trace_replay.specs.World.{World, Lack, Unbuilt, with_place, who_in, played_line, step}
+use Rattle.trace_replay.specs.declared.process.Process.{Process}
+use Rattle.trace_replay.specs.Naming.{LeavesBlocks}
+use Rattle.trace_replay.specs.Runs.{Run, run_of}
+use Rattle.trace_replay.specs.World.{World, ThreadWorld, call_of, step}
 
--- what stands in the places between two calls; it is there then
-abbrev pub main_in : SerialState → KeptArena
-main_in st = elim st.main [ None ↦ with_journal empty_main [] | Some main ↦ main ]
+-- ---- its world
 
-abbrev pub bins_in : SerialState → FastState
-bins_in st = elim st.port [ None ↦ empty_state | Some port ↦ state_of port.bins ]
+abbrev pub thread_world : {K : Type 0} → Thread K → ThreadWorld K
+thread_world th = record { own = own_of th; space = space_of th }
 
-abbrev pub words_in : SerialState → DialState
-words_in st = elim st.port [ None ↦ first_words st.tunables | Some port ↦ port.dials.state ]
-
--- the places and an address space as a world
-abbrev pub serial_world : {K : Type 0} → SerialState → Space K → SerialWorld K
-serial_world st space = record { main = main_in st; bins = bins_in st; dials = words_in st; space = space }
+abbrev pub world_with : {K : Type 0} → List (Thread K) → SerialState → World K
+world_with threads st = record {
+  threads = map thread_world threads;
+  slots = seen_slots st.slots;
+  dials = st.dials.state;
+  book = st.book;
+  trays = st.trays;
+}
 
 abbrev pub world_of : {K : Type 0} {g : _} → Process K g → World K
-world_of p = record { own = own_of p.thread; serial = serial_world p.serial (space_of p.thread) }
+world_of p = world_with p.threads.items p.serial
 
--- whether the kernel of the process tells
-abbrev pub tells : {K : Type 0} {g : _} → Port K → Process K g → Bool
-tells port p = space_tells port (space_of p.thread)
+-- whether the kernel of a thread tells, and those of all threads
+abbrev pub ThreadTells : {K : Type 0} → Port K → Thread K → Type 0
+ThreadTells port th = IsTrue (space_tells port (space_of th))
 
 abbrev pub Tells : {K : Type 0} {g : _} → Port K → Process K g → Type 0
-Tells port p = IsTrue (tells port p)
+Tells port p = All (ThreadTells port) p.threads.items
 
--- the blocks of the thread by name
-abbrev pub names_in : {K : Type 0} {g : _} → Process K g → List (Option Block)
-names_in p = names_of p.thread
-
--- what the rules give from its world: a call under a name, the call of a line, the line, the answer to it, and a run
-abbrev pub malloc_in : {K : Type 0} {g : _} → ℕ → ℕ → Process K g → Call (Reply × Own)
-malloc_in name size p = malloc_call p.t 0 name size (with_place name (own_of p.thread))
-
-abbrev pub calloc_in : {K : Type 0} {g : _} → ℕ → ℕ → ℕ → Process K g → Call (Reply × Own)
-calloc_in name n size p = calloc_call p.t 0 name n size (with_place name (own_of p.thread))
-
-abbrev pub memalign_in : {K : Type 0} {g : _} → ℕ → ℕ → ℕ → Process K g → Call (Reply × Own)
-memalign_in name align size p = posix_memalign_call p.t 0 name align size (with_place name (own_of p.thread))
-
-abbrev pub realloc_in : {K : Type 0} {g : _} → ℕ → ℕ → Process K g → Call (Reply × Own)
-realloc_in name size p = realloc_call p.t 0 name size (with_place name (own_of p.thread))
-
-abbrev pub free_in : {K : Type 0} {g : _} → ℕ → Process K g → Call (Reply × Own)
-free_in name p = free_call p.t 0 name (with_place name (own_of p.thread))
-
-abbrev pub call_in : {K : Type 0} {g : _} → Port K → Line → Process K g → Result ((Reply × Own) × SerialWorld K) Lack
-call_in port line p = played_line port p.t line (world_of p)
-
-abbrev pub step_in : {K : Type 0} {g : _} → Port K → Line → Process K g → Result (Reply × World K) Lack
+-- what the rules give from its world: a line, and a run
+abbrev pub step_in : {K : Type 0} {g : _} → Port K → Line → Process K g → Option (Reply × World K)
 step_in port line p = step port p.t line (world_of p)
-
-abbrev pub answer_in : {K : Type 0} {g : _} → Port K → Line → Process K g → Result (Reply × World K) Exit
-answer_in port line p = answer_of line (step_in port line p)
 
 abbrev pub run_in : {K : Type 0} {g : _} → Port K → List Line → Process K g → Result (Run K) Exit
 run_in port lines p = run_of port p.t lines (world_of p)
 
--- Between two calls: the places serve the thread's blocks, no others are given out, and the mapped ones lie apart.
-pub record IsSettled {K : Type 0} {g : _} (p : Process K g) : Type 0 where
-  pub served : IsServed (serial_ways (λ (s : SerialState). s)) p.t (in_own (own_of p.thread)) (standing p.serial (space_of p.thread))
-  pub exact : Serves true p.serial (in_own (own_of p.thread))
-  pub window : IsInWindow (own_of p.thread) (space_of p.thread)
+-- threads that begin, the first with this number
+abbrev pub started_threads : {K : Type 0} → Tunables → ℕ → List K → List (Thread K)
+started_threads t number [] = []
+started_threads t number (kernel ∷ kernels) =
+    new_thread number (new_space kernel number (windows_of t)) ∷ started_threads t (number + 1) kernels
 
--- what a line's call comes to; want of memory is free
-abbrev pub Calls : {K : Type 0} → Result Reply Halt → World K → Result ((Reply × Own) × SerialWorld K) Lack → Type 0
-Calls (Ok reply) now rules = rules ≡ Ok ((reply, now.own), now.serial)
-Calls (Err NotBuilt) now rules = rules ≡ Err Unbuilt
-Calls (Err NoMemory) now rules = Unit {0}
+-- ---- between two calls
 
--- A call of a process: over a kernel that tells it is what the call plays.
-pub record Plays {K : Type 0} {g : _} (port : Port K) (line : Line) (call : Call (Reply × Own)) (old : Process K g) (reply : Reply) (new : Process K g) : Type 0 where
-  pub played : played_call port old.t (who_in line) call (world_of old).serial ≡ Some ((reply, own_of new.thread), (world_of new).serial)
-  pub tells : IsTrue (tells port new)
+-- the blocks of threads
+abbrev pub in_threads : {K : Type 0} → List (Thread K) → Hands
+in_threads threads weigh = sum_by (λ th. in_own (own_of th) weigh) threads
+
+-- the bytes of their windows for mappings that they were given; and how many were given a byte
+abbrev pub bytes_given : {K : Type 0} → List (Thread K) → ℕ
+bytes_given threads = sum_by (λ th. (space_of th).mapped) threads
+
+abbrev pub times_given_to : {K : Type 0} → ℕ → List (Thread K) → ℕ
+times_given_to n threads = sum_by (λ th. given_byte n (space_of th)) threads
+
+-- a thread with its number, in its own address space behind these windows, which holds what it may
+pub record IsReady {K : Type 0} (t : Tunables) (number : ℕ) (th : Thread K) : Type 0 where
+  pub numbered : number_of th ≡ number
+  pub space : IsSpaceOf number (space_of th)
+  pub windows : (space_of th).windows ≡ windows_of t
+  pub inside : (space_of th).mapped ≤ map_length
+  pub held : IsTable (names_of th)
+
+-- Between two calls: the threads have their numbers, the places serve exactly the blocks of all of them, each arena of the book
+-- is there, the mapped chunks are noted, and no byte of these is in two of them or in none of the windows.
+pub record AreSettled {K : Type 0} (t : Tunables) (threads : List (Thread K)) (st : SerialState) : Type 0 where
+  pub count : length threads ≡ 64
+  pub ready : (number : ℕ) (th : Thread K) → slice_get threads number ≡ Some th → IsReady t number th
+  pub exact : Serves true st (in_threads threads)
+  pub whole : IsWhole st
+  pub trays : length st.trays ≡ 65536
+  pub tunables : st.tunables ≡ t
+  pub noted : st.dials.state.mapped ≤ bytes_given threads
+  pub noted_bytes : st.dials.state.bytes ≤ bytes_given threads
+  pub apart : (n : ℕ) → in_trays st.trays (as_mapped_byte n) + in_threads threads (as_mapped_byte n) ≤ times_given_to n threads
+
+abbrev pub IsSettled : {K : Type 0} {g : _} → Process K g → Type 0
+IsSettled p = AreSettled p.t p.threads.items p.serial
+
+-- ---- a call of a thread
+
+-- what a call of a thread needs of where it stands
+abbrev pub IsServedBy : {K : Type 0} → Tunables → Thread K → SerialState → Type 0
+IsServedBy t th st = IsServed state_ways t (in_own (own_of th)) (standing st (space_of th))
+
+-- What it keeps, where all went well: what others have is given out still, and the thread's new blocks; mappings are noted; no
+-- byte of a mapped chunk came to the thread or to a tray but from one of these or from the thread's window; each arena of the
+-- book is there; and the thread is ready.
+pub record KeepsOn {K : Type 0} (th : Thread K) (st : SerialState) (new : Thread K) (next : SerialState) : Type 0 where
+  pub serves : (others : Hands) → Serves true st (both_of (in_own (own_of th)) others) → Serves true next (both_of (in_own (own_of new)) others)
+  pub notes : (others : ℕ) → Notes st (space_of th).mapped others → Notes next (space_of new).mapped others
+  pub bytes : (n : ℕ) → in_trays next.trays (as_mapped_byte n) + in_own (own_of new) (as_mapped_byte n) + given_byte n (space_of th)
+      ≤ in_trays st.trays (as_mapped_byte n) + in_own (own_of th) (as_mapped_byte n) + given_byte n (space_of new)
+  pub whole : IsWhole st → IsWhole next
+  pub trays : length next.trays ≡ length st.trays
+  pub tunables : next.tunables ≡ st.tunables
+  pub ready : (t : Tunables) (number : ℕ) → IsTable (names_of new) → IsReady t number th → IsReady t number new
+
+-- it does these steps
+abbrev pub DoesAt : {K : Type 0} → Port K → Tunables → ℕ → Call (Reply × Own) → Thread K → SerialState → Reply → Thread K → SerialState → Type 0
+DoesAt port t line call th st reply new next =
+    Does (serial_setting (λ s. s) port) t (who_of line th) call (standing st (space_of th)) (reply, own_of new) (standing next (space_of new))
+
+-- A line's call went to its end.
+pub record Calls {K : Type 0} (port : Port K) (t : Tunables) (line : Line) (th : Thread K) (st : SerialState) (reply : Reply) (new : Thread K) (next : SerialState) : Type 0 where
+  pub does : DoesAt port t line.number (call_of t line.thread line.call (own_of th)) th st reply new next
+  pub keeps : KeepsOn th st new next
+  pub blocks : LeavesBlocks line reply (names_of th) (names_of new) st.trays next.trays

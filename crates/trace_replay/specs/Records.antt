@@ -2,7 +2,7 @@
 use Rattle.std.specs.Prelude.{ℕ, Bool, true, false, List, map, Option, Some, None, if◌then◌else◌}
 use Rattle.std.specs.List.{flat_map}
 use Rattle.malloc_calls.specs.declared.reply.Reply.{Reply}
-use Rattle.malloc_calls.specs.declared.reply.Reply.TheVariants.{Got, Kept, Null, Freed, NotYours}
+use Rattle.malloc_calls.specs.declared.reply.Reply.TheVariants.{Got, Kept, Null, Freed, NotYours, Posted, Taken, Missed, Ended}
 use Rattle.malloc_calls.specs.declared.reply.Origin.{Origin}
 use Rattle.malloc_calls.specs.declared.reply.Origin.TheVariants as origins
 use Rattle.malloc_calls.specs.declared.reply.To.{To}
@@ -62,6 +62,10 @@ outcome_of call (Kept addr size from) = outcomes.Kept addr size (hold_of from)
 outcome_of call (Null why) = outcomes.Null (null_of why)
 outcome_of call (Freed to) = outcomes.Freed (sink_of to) (is_realloc call)
 outcome_of call NotYours = outcomes.Skip
+outcome_of call Posted = outcomes.Posted
+outcome_of call (Taken addr size) = outcomes.Taken addr size
+outcome_of call (Missed seen) = outcomes.Missed seen
+outcome_of call Ended = outcomes.Ended
 
 -- the answers to lines
 abbrev pub outcomes_of : List (Line × Reply) → List Outcome

@@ -1,11 +1,8 @@
 -- The text that a serial run writes for the words, the bytes of its source and the ports; or how it refuses them
 -- (this project's own).
-use Rattle.std.specs.Prelude.{ℕ, ◌==◌, Bool, not, nat_lt, List, [], ◌∷◌, ◌++◌, length, codes, slice_get, Option, Some, None, Result, Ok, Err, if◌then◌else◌}
+use Rattle.std.specs.Prelude.{ℕ, Bool, nat_lt, List, ◌++◌, length, codes, Option, Some, None, Result, Ok, Err, if◌then◌else◌}
 use Rattle.chunk_tags.specs.declared.tunables.Tunables.{Tunables}
 use Rattle.address_space.specs.Ports.{Port}
-use Rattle.address_space.specs.Spaces.{new_space}
-use Rattle.arena_rules.specs.Rules.{windows_of}
-use Rattle.malloc_calls.specs.declared.reply.Reply.{Reply}
 use Rattle.stats_text.specs.Views.{Shown}
 use Rattle.stats_text.specs.Report.{places_of}
 use Rattle.stats_text.specs.Summary.{counts_of, summary_of}
@@ -16,54 +13,15 @@ use Rattle.trace_maker.specs.Generator.{lines_made}
 use Rattle.command_words.specs.declared.asked.Asked.{Asked}
 use Rattle.command_words.specs.declared.asked.Generated.{Generated}
 use Rattle.trace_replay.specs.declared.exit.Exit.{Exit}
-use Rattle.trace_replay.specs.declared.exit.Exit.TheVariants.{Done, BadTrace, TooLong, NotBuilt}
-use Rattle.trace_replay.specs.Places.{shown_of}
+use Rattle.trace_replay.specs.declared.exit.Exit.TheVariants.{BadTrace, TooLong}
+use Rattle.world_view.specs.Scenes.{shown_of}
 use Rattle.trace_replay.specs.Records.{outcomes_of, records_of}
 use Rattle.byte_edge.specs.Input.{max_input}
-use Rattle.trace_replay.specs.World.{World, Lack, Unbuilt, Unplayed, opening_world, step}
-
--- ---- the run over the lines
-
--- what a run gives: each line with its reply, in file order, and the world at its end
-pub record Run (K : Type 0) : Type 0 where
-  pub replies : List (Line × Reply)
-  pub world : World K
-
--- a reply in front of what the rest of a run gives
-abbrev pub in_front : {K : Type 0} → Line × Reply → Result (Run K) Exit → Result (Run K) Exit
-in_front first (Ok rest) = Ok (record rest { replies = first ∷ rest.replies })
-in_front first (Err exit) = Err exit
-
--- The exit of a line without a reply. Where its call has no world to go to that is Done, as a refusal, which no run
--- answers: so a run that refuses the line has found what isn't built.
-abbrev pub exit_of_lack : ℕ → Lack → Exit
-exit_of_lack line Unbuilt = NotBuilt line
-exit_of_lack line Unplayed = Done
-
--- the reply to a line; a call that isn't built refuses the run
-abbrev pub answer_of : {K : Type 0} → Line → Result (Reply × World K) Lack → Result (Reply × World K) Exit
-answer_of line (Ok answer) = Ok answer
-answer_of line (Err lack) = Err (exit_of_lack line.number lack)
-
--- a line, and the rest from the world that it leaves
-abbrev pub line_and_rest : {K : Type 0} → Line → Result (Reply × World K) Exit → (World K → Result (Run K) Exit) → Result (Run K) Exit
-line_and_rest line (Ok (reply, w)) rest = in_front (line, reply) (rest w)
-line_and_rest line (Err exit) rest = Err exit
-
--- a run from a world on
-unfoldable pub run_of : {K : Type 0} → Port K → Tunables → List Line → World K → Result (Run K) Exit
-run_of port t [] w = Ok (record { replies = []; world = w })
-run_of port t (line ∷ lines) w = line_and_rest line (answer_of line (step port t line w)) (run_of port t lines)
+use Rattle.trace_replay.specs.Runs.{Run, run_of}
+use Rattle.trace_replay.specs.Views.{threads_in, scene_of}
+use Rattle.trace_replay.specs.World.{opening_world}
 
 -- ---- the whole text
-
--- the world that a run begins with, over the port of thread 0
-abbrev pub first_world : {K : Type 0} → Tunables → K → World K
-first_world t kernel = opening_world t (new_space kernel 0 (windows_of t))
-
--- whether a trace has a line behind its header
-abbrev pub has_lines : List Line → Bool
-has_lines lines = not (length lines == 0)
 
 -- the sections behind the records: the places and the text of malloc_stats
 abbrev pub sections : Shown → List ℕ
@@ -73,26 +31,30 @@ sections s = places_of s ++ statistics_of s
 abbrev pub whole_report : List ℕ → Shown → List ℕ
 whole_report records s = codes "ptmreport 1 serial\n" ++ records ++ sections s
 
--- the report on what a run gave; the trace has a line, or none
-abbrev pub run_report : {K : Type 0} → Bool → Run K → List ℕ
-run_report lines run = whole_report (records_of run.replies) (shown_of lines run.world)
+-- what is shown of the world at the end of a run; these threads have lines
+abbrev pub shown_behind : {K : Type 0} → List ℕ → Run K → Shown
+shown_behind threads run = shown_of (scene_of threads run.world)
+
+-- the report on what a run gave
+abbrev pub run_report : {K : Type 0} → List ℕ → Run K → List ℕ
+run_report threads run = whole_report (records_of run.replies) (shown_behind threads run)
 
 -- the summary of what a run gave: counts of its answers, and the totals of the world at its end
-abbrev pub run_summary : {K : Type 0} → Bool → Run K → List ℕ
-run_summary lines run = summary_of (counts_of (outcomes_of run.replies)) (shown_of lines run.world)
+abbrev pub run_summary : {K : Type 0} → List ℕ → Run K → List ℕ
+run_summary threads run = summary_of (counts_of (outcomes_of run.replies)) (shown_behind threads run)
 
 -- the text on what a run gave: a summary where that is asked for, and else a report
-abbrev pub run_text : {K : Type 0} → Bool → Bool → Run K → List ℕ
-run_text summary lines run = if summary then run_summary lines run else run_report lines run
+abbrev pub run_text : {K : Type 0} → Bool → List ℕ → Run K → List ℕ
+run_text summary threads run = if summary then run_summary threads run else run_report threads run
 
 -- the text on a run that ended so
-abbrev pub text_on : {K : Type 0} → Bool → Bool → Result (Run K) Exit → Result (List ℕ) Exit
-text_on summary lines (Ok run) = Ok (run_text summary lines run)
-text_on summary lines (Err exit) = Err exit
+abbrev pub text_on : {K : Type 0} → Bool → List ℕ → Result (Run K) Exit → Result (List ℕ) Exit
+text_on summary threads (Ok run) = Ok (run_text summary threads run)
+text_on summary threads (Err exit) = Err exit
 
--- the text on a run of lines, a summary or a report, over the port of thread 0
-abbrev pub text_over : {K : Type 0} → Port K → Bool → Tunables → List Line → K → Result (List ℕ) Exit
-text_over port summary t lines kernel = text_on summary (has_lines lines) (run_of port t lines (first_world t kernel))
+-- the text on a run of lines, a summary or a report, over the port of each thread
+abbrev pub text_over : {K : Type 0} → Port K → Bool → Tunables → List Line → List K → Result (List ℕ) Exit
+text_over port summary t lines kernels = text_on summary (threads_in lines) (run_of port t lines (opening_world t kernels))
 
 -- ---- a run's job
 
@@ -133,13 +95,9 @@ abbrev pub job_of : Result Asked Exit → List ℕ → Result Job Exit
 job_of (Ok asked) bytes = job_for asked.generated asked bytes
 job_of (Err exit) bytes = Err exit
 
--- the text for a job, out of the ports of all threads; that there are 64 is a condition of the run
-abbrev pub over_first : {K : Type 0} → Port K → Job → Option K → Result (List ℕ) Exit
-over_first port job (Some kernel) = text_over port job.asked.summary job.asked.tunables job.lines kernel
-over_first port job None = Err (NotBuilt 0)
-
+-- the text for a job, over the ports
 abbrev pub text_of : {K : Type 0} → Port K → List K → Result Job Exit → Result (List ℕ) Exit
-text_of port kernels (Ok job) = over_first port job (slice_get kernels 0)
+text_of port kernels (Ok job) = text_over port job.asked.summary job.asked.tunables job.lines kernels
 text_of port kernels (Err exit) = Err exit
 
 -- what a run writes for these, over the ports, or how it refuses them

@@ -1,16 +1,18 @@
 -- What is written of a run, line by line: the records of a report, or the counts of a summary (this project's own). No
 -- public clause cites this file.
-use Rattle.std.specs.Prelude.{◌≡◌, ℕ, ◌+◌, ◌^◌, ◌<◌, Bool, true, false, List, [], ◌∷◌, ◌++◌, length, codes}
+use Rattle.std.specs.Prelude.{◌≡◌, ℕ, ◌+◌, ◌^◌, ◌<◌, Bool, true, false, List, [], ◌∷◌, ◌++◌, length, codes, Result, Ok}
 use Rattle.malloc_calls.specs.declared.reply.Reply.{Reply}
 use Rattle.stats_text.specs.declared.summary.Counts.{Counts}
 use Rattle.stats_text.specs.Summary.{HasRoom, counts_of, summary_of}
 use Rattle.stats_text.specs.Views.{Shown}
 use Rattle.trace_text.specs.declared.trace.Line.{Line}
 use Rattle.trace_text.specs.Spelling.{spelling, texts_of}
+use Rattle.trace_replay.specs.declared.exit.Exit.{Exit}
 use Rattle.trace_replay.specs.declared.sheet.Sheet.{Sheet}
 use Rattle.trace_replay.specs.declared.sheet.Sheet.TheVariants.{Report, Summary}
 use Rattle.trace_replay.specs.Records.{outcomes_of, records_of}
-use Rattle.trace_replay.specs.SerialText.{Run, sections}
+use Rattle.trace_replay.specs.Runs.{Run}
+use Rattle.trace_replay.specs.SerialText.{sections}
 use Rattle.trace_replay.specs.World.{World}
 
 -- the bytes that a sheet is made with: for a report they spell the lines, and a summary needs none
@@ -48,10 +50,12 @@ pub record Notes (before : Sheet) (line : Line) (reply : Reply) (rest : List Lin
   pub noted : (summary : Bool) (replies : List (Line × Reply)) → HasNoted summary before replies →
       HasNoted summary now (replies ++ (line, reply) ∷ [])
 
--- A sheet has the replies of a run, where it had none before, and the run ends in this world.
-pub record NotesRun {K : Type 0} (before now : Sheet) (w : World K) (run : Run K) : Type 0 where
-  pub noted : (summary : Bool) → HasNoted summary before [] → HasNoted summary now run.replies
+-- Lines give a run, which ends in this world, and a sheet has its replies, where it had none before.
+pub record NotesRun {K : Type 0} (before now : Sheet) (rules : Result (Run K) Exit) (w : World K) : Type 0 where
+  pub run : Run K
+  pub gives : rules ≡ Ok run
   pub world : run.world ≡ w
+  pub noted : (summary : Bool) → HasNoted summary before [] → HasNoted summary now run.replies
 
 -- the text of a sheet, with what is shown at the end
 abbrev pub text_with : Sheet → Shown → List ℕ

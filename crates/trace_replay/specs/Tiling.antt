@@ -1,90 +1,67 @@
--- What is true of the world behind each line of a run: main is sound and fills its ranges, each used chunk stands in one
--- place, the mapped chunks are those that are counted and lie apart, no tile of main and no mapped chunk that has a name is
--- left out of the report, and the blocks fit (this project's own).
-use Rattle.std.specs.Prelude.{◌≡◌, ℕ, ◌+◌, ◌*◌, ◌%◌, ◌≤◌, ◌==◌, nat_le, List, Contains, map, fold, take, slice_get, Option, Some, None, Result, Ok, sum_by, if◌then◌else◌}
-use Rattle.chunk_tags.specs.BinOrder.{times_in}
+-- What is true of the world behind each line of a run: each arena is sound and fills its ranges, each used chunk stands in one
+-- place, the mapped chunks are those that are counted and lie apart, nothing of all this is left out of the report, and the
+-- blocks fit (this project's own).
+use Rattle.std.specs.Prelude.{◌≡◌, ℕ, ◌*◌, ◌%◌, ◌≤◌, ◌==◌, nat_le, List, [], fold, take, slice_get, Option, Some, None, Result, Ok, sum_by, if◌then◌else◌}
 use Rattle.chunk_tags.specs.Pages.{user_address}
 use Rattle.chunk_tags.specs.Sizes.{chunk_size_of}
 use Rattle.chunk_tags.specs.declared.block.Block.{Block}
-use Rattle.chunk_tags.specs.declared.tiles.Chunk.{Chunk}
-use Rattle.chunk_tags.specs.declared.tiles.Tile.{Tile}
 use Rattle.chunk_tags.specs.declared.tunables.Tunables.{Tunables}
 use Rattle.address_space.specs.Ports.{Port}
-use Rattle.address_space.specs.declared.space.Space.{Space}
-use Rattle.thread_cache.specs.Caches.{blocks_of, structure_of}
-use Rattle.fast_bins.specs.PlainBins.{FastState, chunks_of}
-use Rattle.arena_rules.specs.PlainArena.{IsSound, times_used}
-use Rattle.arena_rules.specs.MainPlaces.{times_covered, IsMainPlaced}
 use Rattle.arena_core.specs.Arenas.{need_of}
-use Rattle.malloc_calls.specs.declared.own.Own.{Own}
 use Rattle.malloc_calls.specs.declared.reply.Reply.{Reply}
-use Rattle.malloc_calls.specs.declared.reply.Reply.TheVariants.{Null}
-use Rattle.malloc_calls.specs.Places.{weight_of, in_names, in_own, as_chunk_of, as_mapped, as_mapped_bytes, as_mapped_byte, given_byte}
+use Rattle.malloc_calls.specs.declared.reply.Reply.TheVariants.{Null, Posted, Taken}
 use Rattle.malloc_calls.specs.Names.{block_at}
+use Rattle.arena_holds.specs.Places.{as_mapped, as_mapped_bytes, as_mapped_byte, given_byte}
+use Rattle.serial_places.specs.Trays.{tray_at}
+use Rattle.serial_places.specs.declared.tray.Tray.TheVariants.{Full}
 use Rattle.trace_text.specs.declared.trace.Call.{Call}
-use Rattle.trace_text.specs.declared.trace.Call.TheVariants.{Malloc, Calloc, Realloc, Align}
-use Rattle.stats_text.specs.declared.views.Place.TheVariants.{Live}
-use Rattle.stats_text.specs.declared.views.TileView.{TileView}
-use Rattle.stats_text.specs.Totals.{in_use_of, in_use_bytes_of}
+use Rattle.trace_text.specs.declared.trace.Call.TheVariants.{Malloc, Calloc, Realloc, Align, Post, Take}
 use Rattle.trace_text.specs.declared.trace.Line.{Line}
+use Rattle.world_view.specs.Shows.{IsWhole, ShowsAll, in_scene}
 use Rattle.trace_replay.specs.declared.exit.Exit.{Exit}
-use Rattle.trace_replay.specs.Places.{main_of, mapped_of, tile_at}
-use Rattle.trace_replay.specs.World.{World}
-use Rattle.trace_replay.specs.SerialText.{Run, Job, first_world, run_of}
+use Rattle.trace_replay.specs.Runs.{Run, run_of}
+use Rattle.trace_replay.specs.SerialText.{Job}
+use Rattle.trace_replay.specs.Views.{scene_of}
+use Rattle.trace_replay.specs.World.{World, ThreadWorld, opening_world}
 
--- how many names hold a chunk of main
-abbrev pub times_named : Own → Chunk → ℕ
-times_named own e = in_names own.names (as_chunk_of 0 e)
+-- how many threads were given a byte of their windows for mappings
+abbrev pub times_given : {K : Type 0} → ℕ → World K → ℕ
+times_given n w = sum_by (λ th. given_byte n th.space) w.threads
 
--- how often it stands in the cache
-abbrev pub times_cached : Own → Chunk → ℕ
-times_cached own e = sum_by (as_chunk_of 0 e) (blocks_of own.cache)
+-- a thread of a world has a block under a name; a tray has one
+pub record HasNamed {K : Type 0} (w : World K) (thread name : ℕ) (b : Block) : Type 0 where
+  pub owner : ThreadWorld K
+  pub owns : slice_get w.threads thread ≡ Some owner
+  pub names : block_at owner.own.names name ≡ Some b
 
--- 1 where it is the cache's structure, else 0
-abbrev pub times_structure : Own → Chunk → ℕ
-times_structure own e = weight_of (structure_of own.cache) (as_chunk_of 0 e)
+abbrev pub HasPosted : {K : Type 0} → World K → ℕ → Block → Type 0
+HasPosted w tray b = tray_at w.trays tray ≡ Full b
 
--- how often it stands in the fast bins
-abbrev pub times_fast : FastState → Chunk → ℕ
-times_fast s e = times_in e (chunks_of s)
-
--- where a tile of main lies, and where one of the report does: address and size
-abbrev pub tile_span : Tile → ℕ × ℕ
-tile_span t = (t.addr, t.size)
-
-abbrev pub view_span : TileView → ℕ × ℕ
-view_span t = (t.addr, t.size)
-
--- No byte is of the mappings of two blocks of a thread, and each that is of one is in the thread's window for mappings.
-abbrev pub IsInWindow : {K : Type 0} → Own → Space K → Type 0
-IsInWindow own space = (n : ℕ) → in_own own (as_mapped_byte n) ≤ given_byte n space
-
--- Main is sound, and its tiles fill its break and its pieces. A used chunk stands just once: under a name, in the cache, as
--- its structure, or in a fast bin; and what stands there is used. The mapped chunks are those that the words count; each
--- lies in the thread's window for mappings, and no byte is of two of them or of one and a tile of main. The user of a block
--- that has a name has an address that is a multiple of 16. Each tile of main is shown, and so is each mapped chunk that has
--- a name; and the bytes in use are those of the tiles that are neither free nor top nor in a fast bin.
+-- The scene of the world is whole: each arena is sound, and its tiles fill its ranges; a used chunk stands just once: under a
+-- name, in a cache, as the structure of one, in a tray or in a fast bin; and what stands there is used; no byte is of two
+-- tiles, of two mapped chunks, or of one and a tile. The report shows all of it. The mapped chunks are those that the words
+-- count; each lies in the window for mappings of some thread, each of which has its own. The user of a block that has a name,
+-- or is in a tray, has an address that is a multiple of 16.
 pub record IsTiled {K : Type 0} (w : World K) : Type 0 where
-  pub sound : IsSound w.serial.main.arena
-  pub placed : IsMainPlaced w.serial.main.arena
-  pub once : (e : Chunk) → times_used e w.serial.main.arena ≤ 1
-  pub each : (e : Chunk) → times_named w.own e + times_cached w.own e + times_structure w.own e + times_fast w.serial.bins e
-      ≡ times_used e w.serial.main.arena
-  pub mapped : in_own w.own as_mapped ≡ w.serial.dials.mapped
-  pub bytes : in_own w.own as_mapped_bytes ≡ w.serial.dials.bytes
-  pub window : IsInWindow w.own w.serial.space
-  pub apart : (n : ℕ) → times_covered n w.serial.main.arena + in_own w.own (as_mapped_byte n) ≤ 1
-  pub aligned : (name : ℕ) (b : Block) → block_at w.own.names name ≡ Some b → user_address b.addr % 16 ≡ 0
-  pub shown : map view_span (main_of w).tiles ≡ map tile_span w.serial.main.arena.tiles
-  pub mapped_shown : (name : ℕ) (b : Block) → block_at w.own.names name ≡ Some b → b.arena ≡ None →
-      Contains (mapped_of w) (tile_at b.addr b.size b.lead (Live 0 name))
-  pub in_use : in_use_of (main_of w) ≡ in_use_bytes_of (main_of w).tiles
+  pub whole : IsWhole (scene_of [] w)
+  pub shown : ShowsAll (scene_of [] w)
+  pub mapped : in_scene (scene_of [] w) as_mapped ≡ w.dials.mapped
+  pub bytes : in_scene (scene_of [] w) as_mapped_bytes ≡ w.dials.bytes
+  pub window : (n : ℕ) → in_scene (scene_of [] w) (as_mapped_byte n) ≤ times_given n w
+  pub own_window : (thread : ℕ) (th : ThreadWorld K) → slice_get w.threads thread ≡ Some th → th.space.thread ≡ thread
+  pub aligned : (thread name : ℕ) (b : Block) → HasNamed w thread name b → user_address b.addr % 16 ≡ 0
+  pub posted : (tray : ℕ) (b : Block) → HasPosted w tray b → user_address b.addr % 16 ≡ 0
 
--- What is asked for under a name: so many bytes, and a user address that is a multiple of a number. That is 1 where no more
+-- What is asked for of a block: so many bytes, and a user address that is a multiple of a number. That is 1 where no more
 -- is asked than what each block has, `aligned` above.
 pub record Wanted : Type 0 where
   pub size : ℕ
   pub align : ℕ
+
+-- what was asked for last: under a name of a thread, and of the block in a tray
+pub record Wishes : Type 0 where
+  pub named : ℕ → ℕ → Option Wanted
+  pub posted : ℕ → Option Wanted
 
 -- a size alone; and a size with an alignment, which asks for more where it is above 16
 abbrev pub bytes_wanted : ℕ → Wanted
@@ -98,17 +75,42 @@ abbrev pub wanted_anew : ℕ → Reply → Option Wanted → Option Wanted
 wanted_anew size (Null why) was = was
 wanted_anew size reply was = Some (bytes_wanted size)
 
--- what stands under a name behind a call that was answered so
-abbrev pub wanted_next : ℕ → Call → Reply → Option Wanted → Option Wanted
-wanted_next name (Malloc made size) reply was = if made == name then Some (bytes_wanted size) else was
-wanted_next name (Calloc made n size) reply was = if made == name then Some (bytes_wanted (n * size)) else was
-wanted_next name (Align made align size) reply was = if made == name then Some (aligned_wanted align size) else was
-wanted_next name (Realloc made size) reply was = if made == name then wanted_anew size reply was else was
-wanted_next name call reply was = was
+-- what stands where a block may have come that has another wish: that one where it came, else what stood before
+abbrev pub wanted_taken : Reply → Option Wanted → Option Wanted → Option Wanted
+wanted_taken (Taken addr size) posted was = posted
+wanted_taken reply posted was = was
 
--- what thread 0 last asked for under a name, by the replies to its lines
-unfoldable pub wanted_under : List (Line × Reply) → ℕ → Option Wanted
-wanted_under replies name = fold (λ was r. if r.0.thread == 0 then wanted_next name r.0.call r.1 was else was) None replies
+abbrev pub wanted_posted : Reply → Option Wanted → Option Wanted → Option Wanted
+wanted_posted Posted named was = named
+wanted_posted reply named was = was
+
+-- what stands under a name of the thread behind a call that was answered so
+abbrev pub named_next : Wishes → ℕ → Call → Reply → Option Wanted → Option Wanted
+named_next w name (Malloc made size) reply was = if made == name then Some (bytes_wanted size) else was
+named_next w name (Calloc made n size) reply was = if made == name then Some (bytes_wanted (n * size)) else was
+named_next w name (Align made align size) reply was = if made == name then Some (aligned_wanted align size) else was
+named_next w name (Realloc made size) reply was = if made == name then wanted_anew size reply was else was
+named_next w name (Take made tray) reply was = if made == name then wanted_taken reply (w.posted tray) was else was
+named_next w name call reply was = was
+
+-- what stands in a tray behind a call of a thread
+abbrev pub posted_next : Wishes → ℕ → ℕ → Call → Reply → Option Wanted
+posted_next w thread tray (Post name used) reply = if used == tray then wanted_posted reply (w.named thread name) (w.posted tray) else w.posted tray
+posted_next w thread tray call reply = w.posted tray
+
+-- what stands everywhere behind a line that was answered so
+abbrev pub wished_after : Wishes → Line × Reply → Wishes
+wished_after w r = record {
+  named = λ thread name. if r.0.thread == thread then named_next w name r.0.call r.1 (w.named thread name) else w.named thread name;
+  posted = λ tray. posted_next w r.0.thread tray r.0.call r.1;
+}
+
+abbrev pub no_wishes : Wishes
+no_wishes = record { named = λ thread name. None; posted = λ tray. None }
+
+-- what was asked for last, by the replies to the lines
+unfoldable pub wishes_of : List (Line × Reply) → Wishes
+wishes_of replies = fold wished_after no_wishes replies
 
 -- a block is what was asked for: it is large enough, where a mapped one needs 8 bytes more, and its user's address is such a
 -- multiple
@@ -120,25 +122,24 @@ abbrev pub IsFit : Option Wanted → Block → Type 0
 IsFit None b = ⊥
 IsFit (Some w) b = IsEnough w b
 
--- each block that has a name is what was last asked for under it
-abbrev pub FitsWithin : List (Line × Reply) → List (Option Block) → Type 0
-FitsWithin replies names = (name : ℕ) (b : Block) → block_at names name ≡ Some b → IsFit (wanted_under replies name) b
+-- each block that has a name is what was last asked for under it; one in a tray is what was asked for before it was posted
+pub record FitsWithin {K : Type 0} (wishes : Wishes) (w : World K) : Type 0 where
+  pub named : (thread name : ℕ) (b : Block) → HasNamed w thread name b → IsFit (wishes.named thread name) b
+  pub posted : (tray : ℕ) (b : Block) → HasPosted w tray b → IsFit (wishes.posted tray) b
 
 -- lines give a run from a world on, which ends in a world that is such, and whose blocks fit
 pub record TilesAfter {K : Type 0} (port : Port K) (t : Tunables) (lines : List Line) (first : World K) : Type 0 where
   pub run : Run K
   pub gives : run_of port t lines first ≡ Ok run
   pub tiled : IsTiled run.world
-  pub fit : FitsWithin run.replies run.world.own.names
+  pub fit : FitsWithin (wishes_of run.replies) run.world
 
 -- so do the first lines of a run, however many: it is such behind each line, and before the first
-pub record GivesTiles {K : Type 0} (port : Port K) (t : Tunables) (lines : List Line) (kernel : K) : Type 0 where
-  pub behind : (count : ℕ) → TilesAfter port t (take count lines) (first_world t kernel)
+pub record GivesTiles {K : Type 0} (port : Port K) (t : Tunables) (lines : List Line) (kernels : List K) : Type 0 where
+  pub behind : (count : ℕ) → TilesAfter port t (take count lines) (opening_world t kernels)
 
--- so does a job, over the port of thread 0
+-- so does a job, over the port of each thread
 pub record ShowsTiles {K : Type 0} (port : Port K) (kernels : List K) (rules : Result Job Exit) : Type 0 where
   pub job : Job
   pub given : rules ≡ Ok job
-  pub kernel : K
-  pub first : slice_get kernels 0 ≡ Some kernel
-  pub tiles : GivesTiles port job.asked.tunables job.lines kernel
+  pub tiles : GivesTiles port job.asked.tunables job.lines kernels

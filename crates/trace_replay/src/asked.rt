@@ -1,8 +1,7 @@
 //! What a run serves: what the words of the command line ask for, as far as it is built.
 
-ghost use Rattle.std.specs.Prelude.{◌≡◌, ◌≤◌, IfOk, IfErr, IfSome};
-ghost use Rattle.chunk_tags.specs.Tunables.{IsTuned};
-ghost use Rattle.trace_replay.specs.Asked.{served_of};
+ghost use Rattle.std.specs.Prelude.{◌≡◌, IfOk, IfErr};
+ghost use Rattle.trace_replay.specs.Asked.{served_of, IsServable};
 ghost use Rattle.trace_replay.specs.Headline.{IsWordRefusal};
 
 use crate::exit::Exit;
@@ -12,8 +11,7 @@ use command_words::{Asked, read_words};
 /// What the words ask for, the program's name in front, or how they are refused. No memory is asked for.
 pub(crate) fn served(words: &[String]) -> Result<Asked, Exit>
     ensures exact { result ≡ served_of words.now }
-    ensures tuned { IfOk result (λ asked. IsTuned asked.tunables) }
-    ensures few { IfOk result (λ asked. IfSome asked.generated (λ made. made.lines ≤ 1000000)) }
+    ensures servable { IfOk result IsServable }
     ensures kind { IfErr result IsWordRefusal }
 {
     let Some(asked) = read_words(words) else {

@@ -2,14 +2,12 @@
 
 ghost use Rattle.std.specs.Prelude.{◌≡◌, Some};
 ghost use Rattle.trace_replay.specs.declared.exit.Exit.TheVariants.{NoMemory as OutOfMemory};
-ghost use Rattle.trace_replay.specs.Exits.{exit_of_unread, exit_of_fault, exit_of_halt, reply_or_exit};
+ghost use Rattle.trace_replay.specs.Exits.{exit_of_unread, exit_of_fault};
 ghost use Rattle.trace_replay.specs.Messages.{large_of, message_of};
 ghost use Rattle.trace_replay.specs.Status.{status_of};
 
-use crate::halt::Halt;
 use byte_edge::Unread;
 use chunk_tags::NoMemory;
-use malloc_calls::Reply;
 use std::fmt;
 use trace_text::{BadWhy, TraceFault};
 
@@ -41,7 +39,7 @@ pub enum Exit {
     WriteFault,
     /// The memory of the program itself ran out.
     NoMemory,
-    /// A line needs what isn't built yet; where 0, a word behind the program's name does.
+    /// A word behind the program's name asks for what isn't built yet; then the line is 0.
     NotBuilt { line: u64 },
 }
 
@@ -125,25 +123,5 @@ impl From<TraceFault> for Exit {
             TraceFault::Bad { line, why } => Exit::BadTrace { line, why },
             TraceFault::NoMemory => Exit::NoMemory,
         }
-    }
-}
-
-/// How a call of a line ends the run where it has no answer.
-fn halt_exit(line: u64, halt: Halt) -> Exit
-    ensures { result ≡ exit_of_halt line halt }
-{
-    match halt {
-        Halt::NotBuilt => Exit::NotBuilt { line },
-        Halt::NoMemory => Exit::NoMemory,
-    }
-}
-
-/// The reply to a line, or how the run ends without one.
-pub(crate) fn reply_or_exit(line: u64, reply: Result<Reply, Halt>) -> Result<Reply, Exit>
-    ensures { result ≡ reply_or_exit line reply }
-{
-    match reply {
-        Ok(reply) => Ok(reply),
-        Err(halt) => Err(halt_exit(line, halt)),
     }
 }

@@ -4,6 +4,10 @@ ghost use Rattle.std.specs.Prelude.{◌≡◌, None, IfOk, vec_len};
 ghost use Rattle.byte_edge.specs.Streams.{Supply, Store};
 
 use super::*;
+use crate::arenas::{
+    ALIGNED_IN_A_HEAP, MAPPED_STRUCTURE, MOVED_IN_THE_END, NOT_ALIGNED, ONE_ALIGNED, TWO_IN_A_HEAP,
+    TWO_MAPPED,
+};
 use crate::resizes::{CACHED_IN_THE_END, REFUSED_GROWTH, REFUSED_SHRINKING, REMAPPED};
 use crate::rows::{FENCED_PIECE, FENCED_PIECE_REPORT};
 use crate::tests::{ample, run_over};
@@ -226,12 +230,12 @@ fn words_are_served_or_refused(rt: HostRuntime) -> Result<(), Fail> {
     Ok(())
 }
 
-/// A port that refuses the asks with these numbers, and others that grant all.
-fn refusing_ports(alloc: Global, asks: Vec<u64>) -> Result<Vec<Budget>, NoMemory>
+/// A port with a budget of so many bytes, which refuses the asks with these numbers, and others that grant all.
+fn refusing_ports(alloc: Global, bytes: u64, asks: Vec<u64>) -> Result<Vec<Budget>, NoMemory>
     ensures { IfOk result (λ ports. vec_len ports ≡ 64) }
 {
     let mut ports = Vec::new(alloc);
-    ports.push(Budget::new(u64::MAX, asks))?;
+    ports.push(Budget::new(bytes, asks))?;
     for _ in 1..64_usize {
         ports.push(Budget::new(u64::MAX, Vec::new(alloc)))?;
     }
@@ -239,15 +243,41 @@ fn refusing_ports(alloc: Global, asks: Vec<u64>) -> Result<Vec<Budget>, NoMemory
 }
 
 /// Runs a trace over such ports.
+fn run_within(
+    alloc: Global,
+    trace: &[u8],
+    bytes: u64,
+    asks: Vec<u64>,
+    sink: &mut MemSink,
+) -> Result<Exit, NoMemory> {
+    let ports = refusing_ports(alloc, bytes, asks)?;
+    let mut source = SureSource::new(Vec::from_slice(alloc, trace)?);
+    Ok(run(alloc, &[], &mut source, sink, ports, &Open))
+}
+
+/// The same without an end of the bytes.
 fn run_refusing(
     alloc: Global,
     trace: &[u8],
     asks: Vec<u64>,
     sink: &mut MemSink,
 ) -> Result<Exit, NoMemory> {
-    let ports = refusing_ports(alloc, asks)?;
-    let mut source = SureSource::new(Vec::from_slice(alloc, trace)?);
-    Ok(run(alloc, &[], &mut source, sink, ports, &Open))
+    run_within(alloc, trace, u64::MAX, asks, sink)
+}
+
+/// The first growth asks for 135,168 bytes, once.
+#[test]
+fn a_budget_has_its_bytes(rt: HostRuntime) -> Result<(), Fail> {
+    let alloc = rt.alloc();
+    for (bytes, report) in [(135_168, TWO_BLOCKS), (135_167, TWO_MAPPED)] {
+        let mut sink = ample(alloc)?;
+        assert_eq!(rt;
+            run_within(alloc, TWO_LINES, bytes, only(alloc, 2)?, &mut sink)?,
+            Exit::Done
+        );
+        assert_eq!(rt; sink.bytes(), report, "{bytes} bytes");
+    }
+    Ok(())
 }
 
 #[test]
@@ -277,39 +307,35 @@ fn a_refused_length_is_made_up_for(rt: HostRuntime) -> Result<(), Fail> {
     Ok(())
 }
 
-/// Its resize was refused, though the cache has a chunk for malloc in its place; and an aligned search was.
+/// Its resize is refused, and the cache has a chunk for malloc in its place; or an aligned search is.
 #[test]
-fn a_refused_realloc_or_alignment_is_not_built(rt: HostRuntime) -> Result<(), Fail> {
+fn a_refused_realloc_or_alignment_is_tried_again(rt: HostRuntime) -> Result<(), Fail> {
     let alloc = rt.alloc();
-    for (trace, first, last, line) in [
-        (CACHED_IN_THE_END, 2, 3, 6),
-        (b"ptmtrace 1\n0 a 1 64 100\n".as_slice(), 1, 2, 2),
+    for (trace, first, last, report) in [
+        (CACHED_IN_THE_END, 2, 3, MOVED_IN_THE_END),
+        (ONE_ALIGNED, 1, 2, ALIGNED_IN_A_HEAP),
+        (ONE_ALIGNED, 1, 5, NOT_ALIGNED),
     ] {
         let asks = (first..=last).collect(alloc)?;
         let mut sink = ample(alloc)?;
-        assert_eq!(rt;
-            run_refusing(alloc, trace, asks, &mut sink)?,
-            Exit::NotBuilt { line }
-        );
-        assert_eq!(rt; sink.bytes().len(), 0);
+        assert_eq!(rt; run_refusing(alloc, trace, asks, &mut sink)?, Exit::Done);
+        assert_eq!(rt; sink.bytes(), report, "asks {first} to {last}");
     }
     Ok(())
 }
 
-/// Refused for the structure of the cache, and then for the block too.
+/// Refused for the structure of the cache, in main, or in a heap too.
 #[test]
-fn a_refused_search_is_not_built(rt: HostRuntime) -> Result<(), Fail> {
+fn a_refused_search_is_tried_again(rt: HostRuntime) -> Result<(), Fail> {
     let alloc = rt.alloc();
-    for last in [2, 4] {
+    for (last, report) in [(2, TWO_IN_A_HEAP), (4, MAPPED_STRUCTURE)] {
         let asks = (1..=last).collect(alloc)?;
-        let ports = refusing_ports(alloc, asks)?;
         let mut sink = ample(alloc)?;
         assert_eq!(rt;
-            run(alloc, &[], &mut Dribble::new(0), &mut sink, ports, &Open),
-            Exit::NotBuilt { line: 2 },
-            "{last} asks"
+            run_refusing(alloc, TWO_LINES, asks, &mut sink)?,
+            Exit::Done
         );
-        assert_eq!(rt; sink.bytes().len(), 0);
+        assert_eq!(rt; sink.bytes(), report, "{last} asks");
     }
     Ok(())
 }

@@ -3,8 +3,11 @@
 ghost use Rattle.std.specs.Prelude.{◌≤◌};
 
 use super::*;
+use crate::arenas::{ONE_CORE, ONE_CORE_REPORT};
 use crate::tests::ample;
-use crate::texts::{NONE_COUNTED, ONE_MADE, TOO_BIG, TOO_BIG_COUNTED, TWO_COUNTED, TWO_LINES};
+use crate::texts::{
+    NONE_COUNTED, ONE_MADE, TOO_BIG, TOO_BIG_COUNTED, TWO_COUNTED, TWO_LINES, TWO_MADE,
+};
 use address_space::Always;
 use chunk_tags::NoMemory;
 use std::alloc::Global;
@@ -77,7 +80,11 @@ fn unreadable(alloc: Global) -> Result<MemSource, NoMemory> {
 #[test]
 fn a_trace_is_made_and_none_read(rt: HostRuntime) -> Result<(), Fail> {
     let alloc = rt.alloc();
-    for (summary, count, text) in [(false, 1, ONE_MADE), (true, 0, NONE_COUNTED)] {
+    for (summary, count, text) in [
+        (false, 1, ONE_MADE),
+        (false, 2, TWO_MADE),
+        (true, 0, NONE_COUNTED),
+    ] {
         let words = made_words(alloc, summary, 5, count)?;
         let mut source = unreadable(alloc)?;
         let mut sink = ample(alloc)?;
@@ -113,17 +120,29 @@ fn common_exit(
     }
 }
 
-// The first ten lines of seed 38580 are of thread 0, and the next is of another.
 #[test]
 fn a_made_trace_runs_as_its_text(rt: HostRuntime) -> Result<(), Fail> {
     let alloc = rt.alloc();
     for summary in [false, true] {
-        let done = Some(Exit::Done);
-        assert_eq!(rt; common_exit(alloc, summary, 5, 0)?, done);
-        assert_eq!(rt; common_exit(alloc, summary, 38_580, 10)?, done);
-        let unbuilt = Some(Exit::NotBuilt { line: 12 });
-        assert_eq!(rt; common_exit(alloc, summary, 38_580, 11)?, unbuilt);
-        assert_eq!(rt; common_exit(alloc, summary, 38_580, 3000)?, unbuilt);
+        for (seed, count) in [(5, 0), (38_580, 10), (38_580, 11), (38_580, 500)] {
+            let exit = common_exit(alloc, summary, seed, count)?;
+            assert_eq!(rt; exit, Some(Exit::Done), "{count} lines of seed {seed}");
+        }
     }
+    Ok(())
+}
+
+#[test]
+fn threads_take_arenas_in_turn(rt: HostRuntime) -> Result<(), Fail> {
+    let alloc = rt.alloc();
+    let mut words = form_words(alloc, false)?;
+    words.push(String::from_str(alloc, "--cores=1")?)?;
+    let mut source = SureSource::new(Vec::from_slice(alloc, ONE_CORE)?);
+    let mut sink = ample(alloc)?;
+    assert_eq!(rt;
+        run_words(alloc, &words, &mut source, &mut sink)?,
+        Exit::Done
+    );
+    assert_eq!(rt; sink.bytes(), ONE_CORE_REPORT);
     Ok(())
 }

@@ -4,17 +4,15 @@
 #![tactic(auto)]
 
 mod asked;
+mod calling;
 mod exit;
-mod finds;
 mod gate;
-mod halt;
-mod places;
 mod process;
 mod record;
 mod replay;
 mod sheet;
-mod snapshot;
 mod text;
+mod threads;
 mod top_call;
 
 pub use byte_edge::{
@@ -26,6 +24,8 @@ pub use gate::{Gate, Open};
 pub use top_call::run;
 pub use trace_text::THREADS;
 
+#[cfg(test)]
+mod arenas;
 #[cfg(test)]
 mod examples;
 #[cfg(test)]

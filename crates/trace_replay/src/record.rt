@@ -90,5 +90,9 @@ pub fn outcome(call: &Call, reply: &Reply) -> Outcome
             by_realloc: is_realloc(call),
         },
         Reply::NotYours => Outcome::Skip,
+        Reply::Posted => Outcome::Posted,
+        Reply::Taken { addr, size } => Outcome::Taken { addr, size },
+        Reply::Missed(seen) => Outcome::Missed { seen },
+        Reply::Ended => Outcome::Ended,
     }
 }

@@ -1,9 +1,10 @@
 //! Whole runs, with the texts that the rules give for them.
 
 use super::*;
+use crate::arenas::*;
 use crate::resizes::*;
 use crate::rows::*;
-use crate::texts::{EMPTY, TWO_BLOCKS, TWO_LINES};
+use crate::texts::*;
 use address_space::Always;
 use chunk_tags::NoMemory;
 use std::alloc::{AllocError, Global};
@@ -34,7 +35,14 @@ pub(crate) fn ample(alloc: Global) -> Result<MemSink, NoMemory> {
 #[test]
 fn reports_are_those_of_the_rules(rt: HostRuntime) -> Result<(), Fail> {
     let alloc = rt.alloc();
-    for (trace, report) in [(b"ptmtrace 1\n".as_slice(), EMPTY), (TWO_LINES, TWO_BLOCKS)] {
+    for (trace, report) in [
+        (b"ptmtrace 1\n".as_slice(), EMPTY),
+        (TWO_LINES, TWO_BLOCKS),
+        (SMALLEST, SMALLEST_REPORT),
+        (LARGEST_CACHED, LARGEST_CACHED_REPORT),
+        (TOO_BIG, TOO_BIG_REPORT),
+        (LISTS, LISTS_REPORT),
+    ] {
         let mut sink = ample(alloc)?;
         assert_eq!(rt; run_trace(alloc, trace, &mut sink)?, Exit::Done);
         assert_eq!(rt; sink.bytes(), report);
@@ -130,6 +138,24 @@ fn records_are_those_of_the_rules(rt: HostRuntime) -> Result<(), Fail> {
     Ok(())
 }
 
+#[test]
+fn threads_have_arenas(rt: HostRuntime) -> Result<(), Fail> {
+    let alloc = rt.alloc();
+    assert!(rt; has_report(alloc, OTHER_THREAD, OTHER_THREAD_REPORT)?);
+    assert!(rt; has_report(alloc, HANDED_OVER, HANDED_OVER_REPORT)?);
+    assert!(rt; has_report(alloc, ENDED, ENDED_REPORT)?);
+    assert!(rt; has_report(alloc, NOT_POSTED, NOT_POSTED_REPORT)?);
+    Ok(())
+}
+
+#[test]
+fn what_is_refused_is_tried_in_another_arena(rt: HostRuntime) -> Result<(), Fail> {
+    let alloc = rt.alloc();
+    assert!(rt; has_report(alloc, REFUSED, REFUSED_REPORT)?);
+    assert!(rt; has_report(alloc, REFUSED_RESIZE, REFUSED_RESIZE_REPORT)?);
+    Ok(())
+}
+
 /// The refusal of a faulty trace.
 fn bad(line: u64, why: BadWhy) -> Exit {
     Exit::BadTrace { line, why }
@@ -142,26 +168,6 @@ fn refusals_write_nothing(rt: HostRuntime) -> Result<(), Fail> {
         (b"".as_slice(), bad(1, BadWhy::Cut), 3),
         (b"ptmtrace 1", bad(1, BadWhy::Cut), 3),
         (b"ptmtrace 1\n0 m 1 24\n0 m 1 24\n", bad(3, BadWhy::Held), 3),
-        (
-            b"ptmtrace 1\n0 m 1 24\n0 m 2 9223372036854775807\n",
-            Exit::NotBuilt { line: 3 },
-            9,
-        ),
-        (
-            b"ptmtrace 1\n0 m 1 24\n0 p 1 7\n",
-            Exit::NotBuilt { line: 3 },
-            9,
-        ),
-        (
-            b"ptmtrace 1\n0 m 1 24\n0 r 1 9223372036854775799\n",
-            Exit::NotBuilt { line: 3 },
-            9,
-        ),
-        (
-            b"ptmtrace 1\n0 m 1 24\n1 m 1 24\n",
-            Exit::NotBuilt { line: 3 },
-            9,
-        ),
     ] {
         let mut sink = ample(alloc)?;
         let answer = run_trace(alloc, trace, &mut sink)?;

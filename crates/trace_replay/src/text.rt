@@ -1,11 +1,10 @@
 //! The text of a run: for what is asked, the bytes of the source where these are read, and the ports.
 
-ghost use Rattle.std.specs.Prelude.{◌≡◌, ◌≤◌, ℕ, List, Some, vec_len, IsTrue, IsOk, IfOk, IfErr, IfSome, OnOk, MatchResult, Ok, slice_get};
-ghost use Rattle.std.specs.List.{All};
-ghost use Rattle.chunk_tags.specs.Tunables.{IsTuned};
+ghost use Rattle.std.specs.Prelude.{◌≡◌, ◌≤◌, ℕ, List, Some, vec_len, IsOk, IfOk, IfErr, OnOk, MatchResult, Ok};
 ghost use Rattle.trace_text.specs.Grammar.{reading_of, threads};
 ghost use Rattle.trace_text.specs.Spelling.{spelling, Allows};
-ghost use Rattle.trace_replay.specs.Headline.{Told, TellsInput, AllTell, Refuses, AnswersJob, LeavesRead, LeavesSource, IsReadWhole, IsServed, IsUnwritten, IsTextRefusal, IsHalt, IsNumbered};
+ghost use Rattle.trace_replay.specs.Asked.{IsServable};
+ghost use Rattle.trace_replay.specs.Headline.{Told, TellsInput, AllTell, Refuses, AnswersJob, LeavesRead, LeavesSource, IsReadWhole, IsServed, IsUnwritten, IsTextRefusal};
 ghost use Rattle.trace_replay.specs.Sheets.{Spells};
 ghost use Rattle.trace_replay.specs.Replays.{AnswersAs};
 ghost use Rattle.trace_replay.specs.SerialText.{lines_of, text_over, text_of, job_by, read_job, made_job, job_of, verdict};
@@ -15,8 +14,7 @@ use crate::exit::Exit;
 use crate::process::Process;
 use crate::replay::replay;
 use crate::sheet::Sheet;
-use crate::snapshot::snapshot;
-use address_space::{Kernel, Space, Windows};
+use address_space::Kernel;
 use byte_edge::{Source, read_input};
 use chunk_tags::NoMemory;
 use command_words::{Asked, Generated};
@@ -25,11 +23,9 @@ use trace_maker::generate;
 use trace_text::{Line, Trace, print_trace, read_trace};
 
 /// The lines of the input, or its first fault.
-#[tactic(auto, using(crate::proofs::Numbered::numbered))]
 fn read_lines(alloc: Global, bytes: &[u8]) -> Result<Vec<Line>, Exit>
     ensures exact { AnswersAs (λ read rules. read.items ≡ rules)
         result (lines_of (reading_of bytes.now)) }
-    ensures numbered { IfOk result (λ read. All IsNumbered read.items) }
     ensures spelled { IfOk result (λ read. Allows read.items × (bytes.now ≡ spelling read.items)) }
     ensures kind { IfErr result IsTextRefusal }
 {
@@ -37,43 +33,29 @@ fn read_lines(alloc: Global, bytes: &[u8]) -> Result<Vec<Line>, Exit>
     Ok(trace.lines)
 }
 
-/// The port of thread 0.
-fn first_port<K: Kernel>(mut kernels: Vec<K>) -> K
-    requires { vec_len kernels ≡ threads }
-    ensures { slice_get kernels.items 0 ≡ Some result }
-{
-    kernels.swap_remove(0)
-}
-
-/// The text on a run of lines over the port of thread 0. For a report `bytes` spell these lines.
+/// The text on a run of lines over the port of each thread. For a report `bytes` spell these lines.
 fn text_over<K: Kernel>(
     alloc: Global,
     asked: &Asked,
     lines: &[Line],
     bytes: &[u8],
-    kernel: K,
-) -> Result<Vec<u8>, Exit>
-    requires tuned { IsTuned asked.now.tunables }
-    requires numbered { All IsNumbered lines.now }
+    kernels: Vec<K>,
+) -> Result<Vec<u8>, NoMemory>
+    requires ports { vec_len kernels ≡ threads }
+    requires servable { IsServable asked.now }
     requires allowed { Allows lines.now }
     requires spelled { Spells asked.now.summary bytes.now lines.now }
-    ensures told { IsTrue (K.port.tells kernel) → AnswersAs (λ text rules. text.items ≡ rules)
-        result (text_over K.port asked.now.summary asked.now.tunables lines.now kernel) }
-    ensures tiled { IsTrue (K.port.tells kernel) →
-        OnOk result (GivesTiles K.port asked.now.tunables lines.now kernel) }
-    ensures kind { IfErr result IsHalt }
+    ensures told { AllTell K.port kernels.items → IfOk result (λ text.
+        text_over K.port asked.now.summary asked.now.tunables lines.now kernels.items
+        ≡ Ok text.items) }
+    ensures tiled { AllTell K.port kernels.items →
+        OnOk result (GivesTiles K.port asked.now.tunables lines.now kernels.items) }
 {
-    let t = &asked.tunables;
-    let windows = Windows {
-        main_max: t.main_max,
-        heap_max: t.heap_max,
-        heaps: t.heaps,
-    };
-    let mut process = Process::new(alloc, Space::new(kernel, 0, windows), t)?;
+    let mut process = Process::new(alloc, kernels, &asked.tunables)?;
     let mut sheet = Sheet::new(alloc, asked.summary, bytes)?;
     replay(alloc, &mut process, lines, &mut sheet)?;
-    let shown = snapshot(alloc, process, !lines.is_empty())?;
-    Ok(sheet.finish(alloc, &shown)?)
+    let shown = process.snapshot(alloc, lines)?;
+    sheet.finish(alloc, &shown)
 }
 
 /// The texts of a trace's lines, with which the records of a report begin; a summary has none.
@@ -93,15 +75,14 @@ fn text_of_made<K: Kernel>(
     asked: &Asked,
     made: Generated,
     kernels: Vec<K>,
-) -> Result<Vec<u8>, Exit>
+) -> Result<Vec<u8>, NoMemory>
     requires ports { vec_len kernels ≡ threads }
-    requires tuned { IsTuned asked.now.tunables }
+    requires servable { IsServable asked.now }
     requires few { made.lines ≤ 1000000 }
-    ensures told { AllTell K.port kernels.items → AnswersAs (λ text rules. text.items ≡ rules)
-        result (text_of K.port kernels.items (made_job asked.now made)) }
+    ensures told { AllTell K.port kernels.items → IfOk result (λ text.
+        text_of K.port kernels.items (made_job asked.now made) ≡ Ok text.items) }
     ensures tiled { AllTell K.port kernels.items →
         OnOk result (ShowsTiles K.port kernels.items (made_job asked.now made)) }
-    ensures kind { IfErr result IsHalt }
 {
     let trace = generate(alloc, made.seed, made.lines as u32)?;
     let texts = line_texts(alloc, asked.summary, &trace)?;
@@ -110,7 +91,7 @@ fn text_of_made<K: Kernel>(
         asked,
         trace.lines.as_slice(),
         texts.as_slice(),
-        first_port(kernels),
+        kernels,
     )
 }
 
@@ -122,7 +103,7 @@ fn text_of_bytes<K: Kernel>(
     kernels: Vec<K>,
 ) -> Result<Vec<u8>, Exit>
     requires ports { vec_len kernels ≡ threads }
-    requires tuned { IsTuned asked.now.tunables }
+    requires servable { IsServable asked.now }
     ensures told { AllTell K.port kernels.items → AnswersAs (λ text rules. text.items ≡ rules)
         result (text_of K.port kernels.items (job_by asked.now bytes.now)) }
     ensures tiled { AllTell K.port kernels.items →
@@ -132,7 +113,7 @@ fn text_of_bytes<K: Kernel>(
     ensures kind { IfErr result IsTextRefusal }
 {
     let lines = read_lines(alloc, bytes)?;
-    text_over(alloc, asked, lines.as_slice(), bytes, first_port(kernels))
+    Ok(text_over(alloc, asked, lines.as_slice(), bytes, kernels)?)
 }
 
 /// The text for the bytes of the source, and the ports.
@@ -143,7 +124,7 @@ fn text_of_source<S: Source, K: Kernel>(
     kernels: Vec<K>,
 ) -> Result<Vec<u8>, Exit>
     requires ports { vec_len kernels ≡ threads }
-    requires tuned { IsTuned asked.now.tunables }
+    requires servable { IsServable asked.now }
     ensures told { (bytes : List ℕ) → S.supply.left source.old ≡ Some bytes →
         AllTell K.port kernels.items → MatchResult result
         (λ text. text_of K.port kernels.items (read_job asked.now bytes) ≡ Ok text.items)
@@ -173,8 +154,7 @@ pub(crate) fn text<S: Source, K: Kernel>(
     kernels: Vec<K>,
 ) -> Result<Vec<u8>, Exit>
     requires ports { vec_len kernels ≡ threads }
-    requires tuned { IsTuned asked.now.tunables }
-    requires few { IfSome asked.now.generated (λ made. made.lines ≤ 1000000) }
+    requires servable { IsServable asked.now }
     ensures told { (bytes : List ℕ) →
         Told S.supply K.port (Ok asked.now) source.old kernels.items bytes →
         MatchResult result
@@ -193,7 +173,7 @@ pub(crate) fn text<S: Source, K: Kernel>(
     ensures served { IfErr result IsServed }
 {
     match asked.generated {
-        Some(made) => text_of_made(alloc, asked, made, kernels),
+        Some(made) => Ok(text_of_made(alloc, asked, made, kernels)?),
         None => text_of_source(alloc, asked, source, kernels),
     }
 }

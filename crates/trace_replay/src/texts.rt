@@ -243,3 +243,34 @@ in use bytes     =        704
 max mmap regions =          0
 max mmap bytes   =          0
 ";
+
+/// The report on its first two lines, of which the second is of another thread.
+pub(crate) const TWO_MADE: &[u8] = b"\
+ptmreport 1 serial
+0 m 158 30 -> 0x5555555592a0 48 arena 0
+3 m 596 534 -> 0x7f0000000b60 544 arena 1
+arena 0 system 135168 max 135168 list 0 last -
+0x555555559010 656 structure 0
+0x5555555592a0 48 live 0 158
+0x5555555592d0 134464 top
+arena 1 system 135168 max 135168 list 1 last -
+0x7f00000008d0 656 structure 3
+0x7f0000000b60 544 live 3 596
+0x7f0000000d80 131728 top
+mapped
+thread 0 arena 0
+thread 3 arena 1
+book free - next - limit 0
+dials threshold 131072 trim 131072 mapped 0 bytes 0
+Arena 0:
+system bytes     =     135168
+in use bytes     =        704
+Arena 1:
+system bytes     =     135168
+in use bytes     =       3440
+Total (incl. mmap):
+system bytes     =     270336
+in use bytes     =       4144
+max mmap regions =          0
+max mmap bytes   =          0
+";

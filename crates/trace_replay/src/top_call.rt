@@ -1,10 +1,9 @@
 //! The top call.
 
-ghost use Rattle.std.specs.Prelude.{◌≡◌, ◌≤◌, ℕ, List, vec_len, IfSome, MatchResult, Ok};
-ghost use Rattle.chunk_tags.specs.Tunables.{IsTuned};
+ghost use Rattle.std.specs.Prelude.{◌≡◌, ℕ, List, vec_len, MatchResult, Ok, IsOk};
 ghost use Rattle.trace_text.specs.Grammar.{threads};
-ghost use Rattle.trace_replay.specs.Asked.{served_of};
-ghost use Rattle.trace_replay.specs.Headline.{Told, TellsInput, Answers, AnswersJob, LeavesSource, LeavesSink, IsServed};
+ghost use Rattle.trace_replay.specs.Asked.{served_of, IsServable};
+ghost use Rattle.trace_replay.specs.Headline.{Told, TellsInput, Answers, AnswersJob, LeavesSource, LeavesSink, IsServed, IsFaultless, IsDoneOrShort};
 ghost use Rattle.trace_replay.specs.Tiling.{ShowsTiles};
 ghost use Rattle.trace_replay.specs.SerialText.{job_of, verdict};
 
@@ -27,8 +26,7 @@ fn serve<S: Source, W: Sink, K: Kernel>(
     kernels: Vec<K>,
 ) -> Exit
     requires ports { vec_len kernels ≡ threads }
-    requires tuned { IsTuned asked.now.tunables }
-    requires few { IfSome asked.now.generated (λ made. made.lines ≤ 1000000) }
+    requires servable { IsServable asked.now }
     ensures source { LeavesSource S.supply asked.now.generated source.old result source.new }
     ensures sink { LeavesSink W.store sink.old result sink.new }
     ensures told { (bytes : List ℕ) →
@@ -90,8 +88,15 @@ pub fn run<S: Source, W: Sink, K: Kernel, G: Gate>(
     ensures job { (bytes : List ℕ) → TellsInput S.supply (served_of words.now) source.old bytes →
         AnswersJob (job_of (served_of words.now) bytes) result }
 
-    // Behind each line of a run whose text was written main is sound and fills its ranges, and
-    // each used chunk stands in one place.
+    // Where the words and the bytes give a job, and no fault is counted, the run is done, or the
+    // memory of the program itself ran out, whatever the ports are.
+    ensures done { (bytes : List ℕ) → TellsInput S.supply (served_of words.now) source.old bytes →
+        IsOk (job_of (served_of words.now) bytes) →
+        IsFaultless S.supply W.store source.old sink.old source.new sink.new →
+        IsDoneOrShort result }
+
+    // Behind each line of a run whose text was written each arena is sound and fills its ranges,
+    // each used chunk stands in one place, and blocks are what was asked for.
     ensures tiled { (bytes : List ℕ) →
         Told S.supply K.port (served_of words.now) source.old kernels.items bytes →
         result ≡ Exit.Done → ShowsTiles K.port kernels.items (job_of (served_of words.now) bytes) }

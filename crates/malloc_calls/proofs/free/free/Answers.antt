@@ -1,10 +1,11 @@
 use Rattle.std.proofs.Common.{◌≡◌, ◌∙◌, Some, refl, ap, sym, arith}
 use Rattle.chunk_tags.specs.declared.block.Block.{Block}
 use Rattle.malloc_calls.specs.Names.{block_at}
-use Rattle.malloc_calls.specs.Places.{in_own, in_cache}
-use Rattle.malloc_calls.proofs.Going.{does_here}
+use Rattle.malloc_calls.specs.Own.{in_own}
+use Rattle.arena_holds.specs.Places.{in_cache}
+use Rattle.arena_holds.proofs.Going.{does_here}
 use Rattle.malloc_calls.proofs.Calling.{carries_cache, carries_given, own_unnamed}
-use Rattle.malloc_calls.proofs.Carrying.{carries_err, carries_here, carries_then, carries_as, served_after, served_fewer}
+use Rattle.arena_holds.proofs.Carrying.{carries_err, carries_here, carries_then, carries_as, served_after, served_fewer}
 use Rattle.malloc_calls.proofs.Releases.{free_does, free_unmaps}
 use Rattle.malloc_calls.proofs.free.free.Goals as goal
 
@@ -43,7 +44,7 @@ pub returns-in-None-clause-does : goal.returns-in-None-clause-does
 returns-in-None-clause-does g c =
     let at : block_at c.args.own.now.names c.args.name ≡ Some c.unwrap-block.result = cc in
     let same : c.unwrap-block.result ≡ c.in-Some.named.now = cc c.in-Some.ensures.block in
-    free_unmaps c.args.who.now c.args.name c.unwrap-block.result c.args.own.now c.take.new.self at (ap (λ (x : Block). x.arena) same ∙ c.in-None.is)
+    free_unmaps c.args.who.now c.args.who.now.thread c.args.name c.unwrap-block.result c.args.own.now c.take.new.self at (ap (λ (x : Block). x.arena) same ∙ c.in-None.is)
     c.take.ensures.rest c.free_mapped.ensures.frees
 
 pub returns-in-None-clause-carries : goal.returns-in-None-clause-carries
@@ -57,5 +58,5 @@ returns-in-None-clause-carries g c =
 pub returns-in_ok-open_cache-in-Some-arena-clause-does : goal.returns-in_ok-open_cache-in-Some-arena-clause-does
 returns-in_ok-open_cache-in-Some-arena-clause-does g c =
     let at : block_at c.args.own.now.names c.args.name ≡ Some c.in-Some.named.now = sym c.in-Some.ensures.block in
-    free_does _ _ _ _ _ _ c.in-Some-arena.a c.args.name c.in-Some.named.now c.args.own.now c.open_cache.new.cache c.free_chunk.result
+    free_does _ _ _ _ _ _ c.args.who.now.thread c.in-Some-arena.a c.args.name c.in-Some.named.now c.args.own.now c.open_cache.new.cache c.free_chunk.result
     c.free_chunk.new.own at c.in-Some-arena.is c.in_ok-open_cache-in-Some-arena.ensures.does c.free_chunk.ensures.does

@@ -1,8 +1,9 @@
 use Rattle.std.proofs.Common.{◌≡◌, Some, refl, arith}
-use Rattle.malloc_calls.specs.Names.{IsHeld, block_at}
-use Rattle.malloc_calls.specs.Places.{both_of, in_cache}
+use Rattle.arena_holds.specs.Blocks.{IsHeld}
+use Rattle.malloc_calls.specs.Names.{block_at}
+use Rattle.arena_holds.specs.Places.{both_of, in_cache}
 use Rattle.malloc_calls.proofs.Calling.{own_unnamed, carries_unnamed}
-use Rattle.malloc_calls.proofs.Carrying.{served_fewer}
+use Rattle.arena_holds.proofs.Carrying.{served_fewer}
 use Rattle.malloc_calls.proofs.Releases.{freed_to, back_carries, back_names, back_held, held_some}
 use Rattle.malloc_calls.proofs.free.free_chunk.Goals as goal
 

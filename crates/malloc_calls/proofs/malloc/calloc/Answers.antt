@@ -1,8 +1,8 @@
-use Rattle.std.proofs.Common.{sym, ◌∙◌}
+use Rattle.std.proofs.Common.{◌*◌, sym, ◌∙◌, arith}
 use Rattle.malloc_calls.proofs.Calling.{carries_cache}
-use Rattle.malloc_calls.proofs.Carrying.{carries_err}
-use Rattle.malloc_calls.proofs.Going.{does_here}
-use Rattle.malloc_calls.proofs.Supplies.{named_does, named_carries}
+use Rattle.arena_holds.proofs.Carrying.{carries_err}
+use Rattle.arena_holds.proofs.Going.{does_here}
+use Rattle.malloc_calls.proofs.Supplies.{named_does, named_carries, padded_small}
 use Rattle.malloc_calls.proofs.malloc.calloc.Goals as goal
 
 pub returns-in_default-clause-does : goal.returns-in_default-clause-does
@@ -22,3 +22,9 @@ pub returns-clause-carries : goal.returns-clause-carries
 returns-clause-carries g c =
     named_carries c.args.name c.args.own.now c.in_ok-got.got c.answer.new.names g.met.P.Places.laws.same c.requires.room c.requires.empty
     c.in_ok-got.ensures.supplies c.answer.ensures.names
+
+pub overflow_mul-n : goal.overflow_mul-n
+overflow_mul-n g c = omega (arith, padded_small (c.args.n * c.args.size) _ (sym c.product_size.ensures ∙ c.in-Some.is))
+
+pub fresh_supply-requires-clause-bytes : goal.fresh_supply-requires-clause-bytes
+fresh_supply-requires-clause-bytes g c = omega (arith, padded_small (c.args.n * c.args.size) _ (sym c.product_size.ensures ∙ c.in-Some.is))

@@ -1,10 +1,12 @@
-use Rattle.std.proofs.Common.{◌≡◌, true, false, sym, ◌∙◌, arith}
+use Rattle.std.proofs.Common.{◌≡◌, ◌-◌, ◌^◌, true, false, sym, ◌∙◌, arith}
+use Rattle.std.proofs.lemmas.Bool.{leb-true}
 use Rattle.std.proofs.lemmas.Bool.Decides.{nat_tests}
 use Rattle.std.specs.Prelude.{nat_le}
+use Rattle.arena_rules.specs.Align.{request_with_lead}
 use Rattle.malloc_calls.proofs.Calling.{carries_cache}
-use Rattle.malloc_calls.proofs.Carrying.{carries_err}
-use Rattle.malloc_calls.proofs.Going.{does_here}
-use Rattle.malloc_calls.proofs.Supplies.{named_does, named_carries, is_alignment}
+use Rattle.arena_holds.proofs.Carrying.{carries_err}
+use Rattle.arena_holds.proofs.Going.{does_here}
+use Rattle.malloc_calls.proofs.Supplies.{named_does, named_carries, is_alignment, padded_chunk}
 use Rattle.malloc_calls.proofs.malloc.posix_memalign.Goals as goal
 
 pub returns-in_default-clause-does : goal.returns-in_default-clause-does
@@ -36,15 +38,18 @@ returns-then-not-has_lead_in_range-clause-does g c =
     rw (sym c.request_size.ensures ∙ c.in-Some.is, sym c.if-not-is_memalign.ensures, high, sym c.if-not-has_lead_in_range.ensures)
     (does_here _ _)
 
-pub aligned_supply-requires-clause-align : goal.aligned_supply-requires-clause-align
-aligned_supply-requires-clause-align g c = λ k l.
+pub supply_from_arena-requires-clause-act : goal.supply_from_arena-requires-clause-act
+supply_from_arena-requires-clause-act g c = λ k l.
     let high : nat_le c.args.align 16 ≡ false = grind (arith, nat_tests, c.if-align-le-LEAST_ALIGNMENT.false) in
-    is_alignment c.args.align (sym c.if-not-is_memalign.ensures) high
+    let most : nat_le (request_with_lead c.args.align c.in-Some.nb) (2 ^ 63 - 1) ≡ true = sym c.if-not-has_lead_in_range.ensures in (
+      padded_chunk c.args.size c.in-Some.nb (sym c.request_size.ensures ∙ c.in-Some.is),
+      (is_alignment c.args.align (sym c.if-not-is_memalign.ensures) high, leb-true _ _ most),
+    )
 
 pub returns-in_err-got-2-clause-carries : goal.returns-in_err-got-2-clause-carries
 returns-in_err-got-2-clause-carries g c =
     carries_err c.from_residual-in_err-got-2.result c.from_residual-in_err-got-2.ensures.0
-    (carries_cache g.met.P.Places.laws.same c.args.own.now.cache c.aligned_supply.new.cache c.args.own.now.names c.in_err-got-2.ensures.short)
+    (carries_cache g.met.P.Places.laws.same c.args.own.now.cache c.supply_from_arena.new.cache c.args.own.now.names c.in_err-got-2.ensures.short)
 
 pub returns-clause-does : goal.returns-clause-does
 returns-clause-does g c =

@@ -1,6 +1,6 @@
 use Rattle.std.proofs.Common.{refl, arith}
 use Rattle.malloc_calls.specs.Reallocs.{moved_from_mapping}
-use Rattle.malloc_calls.proofs.Carrying.{served_fewer}
+use Rattle.arena_holds.proofs.Carrying.{served_fewer}
 use Rattle.malloc_calls.proofs.Resettlings.{nothing_got, moved_out, short_before, served_own, served_got}
 use Rattle.malloc_calls.proofs.realloc.move_from_mapping.Goals as goal
 

@@ -1,8 +1,8 @@
 use Rattle.std.proofs.Common.{arith}
-use Rattle.malloc_calls.specs.Places.{in_cache}
+use Rattle.arena_holds.specs.Places.{in_cache}
 use Rattle.malloc_calls.specs.Reallocs.{resize_in_arena}
 use Rattle.malloc_calls.proofs.Calling.{carries_hand}
-use Rattle.malloc_calls.proofs.Carrying.{served_after, served_fewer}
+use Rattle.arena_holds.proofs.Carrying.{served_after, served_fewer}
 use Rattle.malloc_calls.proofs.Resettlings.{settles_then, short_then, short_before}
 use Rattle.malloc_calls.proofs.realloc.realloc_in_arena.Goals as goal
 
@@ -17,7 +17,7 @@ resize_in_arena-requires-clause-served g c = λ k l.
 pub returns-in-Ok-clause-resettles : goal.returns-in-Ok-clause-resettles
 returns-in-Ok-clause-resettles g c =
     settles_then c.args.nb c.args.block c.args.cache.now c.open_cache.new.cache c.resize_in_arena.new.cache _ _ _
-    (resize_in_arena c.args.t.now 0 c.args.nb c.args.a c.args.block) c.resize_in_arena.result g.met.P.Places.laws.same c.in-Ok.ensures.does c.in-Ok.ensures.later
+    (resize_in_arena c.args.t.now c.args.who.now.thread c.args.size c.args.nb c.args.a c.args.block) c.resize_in_arena.result g.met.P.Places.laws.same c.in-Ok.ensures.does c.in-Ok.ensures.later
     c.in-Ok.ensures.carries c.resize_in_arena.ensures.resettles
 
 pub returns-in-Ok-clause-short : goal.returns-in-Ok-clause-short

@@ -14,12 +14,12 @@ keep_or_move-requires-clause-served g c = λ k l.
 
 pub returns-in-Ok-clause-resettles : goal.returns-in-Ok-clause-resettles
 returns-in-Ok-clause-resettles g c =
-    remapped_to 0 c.args.nb c.args.block c.in-Ok.changed c.args.cache.now c.remapped.result
+    remapped_to c.args.who.now.thread c.args.size c.args.nb c.args.block c.in-Ok.changed c.args.cache.now c.remapped.result
     (sym c.has_length.ensures ∙ c.if-has_length.false) (c.remapped.ensures c.args.block refl) c.in-Ok.ensures.remaps g.met.P.Places.laws.same
 
 pub returns-in-Err-clause-resettles : goal.returns-in-Err-clause-resettles
 returns-in-Err-clause-resettles g c =
-    remap_refused c.args.t.now c.args.who.now 0 c.args.nb c.args.block c.in-Err.block c.args.cache.now c.keep_or_move.new.cache _ c.keep_or_move.result
+    remap_refused c.args.t.now c.args.who.now c.args.who.now.thread c.args.size c.args.nb c.args.block c.in-Err.block c.args.cache.now c.keep_or_move.new.cache _ c.keep_or_move.result
     (sym c.has_length.ensures ∙ c.if-has_length.false) c.in-Err.ensures.remaps g.met.P.Places.laws.same c.keep_or_move.ensures.resettles
 
 pub returns-in-Err-clause-short : goal.returns-in-Err-clause-short

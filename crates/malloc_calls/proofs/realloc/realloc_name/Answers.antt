@@ -1,9 +1,9 @@
 use Rattle.std.proofs.Common.{◌≡◌, Some, refl, arith}
 use Rattle.malloc_calls.specs.Names.{block_at}
-use Rattle.malloc_calls.specs.Places.{both_of, in_cache}
+use Rattle.arena_holds.specs.Places.{both_of, in_cache}
 use Rattle.malloc_calls.specs.Reallocs.{realloc_in}
 use Rattle.malloc_calls.proofs.Calling.{own_unnamed, carries_renamed}
-use Rattle.malloc_calls.proofs.Carrying.{served_fewer}
+use Rattle.arena_holds.proofs.Carrying.{served_fewer}
 use Rattle.malloc_calls.proofs.Resettlings.{settled_does}
 use Rattle.malloc_calls.proofs.realloc.realloc_name.Goals as goal
 
@@ -17,7 +17,7 @@ realloc_block-requires-clause-served g c = λ k l.
 pub returns-in-Ok-clause-does : goal.returns-in-Ok-clause-does
 returns-in-Ok-clause-does g c = λ b at.
     let same : c.unwrap-block.result ≡ b = cc in
-    settled_does (λ x. realloc_in c.args.t.now 0 c.args.nb x x.arena c.args.own.now.cache) c.args.name b c.unwrap-block.result c.args.own.now _ c.take.new.self
+    settled_does (λ x. realloc_in c.args.t.now c.args.who.now.thread c.args.size c.args.nb x x.arena c.args.own.now.cache) c.args.name b c.unwrap-block.result c.args.own.now _ c.take.new.self
     c.put.new.self same c.take.ensures.rest c.put.ensures c.in-Ok.ensures.resettles
 
 pub returns-in-Ok-clause-carries : goal.returns-in-Ok-clause-carries

@@ -9,18 +9,18 @@ move_from_arena-requires-clause-served g c = λ k l.
 pub returns-in-Kept-clause-resettles : goal.returns-in-Kept-clause-resettles
 returns-in-Kept-clause-resettles g c =
     rw c.kept_block.ensures
-    (resized_kept 0 c.args.nb c.args.a c.args.block c.in-Kept.block c.args.cache.now c.origin.result c.in_ok-hold.field-0.resized c.in-Kept.is c.origin.ensures
+    (resized_kept c.args.who.now.thread c.args.size c.args.nb c.args.a c.args.block c.in-Kept.block c.args.cache.now c.origin.result c.in_ok-hold.field-0.resized c.in-Kept.is c.origin.ensures
     c.in_ok-hold.ensures.resizes)
 
 pub returns-in-Moved-clause-resettles : goal.returns-in-Moved-clause-resettles
 returns-in-Moved-clause-resettles g c =
     rw c.got_block.ensures
-    (resized_moved 0 c.args.nb c.args.a c.args.block c.in-Moved.block c.args.cache.now c.origin-in-Moved.result c.in_ok-hold.field-0.resized c.in-Moved.is
+    (resized_moved c.args.who.now.thread c.args.size c.args.nb c.args.a c.args.block c.in-Moved.block c.args.cache.now c.origin-in-Moved.result c.in_ok-hold.field-0.resized c.in-Moved.is
     c.origin-in-Moved.ensures c.in_ok-hold.ensures.resizes)
 
 pub returns-in-Refused-clause-resettles : goal.returns-in-Refused-clause-resettles
 returns-in-Refused-clause-resettles g c =
-    resized_refused 0 c.args.nb c.args.a c.args.block c.in-Refused.block c.args.cache.now c.move_from_arena.new.cache _ c.in_ok-hold.field-0.resized
+    resized_refused c.args.who.now.thread c.args.size c.args.nb c.args.a c.args.block c.in-Refused.block c.args.cache.now c.move_from_arena.new.cache _ c.in_ok-hold.field-0.resized
     c.move_from_arena.result c.in-Refused.is c.in_ok-hold.ensures.resizes c.move_from_arena.ensures.resettles
 
 pub returns-in-Refused-clause-short : goal.returns-in-Refused-clause-short

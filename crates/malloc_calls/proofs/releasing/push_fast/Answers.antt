@@ -1,4 +1,4 @@
-use Rattle.malloc_calls.proofs.Carrying.{unseen_then, unseen_keeps}
+use Rattle.arena_holds.proofs.Carrying.{unseen_then, unseen_keeps}
 use Rattle.malloc_calls.proofs.releasing.push_fast.Goals as goal
 
 pub push-requires-clause-served : goal.push-requires-clause-served

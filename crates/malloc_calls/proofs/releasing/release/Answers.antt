@@ -1,5 +1,5 @@
 use Rattle.std.proofs.Common.{sym, arith}
-use Rattle.malloc_calls.proofs.Carrying.{served_fewer}
+use Rattle.arena_holds.proofs.Carrying.{served_fewer}
 use Rattle.malloc_calls.proofs.Releases.{released_cached, released_past, short_past}
 use Rattle.malloc_calls.proofs.releasing.release.Goals as goal
 

@@ -1,5 +1,5 @@
 use Rattle.std.proofs.Common.{false, sym, ◌∙◌, arith}
-use Rattle.malloc_calls.specs.Places.{both_of}
+use Rattle.arena_holds.specs.Places.{both_of}
 use Rattle.malloc_calls.proofs.Releases.{released_fast, released_given, short_given, short_pushed}
 use Rattle.malloc_calls.proofs.releasing.release_past_cache.Goals as goal
 

@@ -1,6 +1,6 @@
 use Rattle.malloc_calls.specs.Calls.{from_cache}
 use Rattle.malloc_calls.specs.Own.{newest_of_size}
-use Rattle.malloc_calls.proofs.Carrying.{served_after}
+use Rattle.arena_holds.proofs.Carrying.{served_after}
 use Rattle.malloc_calls.proofs.Supplies.{supplies_opened, short_opened}
 use Rattle.malloc_calls.proofs.supplying.plain_supply.Goals as goal
 
@@ -9,7 +9,8 @@ supply_open-requires-clause-served g c = λ k l. served_after g.met.P.Places.law
 
 pub returns-clause-supplies : goal.returns-clause-supplies
 returns-clause-supplies g c =
-    supplies_opened 0 c.args.nb c.args.cache.now c.open_cache.new.cache c.supply_open.new.cache _ (λ x. from_cache 0 c.args.nb (newest_of_size c.args.nb x) x)
+    supplies_opened c.args.who.now.thread c.args.nb c.args.cache.now c.open_cache.new.cache c.supply_open.new.cache _
+    (λ x. from_cache c.args.t.now c.args.who.now.thread c.args.bytes c.args.nb (newest_of_size c.args.nb x) x)
     c.supply_open.result c.in_ok-open_cache.ensures.does c.in_ok-open_cache.ensures.later c.in_ok-open_cache.ensures.carries c.supply_open.ensures.supplies
 
 pub returns-clause-short : goal.returns-clause-short

@@ -1,30 +1,24 @@
-use Rattle.std.proofs.Common.{◌≡◌, Bool, not, sym, ap, subst, ◌∙◌}
-use Rattle.std.specs.Prelude.{IsTrue}
-use Rattle.std.proofs.lemmas.Result.{err_from_is_err_and}
-use Rattle.trace_replay.specs.World.{World, opening_world}
-use Rattle.trace_replay.specs.Processes.{world_of}
-use Rattle.trace_replay.specs.Places.{shown_of}
-use Rattle.trace_replay.specs.SerialText.{first_world}
-use Rattle.trace_replay.proofs.Reports.{text_served, refused_text, tiles_given}
+use Rattle.std.proofs.lemmas.Result.{IfOk-weaker}
+use Rattle.trace_replay.proofs.FirstThreads.{first_tells}
+use Rattle.trace_replay.proofs.LineThreads.{allowed_threads}
+use Rattle.trace_replay.proofs.Reports.{on_ok, text_served, tiles_given}
 use Rattle.trace_replay.proofs.text.text_over.Goals as goal
 
-pub returns-in_err-replay-clause-told : goal.returns-in_err-replay-clause-told
-returns-in_err-replay-clause-told g c h =
-    let first : world_of c.in_ok-process.process ≡ first_world c.args.asked.now.tunables c.args.kernel = c.in_ok-process.ensures.world ∙ ap (opening_world c.args.asked.now.tunables) c.new.ensures in
-    let p = err_from_is_err_and c.from_residual-in_err-replay.result c.from_residual-in_err-replay.ensures.1 in
-    rw (p.1, p.2) (refused_text _ c.args.asked.now.summary _ _ _ _ _ _ c.in_ok-process.ensures.tunables first (c.in_err-replay.ensures.told
-    (subst (λ (w : World _). IsTrue (g.K.Kernel.port.tells w.serial.space.kernel)) (sym first) h)))
+pub snapshot-requires-clause-threads : goal.snapshot-requires-clause-threads
+snapshot-requires-clause-threads g c = λ k l. allowed_threads _ c.requires.allowed
 
 pub returns-clause-told : goal.returns-clause-told
-returns-clause-told g c h =
-    let first : world_of c.in_ok-process.process ≡ first_world c.args.asked.now.tunables c.args.kernel = c.in_ok-process.ensures.world ∙ ap (opening_world c.args.asked.now.tunables) c.new.ensures in
-    text_served _ c.args.asked.now.summary _ _ _ _ _ _ _ _ _ c.in_ok-shown.shown c.in_ok-process.ensures.tunables first c.in_ok-sheet.ensures.blank
-    (c.in_ok-replay.ensures.told (subst (λ (w : World _). IsTrue (g.K.Kernel.port.tells w.serial.space.kernel)) (sym first) h))
-    (c.in_ok-shown.ensures.shown ∙ ap (λ (empty : Bool). shown_of (not empty) (world_of c.replay.new.process)) c.is_empty.ensures)
-    c.in_ok-finish.ensures
+returns-clause-told g c tell =
+    let process = c.in_ok-process.process in
+    let tells = first_tells g.K.Kernel.port c.args.asked.now.tunables c.args.kernels.items process.threads.items process.serial c.in_ok-process.ensures.world tell in
+    IfOk-weaker c.finish.result _ _
+    (λ text wrote.
+    text_served g.K.Kernel.port c.args.asked.now.summary c.args.asked.now.tunables _ c.args.lines.now c.args.kernels.items _ _ _ c.replay.new.sheet text.items c.in_ok-shown.shown c.in_ok-process.ensures.tunables
+    c.in_ok-process.ensures.world c.in_ok-sheet.ensures.blank (c.in_ok-replay.ensures.told tells) c.in_ok-shown.ensures.shown wrote)
+    c.finish.ensures
 
 pub returns-clause-tiled : goal.returns-clause-tiled
-returns-clause-tiled g c h =
-    let first : world_of c.in_ok-process.process ≡ first_world c.args.asked.now.tunables c.args.kernel = c.in_ok-process.ensures.world ∙ ap (opening_world c.args.asked.now.tunables) c.new.ensures in
-    tiles_given _ _ _ _ _ _ c.in_ok-process.ensures.tunables first
-    (c.in_ok-replay.ensures.tiled (subst (λ (w : World _). IsTrue (g.K.Kernel.port.tells w.serial.space.kernel)) (sym first) h))
+returns-clause-tiled g c tell =
+    let process = c.in_ok-process.process in
+    let tells = first_tells g.K.Kernel.port c.args.asked.now.tunables c.args.kernels.items process.threads.items process.serial c.in_ok-process.ensures.world tell in
+    on_ok c.finish.result (tiles_given _ _ _ _ _ _ c.in_ok-process.ensures.tunables c.in_ok-process.ensures.world (c.in_ok-replay.ensures.tiled tells))

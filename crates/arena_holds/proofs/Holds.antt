@@ -1,0 +1,275 @@
+-- What a hold of an arena needs of what was lent, and what it keeps.
+use Rattle.std.proofs.Common.{◌≡◌, ℕ, ◌+◌, ◌-◌, ◌≤◌, Bool, true, false, ◌&&◌, cond, List, [], Option, Some, None, inl, inr, Result, Ok, Err, refl, sym, ap, ◌∙◌, subst, arith}
+use Rattle.std.specs.Prelude.{nat_eq, IfSome, IsSome, IfOk, IfErr, OnOk, OnErr}
+use Rattle.std.proofs.lemmas.Bool.{ltb-false}
+use Rattle.chunk_tags.specs.BinOrder.{once, same_chunk}
+use Rattle.chunk_tags.specs.Tunables.{IsTuned}
+use Rattle.chunk_tags.specs.declared.block.Block.{Block}
+use Rattle.chunk_tags.specs.declared.refusals.NoMemory.{NoMemory}
+use Rattle.chunk_tags.specs.declared.tiles.Chunk.{Chunk}
+use Rattle.chunk_tags.specs.declared.tunables.Tunables.{Tunables}
+use Rattle.address_space.specs.Spaces.{map_length, map_start}
+use Rattle.address_space.specs.declared.space.Space.{Space}
+use Rattle.thread_cache.specs.Caches.{CacheValue, structure_of}
+use Rattle.thread_cache.specs.Held.{IsSound as IsSoundCache}
+use Rattle.arena_rules.specs.PlainArena.{Plain, IsSound}
+use Rattle.arena_rules.specs.MainPlaces.{covers, IsPlaced}
+use Rattle.arena_rules.specs.Rules.{heap_windows_of}
+use Rattle.arena_rules.proofs.Covered.{covers_adds}
+use Rattle.arena_rules.specs.Growth as growth
+use Rattle.fast_bins.specs.FastPorts.{Fast}
+use Rattle.mapped_chunks.specs.DialPorts.{Dialled}
+use Rattle.consolidate_trim.specs.Holds.{Chunks, no_chunk, one_chunk, IsBacked, times_cached}
+use Rattle.consolidate_trim.specs.Outside.{Means, Outside, ways}
+use Rattle.consolidate_trim.proofs.HoldSteps.{block_is, block_other}
+use Rattle.arena_core.specs.Arenas.{Held, held, Records, RecordsShort, FailsShort, GivesShort}
+use Rattle.arena_core.specs.Asking.{IsReady, IsSearchable, AllowsMaps, beside_arena}
+use Rattle.arena_core.specs.Ledgers.{stage}
+use Rattle.arena_core.specs.Replay.{IsReplay, chunk_at}
+use Rattle.arena_core.specs.Shown.{MappedShown, ShowsMapped, EndsCounted, StopsCounted}
+use Rattle.arena_core.specs.Journal.{Recorded}
+use Rattle.arena_core.proofs.Mapped.{IsFramed, walked_frame, walked_to_end, walked_short, rules_map_within}
+use Rattle.arena_core.specs.declared.found.Found.TheVariants as finds
+use Rattle.arena_core.specs.declared.journal.Act.{Act}
+use Rattle.arena_core.specs.declared.journal.Act.TheVariants as acts
+use Rattle.arena_core.specs.declared.journal.Who.{Who}
+use Rattle.arena_core.specs.declared.take.GiveShort.{GiveShort}
+use Rattle.arena_holds.specs.Places.{KeptArena, PlaceWays, PlaceLaws, IsLent, IsServed, Carries, standing, Hands, weight_of, in_cache, as_chunk_of, as_mapped, as_mapped_bytes, as_mapped_byte, given_byte, Covers, new_arena}
+use Rattle.arena_holds.specs.Holding.{SearchesArena}
+use Rattle.arena_holds.specs.Returning.{IsReturn, IsUnlocked, IsAccounted, IsNoted}
+use Rattle.arena_holds.proofs.CachedBlocks.{in_lists-nothing}
+
+-- ---- what a block weighs
+
+-- as a chunk of its arena
+pub chunk_is : (a : ℕ) (e : Chunk) (b : Block) → b.arena ≡ Some a → as_chunk_of a e b ≡ once e (chunk_at b.addr b.size)
+chunk_is a e b arena =
+    let c : Chunk = chunk_at b.addr b.size in
+    ap {B = ℕ} (λ (o : Option ℕ). cond (same_chunk e c && (elim o [ None ↦ false | Some n ↦ nat_eq n a ])) 1 0) arena ∙ block_is a e c
+
+pub chunk_other : (a n : ℕ) (e : Chunk) (b : Block) → b.arena ≡ Some a → (n ≡ a → ⊥) → as_chunk_of n e b ≡ 0
+chunk_other a n e b arena other =
+    let c : Chunk = chunk_at b.addr b.size in
+    ap {B = ℕ} (λ (o : Option ℕ). cond (same_chunk e c && (elim o [ None ↦ false | Some x ↦ nat_eq x n ])) 1 0) arena ∙ block_other a n e c other
+
+pub mapped_none : (b : Block) → IsSome b.arena → as_mapped b ≡ 0
+mapped_none b some = rw some refl
+
+pub bytes_none : (b : Block) → IsSome b.arena → as_mapped_bytes b ≡ 0
+bytes_none b some = rw some refl
+
+pub byte_none : (n : ℕ) (b : Block) → IsSome b.arena → as_mapped_byte n b ≡ 0
+byte_none n b some = rw some refl
+
+-- the chunks of an arena in a cache
+pub cached_is : (n : ℕ) (c : CacheValue) (e : Chunk) → in_cache c (as_chunk_of n e) ≡ times_cached n c e + weight_of (structure_of c) (as_chunk_of n e)
+cached_is n c e = refl
+
+-- ---- before
+
+pub ready : {P H D K : Type 0} {ways : PlaceWays P H D} {fast : Fast H} {dials : Dialled H} {p : P} {a : ℕ} {port : H} {k : KeptArena} {t : Tunables} {hands : Hands} {space : Space K}
+    (m : Means H K) → m.fast ≡ fast → IsLent ways fast dials p a port k → IsServed ways t hands (standing p space) → (cache : CacheValue) →
+    IsReady m t (stage k.arena (beside_arena port cache space) [])
+ready {k = k} {hands = hands} m same is s cache = record {
+  backed = record { sound = is.sound; used = λ e. rw same (omega (arith, is.backed hands s.served e)) };
+  placed = is.placed;
+  heaps = λ other. subst (λ (x : Tunables). k.arena.windows ≡ heap_windows_of x) s.tunables (is.heaps other);
+  windows = s.windows;
+}
+
+pub backed : {P H D K : Type 0} {ways : PlaceWays P H D} {fast : Fast H} {dials : Dialled H} {p : P} {a : ℕ} {port : H} {k : KeptArena} {t : Tunables} {space : Space K}
+    (b : Block) → b.arena ≡ Some a → IsLent ways fast dials p a port k → IsServed ways t (λ weigh. weigh b) (standing p space) →
+    IsBacked fast k.arena port (one_chunk (chunk_at b.addr b.size))
+backed {a = a} b arena is s = record { sound = is.sound; used = λ e. omega (arith, is.backed (λ weigh. weigh b) s.served e, chunk_is a e b arena) }
+
+pub allows : {P H D K : Type 0} {ways : PlaceWays P H D} {fast : Fast H} {dials : Dialled H} {p : P} {a : ℕ} {port : H} {k : KeptArena} {t : Tunables} {hands : Hands} {space : Space K} →
+    IsLent ways fast dials p a port k → IsServed ways t hands (standing p space) → AllowsMaps dials port space
+allows {space = space} is s = record {
+  allowed = λ len within. is.maps space.mapped s.others len s.notes (ltb-false map_length (space.mapped + len) within);
+}
+
+pub searchable : {t : Tunables} → IsTuned t → IsSearchable t
+searchable tuned = record { pad = tuned.pad; fast = tuned.fast; main = tuned.main; heap = tuned.heap_most }
+
+-- ---- after
+
+-- the arena after a hold, as it is given back
+pub record IsLeft (before after : Plain) : Type 0 where
+  pub number : after.number ≡ before.number
+  pub sound : IsSound after
+  pub placed : IsPlaced after
+  pub windows : after.windows ≡ before.windows
+
+pub left_searched : {H K : Type 0} (m : Means H K) (t : Tunables) (who : Who) (act : Act) (before after : Held H K) (result : Result (Option Block) NoMemory) → IsSound before.arena → IsPlaced before.arena →
+    IfOk result (λ block. SearchesArena m t who act before block after) → OnErr result (FailsShort m t who act before no_chunk after) → IsLeft before.arena after.arena
+left_searched m t who act before after (Ok block) sound placed searches short =
+    let b = searches.records.balances in record { number = b.number; sound = b.sound; placed = b.placed placed; windows = b.windows }
+left_searched {H = H} {K = K} m t who act before after (Err e) sound placed searches short = elim short [
+  | inl same ↦ record {
+    number = ap (λ (h : Held H K). h.arena.number) same;
+    sound = subst (λ (h : Held H K). IsSound h.arena) (sym same) sound;
+    placed = subst (λ (h : Held H K). IsPlaced h.arena) (sym same) placed;
+    windows = ap (λ (h : Held H K). h.arena.windows) same;
+  }
+  | inr records ↦ let b = records.loses in record { number = b.number; sound = b.sound; placed = b.placed placed; windows = b.windows }
+]
+
+pub left_given : {H K : Type 0} (m : Means H K) (t : Tunables) (who : Who) (b : Block) (before after : Held H K) (result : Result (Unit {0}) GiveShort) → IsSound before.arena → IsPlaced before.arena →
+    OnOk result (Records m t who (acts.Give b.addr b.size) before (one_chunk (chunk_at b.addr b.size)) finds.Nowhere after) →
+    IfErr result (λ e. GivesShort m t who b before e.back after) → IsLeft before.arena after.arena
+left_given m t who b before after (Ok done) sound placed records short =
+    let l = records.balances in record { number = l.number; sound = l.sound; placed = l.placed placed; windows = l.windows }
+left_given {H = H} {K = K} m t who b before after (Err e) sound placed records short =
+    let cases : (o : Option Block) → GivesShort m t who b before o after → IsLeft before.arena after.arena = elim [
+      | Some back ↦ λ h. record {
+        number = ap (λ (x : Held H K). x.arena.number) h.1;
+        sound = subst (λ (x : Held H K). IsSound x.arena) (sym h.1) sound;
+        placed = subst (λ (x : Held H K). IsPlaced x.arena) (sym h.1) placed;
+        windows = ap (λ (x : Held H K). x.arena.windows) h.1;
+      }
+      | None ↦ λ h. let l = h.loses in record { number = l.number; sound = l.sound; placed = l.placed placed; windows = l.windows }
+    ] in
+    cases e.back short
+
+-- it may be given back
+pub is_return : {P H D : Type 0} (ways : PlaceWays P H D) (fast : Fast H) (dials : Dialled H) (words : Dialled D) (p q : P) (a : ℕ) (port : H) (k k' : KeptArena) (t : Tunables) →
+    PlaceLaws ways fast dials words → ways.lent p a port (Some k) q → ways.tunables p ≡ t → IsLeft k.arena k'.arena →
+    ((start : Plain) → IsReplay t start k.journal k.arena → IsReplay t start k'.journal k'.arena) → IsReturn ways k' q
+is_return ways fast dials words p q a port k k' t laws lent tuned left replay =
+    let is : IsLent ways fast dials p a port k = laws.lends p q a port k lent in
+    record {
+      places = p;
+      arena = a;
+      port = port;
+      before = k;
+      lent = lent;
+      number = left.number ∙ is.number;
+      sound = left.sound;
+      placed = left.placed;
+      heaps = λ other. left.windows ∙ is.heaps (subst (λ (n : ℕ). nat_eq n 0 ≡ false) left.number other);
+      replays = subst (λ (x : Tunables). IsReplay x (new_arena x a) k'.journal k'.arena) (sym tuned) (replay (new_arena t a) (subst (λ (x : Tunables). IsReplay x (new_arena x a) k.journal k.arena) tuned is.replays));
+    }
+
+-- ---- the account of a hold
+
+pub covers_any : (exact : Bool) (n m : ℕ) → n ≡ m → Covers exact n m
+covers_any true n m e = e
+covers_any false n m e = omega (arith, e)
+
+-- what a hold has counted that was left for want of memory
+pub record IsShort {P K : Type 0} (shown : P → MappedShown) (o z : Outside P K) : Type 0 where
+  pub count : (shown o.port).count ≤ (shown z.port).count
+  pub bytes : (shown o.port).bytes ≤ (shown z.port).bytes
+  pub most : (shown z.port).count + o.space.mapped ≤ (shown o.port).count + z.space.mapped
+
+pub short_mapped : {P K : Type 0} {shown : P → MappedShown} {nb : ℕ} {o z : Outside P K} → o.space.mapped ≤ z.space.mapped → StopsCounted shown nb o z → IsShort shown o z
+short_mapped grows stops = elim stops.counts [
+  | inl same ↦
+      let count = ap (λ (s : MappedShown). s.count) same in
+      record { count = omega (arith, count); bytes = omega (arith, ap (λ (s : MappedShown). s.bytes) same); most = omega (arith, count, grows) }
+  | inr one ↦
+      let count = ap (λ (s : MappedShown). s.count) one in
+      let bytes = ap (λ (s : MappedShown). s.bytes) one in
+      record { count = omega (arith, count); bytes = omega (arith, bytes); most = omega (arith, count, bytes, stops.bytes) }
+]
+
+-- a hold leaves what a cache weighs, where chunks of arenas weigh nothing
+pub cache_same : (c d : CacheValue) (weigh : Block → ℕ) → ((b : Block) → IsSome b.arena → weigh b ≡ 0) → IfSome c IsSoundCache → IfSome d IsSoundCache → structure_of d ≡ structure_of c → in_cache d weigh ≡ in_cache c weigh
+cache_same c d weigh none sound left same =
+    omega (arith, in_lists-nothing c weigh sound none, in_lists-nothing d weigh left none, ap (λ (o : Option Block). weight_of o weigh) same)
+
+pub cache_mapped : (c d : CacheValue) → IfSome c IsSoundCache → IfSome d IsSoundCache → structure_of d ≡ structure_of c → in_cache d as_mapped ≡ in_cache c as_mapped
+cache_mapped c d sound left same = cache_same c d as_mapped mapped_none sound left same
+
+pub cache_mapped_bytes : (c d : CacheValue) → IfSome c IsSoundCache → IfSome d IsSoundCache → structure_of d ≡ structure_of c → in_cache d as_mapped_bytes ≡ in_cache c as_mapped_bytes
+cache_mapped_bytes c d sound left same = cache_same c d as_mapped_bytes bytes_none sound left same
+
+-- a window is only given further
+window_grows : {K : Type 0} (old new : Space K) (n : ℕ) → new.thread ≡ old.thread → old.mapped ≤ new.mapped → given_byte n old ≤ given_byte n new
+window_grows old new n thread le =
+    let start : ℕ = map_start old.thread in
+    let whole : old.mapped + (new.mapped - old.mapped) ≡ new.mapped = omega (arith, le) in
+    omega (
+      arith,
+      (covers_adds n).adds start old.mapped (new.mapped - old.mapped),
+      ap (covers n start) whole,
+      ap (λ t. covers n (map_start t) new.mapped) thread,
+    )
+
+-- a hold leaves no less of it
+pub framed_window : {P K : Type 0} (m : Means P K) (o z : Outside P K) (n : ℕ) → IsFramed m o z → given_byte n o.space ≤ given_byte n z.space
+framed_window m o z n f = window_grows o.space z.space n f.thread f.mapped
+
+-- ---- the account of a chunk that is given back
+
+pub account_given : {P H D K : Type 0} (ways : PlaceWays P H D) (m : Means H K) {t : Tunables} {who : Who} {k k' : KeptArena} {port left : H} {space later : Space K} (b : Block) →
+    ShowsMapped m.fast m.dials ways.shown → b.arena ≡ Some k.arena.number →
+    Records m t who (acts.Give b.addr b.size) (held k.arena port None space k.journal) (one_chunk (chunk_at b.addr b.size)) finds.Nowhere (held k'.arena left None later k'.journal) → (exact : Bool) →
+    IsAccounted ways m.fast k.arena.number exact (λ weigh. weigh b) port k (λ weigh. 0) left k'
+account_given ways m {t = t} {k = k} {k' = k'} {port = port} {left = left} {space = space} {later = later} b shows arena r exact =
+    let n : ℕ = k.arena.number in
+    let ends : EndsCounted ways.shown 0 (beside_arena port None space) (beside_arena left None later) (record { found = growth.Nowhere; arena = k'.arena }) =
+    walked_to_end m n ways.shown shows 0 (rules_map_within t (acts.Give b.addr b.size) k.arena) r.walks.walks in
+    let same = ends.none (λ d is. absurd cc) in
+    record {
+      chunks = λ e. covers_any exact _ _ (omega (arith, r.balances.kept e, chunk_is n e b arena));
+      others = λ x e other. covers_any exact _ _ (omega (arith, chunk_other n x e b arena other));
+      count = covers_any exact _ _ (omega (arith, ap (λ (s : MappedShown). s.count) same, mapped_none b (rw arena refl)));
+      bytes = covers_any exact _ _ (omega (arith, ap (λ (s : MappedShown). s.bytes) same, bytes_none b (rw arena refl)));
+    }
+
+pub noted_given : {P H D K : Type 0} (ways : PlaceWays P H D) (m : Means H K) {t : Tunables} {who : Who} {at size : ℕ} {before : Held H K} {given : Chunks} {arena : Plain} {left : H} {now : CacheValue} {later : Space K} {journal : List Recorded} →
+    ShowsMapped m.fast m.dials ways.shown → Records m t who (acts.Give at size) before given finds.Nowhere (held arena left now later journal) →
+    IsNoted ways before.outside.port left before.outside.space.mapped later.mapped
+noted_given ways m {t = t} {at = at} {size = size} {before = before} {arena = arena} {left = left} {now = now} {later = later} shows r =
+    let ends : EndsCounted ways.shown 0 before.outside (beside_arena left now later) (record { found = growth.Nowhere; arena = arena }) =
+    walked_to_end m before.arena.number ways.shown shows 0 (rules_map_within t (acts.Give at size) before.arena) r.walks.walks in
+    let frame : IsFramed m before.outside (beside_arena left now later) = walked_frame {m = m} r.walks.walks in
+    record { count = omega (arith, ap (λ (s : MappedShown). s.count) (ends.none (λ d is. absurd cc)), frame.mapped); bytes = ends.bytes }
+
+pub account_given_short : {P H D K : Type 0} (ways : PlaceWays P H D) (m : Means H K) {t : Tunables} {who : Who} {k k' : KeptArena} {port left : H} {space later : Space K} (b : Block) →
+    ShowsMapped m.fast m.dials ways.shown → b.arena ≡ Some k.arena.number →
+    RecordsShort m t who (acts.Give b.addr b.size) (held k.arena port None space k.journal) (one_chunk (chunk_at b.addr b.size)) (held k'.arena left None later k'.journal) →
+    IsAccounted ways m.fast k.arena.number false (λ weigh. weigh b) port k (λ weigh. 0) left k'
+account_given_short ways m {t = t} {k = k} {port = port} {left = left} {space = space} {later = later} b shows arena r =
+    let n : ℕ = k.arena.number in
+    let stops : StopsCounted ways.shown 0 (beside_arena port None space) (beside_arena left None later) =
+    walked_short m n ways.shown shows 0 (rules_map_within t (acts.Give b.addr b.size) k.arena) r.stops.reaches.walks in
+    let frame : IsFramed m (beside_arena port None space) (beside_arena left None later) = walked_frame {m = m} r.stops.reaches.walks in
+    let short : IsShort ways.shown (beside_arena port None space) (beside_arena left None later) = short_mapped frame.mapped stops in
+    record {
+      chunks = λ e. omega (arith, r.loses.kept e, chunk_is n e b arena);
+      others = λ x e other. omega arith;
+      count = omega (arith, short.count);
+      bytes = omega (arith, short.bytes);
+    }
+
+-- nothing changed
+pub account_none : {P H D : Type 0} (ways : PlaceWays P H D) (fast : Fast H) (a : ℕ) (hands some : Hands) (port : H) (k : KeptArena) → ((weigh : Block → ℕ) → some weigh ≤ hands weigh) →
+    IsAccounted ways fast a false hands port k some port k
+account_none ways fast a hands some port k fewer = record {
+  chunks = λ e. omega (arith, fewer (as_chunk_of a e));
+  others = λ n e other. fewer (as_chunk_of n e);
+  count = omega (arith, fewer as_mapped);
+  bytes = omega (arith, fewer as_mapped_bytes);
+}
+
+-- ---- what an unlocked hold keeps
+
+pub carries_held : {P H D K : Type 0} {ways : PlaceWays P H D} {fast : Fast H} {places new : P} {a : ℕ} {port left : H} {before after : KeptArena} (well : Bool) (given got : Hands) (space later : Space K) →
+    IsUnlocked ways fast places a port before left after new → ((exact : Bool) → (exact ≡ true → well ≡ true) → IsAccounted ways fast a exact given port before got left after) →
+    IsNoted ways port left space.mapped later.mapped → ((n : ℕ) → got (as_mapped_byte n) + given_byte n space ≤ given (as_mapped_byte n) + given_byte n later) → later.windows ≡ space.windows →
+    Carries ways well given (standing places space) got (standing new later)
+carries_held well given got space later u account noted mapped windows = record {
+  serves = λ exact known others s. u.serves exact given got others (account exact known) s;
+  notes = λ others n. u.notes space.mapped later.mapped others noted n;
+  mapped = mapped;
+  tunables = u.tunables;
+  windows = windows;
+  whole = u.whole;
+}
+
+-- where memory was short nothing is known exactly
+pub only_least : (A : Bool → Type 0) → A false → (exact : Bool) → (exact ≡ true → false ≡ true) → A exact
+only_least A least true known = let e : false ≡ true = known refl in absurd cc
+only_least A least false known = least

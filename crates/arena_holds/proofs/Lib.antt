@@ -1,0 +1,11 @@
+pub mod Going
+pub mod CachedBlocks
+pub mod Carrying
+pub mod Holds
+pub mod Founds
+pub mod Taken
+pub mod Unmapped
+pub mod Obeying
+pub mod Mappings
+pub mod Opened
+pub mod Searches

@@ -1,0 +1,36 @@
+use Rattle.std.proofs.Common.{◌≡◌, Some, length, subst, arith}
+use Rattle.std.specs.Prelude.{option_map}
+use Rattle.consolidate_trim.specs.Outside.{means}
+use Rattle.arena_holds.specs.Places.{setting, kept_of, in_cache}
+use Rattle.arena_holds.proofs.Taken.{resizes_held, resizes_short, structure_resized, structure_unresized}
+use Rattle.arena_holds.proofs.holding.resize_held.Goals as goal
+
+pub lock-hold-requires : goal.lock-hold-requires
+lock-hold-requires g c = record { there = g.met.P.Places.laws.known c.args.p.now c.args.b (in_cache c.args.cache.now) c.args.a c.requires.served.served c.requires.arena }
+
+pub returns-in-Ok-clause-resizes : goal.returns-in-Ok-clause-resizes
+returns-in-Ok-clause-resizes g c =
+    let plain = g.P.Ground.Moves.plain in
+    let e : c.lock-hold.result.1 ≡ Some c.unwrap-arena.result = cc in
+    let lent = subst (λ o. g.P.Places.ways.lent c.args.p.now c.args.a c.lock-hold.result.0 (option_map (kept_of plain) o) c.lock-hold.new.self) e c.lock-hold.ensures.lent in
+    let at : c.len-place.result ≡ length c.unwrap-arena.result.journal.items = omega (arith, c.len-place.ensures) in
+    rw at
+    (resizes_held (setting g.P.Places.ways (means g.P.Hold.FastPort.fast g.P.Hold.Dials.dials g.K.Kernel.port) g.P.Dial.Dials.dials) g.P.Dial.Dials.dials c.args.b
+    (kept_of plain c.unwrap-arena.result) (kept_of plain c.resize-done.new.a) c.in-Ok.resized g.met.P.Places.laws c.laws.ensures c.laws-2.ensures c.requires.held c.requires.arena c.requires.served lent
+    c.unlock.ensures.gave (c.unlock.ensures.unlocked c.args.p.now c.args.a c.lock-hold.result.0 (kept_of plain c.unwrap-arena.result) lent) c.in-Ok.ensures.resized c.in-Ok.ensures.fits c.in-Ok.ensures.refused)
+
+pub returns-in-Err-clause-short : goal.returns-in-Err-clause-short
+returns-in-Err-clause-short g c =
+    let plain = g.P.Ground.Moves.plain in
+    let e : c.lock-hold.result.1 ≡ Some c.unwrap-arena.result = cc in
+    let lent = subst (λ o. g.P.Places.ways.lent c.args.p.now c.args.a c.lock-hold.result.0 (option_map (kept_of plain) o) c.lock-hold.new.self) e c.lock-hold.ensures.lent in
+    let back : c.in-Err.short.back ≡ Some c.unwrap.result = cc in
+    resizes_short (setting g.P.Places.ways (means g.P.Hold.FastPort.fast g.P.Hold.Dials.dials g.K.Kernel.port) g.P.Dial.Dials.dials) g.P.Dial.Dials.dials c.args.b c.unwrap.result
+    (kept_of plain c.unwrap-arena.result) (kept_of plain c.resize-done.new.a) g.met.P.Places.laws c.laws.ensures c.laws-2.ensures c.requires.held c.requires.arena c.requires.served lent
+    (c.unlock.ensures.unlocked c.args.p.now c.args.a c.lock-hold.result.0 (kept_of plain c.unwrap-arena.result) lent) (rw back at c.in-Err.ensures.short)
+
+pub returns-in-Ok-clause-structure : goal.returns-in-Ok-clause-structure
+returns-in-Ok-clause-structure g c = structure_resized c.in-Ok.ensures.resized
+
+pub returns-in-Err-clause-structure : goal.returns-in-Err-clause-structure
+returns-in-Err-clause-structure g c = structure_unresized _ _ _ c.args.b c.args.nb _ _ c.in-Err.short.back c.in-Err.ensures.short

@@ -1,0 +1,27 @@
+use Rattle.std.proofs.Common.{◌≡◌, length, arith}
+use Rattle.consolidate_trim.specs.Outside.{means}
+use Rattle.arena_holds.specs.Places.{setting, kept_of}
+use Rattle.arena_holds.proofs.Taken.{searches_held, searches_short, structure_searched, structure_short}
+use Rattle.arena_holds.proofs.holding.search_lent.Goals as goal
+
+pub returns-in-Ok-clause-searches : goal.returns-in-Ok-clause-searches
+returns-in-Ok-clause-searches g c = λ places a l.
+    let plain = g.P.Ground.Moves.plain in
+    let at : c.len-place.result ≡ length c.args.arena.journal.items = omega (arith, c.len-place.ensures) in
+    rw at
+    (searches_held (setting g.P.Places.ways (means g.P.Hold.FastPort.fast g.P.Hold.Dials.dials g.K.Kernel.port) g.P.Dial.Dials.dials) g.P.Dial.Dials.dials
+    (kept_of plain c.args.arena) (kept_of plain c.search_arena-searched.new.a) c.in-Ok.block g.met.P.Places.laws c.laws.ensures c.laws-2.ensures c.requires.act l.served l.lent
+    c.unlock.ensures.gave (c.unlock.ensures.unlocked places a c.args.hold (kept_of plain c.args.arena) l.lent) c.in-Ok.ensures.searches)
+
+pub returns-in-Err-clause-short : goal.returns-in-Err-clause-short
+returns-in-Err-clause-short g c = λ places a l.
+    let plain = g.P.Ground.Moves.plain in
+    searches_short (setting g.P.Places.ways (means g.P.Hold.FastPort.fast g.P.Hold.Dials.dials g.K.Kernel.port) g.P.Dial.Dials.dials) g.P.Dial.Dials.dials c.args.act.now
+    (kept_of plain c.args.arena) (kept_of plain c.search_arena-searched.new.a) g.met.P.Places.laws c.laws.ensures c.laws-2.ensures l.lent
+    (c.unlock.ensures.unlocked places a c.args.hold (kept_of plain c.args.arena) l.lent) c.requires.act c.in-Err.ensures.short
+
+pub returns-in-Ok-clause-structure : goal.returns-in-Ok-clause-structure
+returns-in-Ok-clause-structure g c = structure_searched c.in-Ok.ensures.searches
+
+pub returns-in-Err-clause-structure : goal.returns-in-Err-clause-structure
+returns-in-Err-clause-structure g c = structure_short c.in-Err.ensures.short

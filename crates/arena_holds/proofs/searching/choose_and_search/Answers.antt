@@ -1,0 +1,19 @@
+use Rattle.arena_holds.specs.Places.{in_cache}
+use Rattle.arena_holds.proofs.Carrying.{carries_then, served_after}
+use Rattle.arena_holds.proofs.Opened.{carries_hidden}
+use Rattle.arena_holds.proofs.Searches.{ok_map, err_map, chosen_by_book}
+use Rattle.arena_holds.proofs.searching.choose_and_search.Goals as goal
+
+pub search_by_choice-requires-clause-served : goal.search_by_choice-requires-clause-served
+search_by_choice-requires-clause-served g c = λ k l.
+    let same = g.met.P.Places.laws.same in
+    served_after same c.requires.served (carries_hidden same c.choose-choice.ensures.at.unseen c.args.space.now (in_cache c.args.cache.now))
+
+pub returns-clause-finds : goal.returns-clause-finds
+returns-clause-finds g c =
+    ok_map c.search_by_choice.result (λ tried f. chosen_by_book c.args.bytes c.args.fresh c.choose-choice.result tried g.met.P.Places.laws.same c.choose-choice.ensures f) c.search_by_choice.ensures.finds
+
+pub returns-clause-short : goal.returns-clause-short
+returns-clause-short g c =
+    let same = g.met.P.Places.laws.same in
+    err_map c.search_by_choice.result (λ short. carries_then (carries_hidden same c.choose-choice.ensures.at.unseen c.args.space.now (in_cache c.args.cache.now)) short) c.search_by_choice.ensures.short

@@ -1,0 +1,32 @@
+use Rattle.std.proofs.Common.{None, sym, ◌∙◌}
+use Rattle.arena_holds.specs.Searching.{tried_again}
+use Rattle.arena_holds.proofs.Searches.{ok_map, is_none, served_next, served_mapping, finds_at_once, finds_again, finds_without}
+use Rattle.arena_holds.proofs.searching.search.Goals as goal
+
+pub map_for-requires-clause-served : goal.map_for-requires-clause-served
+map_for-requires-clause-served g c = λ k l.
+    let laws = g.met.P.Places.laws in
+    let chosen = rw c.in-None.is at c.in_ok-choose_and_search.ensures.finds in
+    served_mapping c.choose_and_search.new.cache laws.fewer (served_next c.args.cache.now c.choose_and_search.new.cache None laws.same laws.fewer c.requires.served chosen.gets.carries)
+
+pub search_again-requires-clause-served : goal.search_again-requires-clause-served
+search_again-requires-clause-served g c = λ k l.
+    let laws = g.met.P.Places.laws in
+    let chosen = rw c.in-Some.is at c.in_ok-choose_and_search.ensures.finds in
+    served_next c.args.cache.now c.choose_and_search.new.cache c.in-Some.field-0.search.block laws.same laws.fewer c.requires.served chosen.gets.carries
+
+pub returns-then-is_some-clause-finds : goal.returns-then-is_some-clause-finds
+returns-then-is_some-clause-finds g c =
+    finds_at_once c.args.again c.in-Some.field-0 (sym c.is_some.ensures ∙ c.if-is_some.true) (rw c.in-Some.is at c.in_ok-choose_and_search.ensures.finds)
+
+pub returns-in-None-clause-finds : goal.returns-in-None-clause-finds
+returns-in-None-clause-finds g c =
+    let chosen = rw c.in-None.is at c.in_ok-choose_and_search.ensures.finds in
+    finds_without c.map_for.result.hold c.map_for.result.block (tried_again c.args.t.now c.args.who.now.thread c.args.again c.args.act.now c.args.cache.now) g.met.P.Places.laws.same chosen
+    (c.map_for.ensures c.args.t.now c.args.who.now c.args.cache.now)
+
+pub returns-else-is_some-clause-finds : goal.returns-else-is_some-clause-finds
+returns-else-is_some-clause-finds g c =
+    let r = c.in-Some.field-0 in
+    let chosen = rw c.in-Some.is at c.in_ok-choose_and_search.ensures.finds in
+    ok_map c.search_again.result (λ found again. finds_again c.args.again r found.hold found.block g.met.P.Places.laws.same (is_none r.search.block (sym c.is_some.ensures ∙ c.if-is_some.false)) chosen again) c.search_again.ensures.finds

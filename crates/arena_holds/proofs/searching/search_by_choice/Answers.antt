@@ -1,0 +1,30 @@
+use Rattle.std.proofs.Common.{inl, inr}
+use Rattle.arena_holds.specs.Places.{in_cache}
+use Rattle.arena_core.proofs.Opens.{on_err}
+use Rattle.arena_holds.proofs.Carrying.{carries_then, served_after}
+use Rattle.arena_holds.proofs.Searches.{chosen_in, chosen_new, chosen_refused}
+use Rattle.arena_holds.proofs.searching.search_by_choice.Goals as goal
+
+pub returns-then-not-branch-clause-finds : goal.returns-then-not-branch-clause-finds
+returns-then-not-branch-clause-finds g c =
+    let refused = rw c.if-not-branch.true at c.in_ok-open_arena-in-New.ensures.opens in
+    rw c.in-New.is (chosen_refused c.in-New.a g.met.P.Places.laws.same refused)
+
+pub search_in-requires-clause-served : goal.search_in-requires-clause-served
+search_in-requires-clause-served g c = λ k l.
+    served_after g.met.P.Places.laws.same c.requires.served (c.in_ok-open_arena-in-New.ensures.opens.carries (in_cache c.args.cache.now))
+
+pub returns-in_err-search-in-New-clause-short : goal.returns-in_err-search-in-New-clause-short
+returns-in_err-search-in-New-clause-short g c =
+    on_err c.from_residual-in_err-search-in-New.result (carries_then (c.in_ok-open_arena-in-New.ensures.opens.carries (in_cache c.args.cache.now)) c.in_err-search-in-New.ensures.short)
+
+pub returns-in_ok-search-in-New-clause-finds : goal.returns-in_ok-search-in-New-clause-finds
+returns-in_ok-search-in-New-clause-finds g c =
+    let opened = rw c.if-not-branch.false at c.in_ok-open_arena-in-New.ensures.opens in
+    rw c.in-New.is (chosen_new c.in-New.a c.in_ok-search-in-New.search opened c.in_ok-search-in-New.ensures.finds)
+
+pub returns-in_ok-search-in-Attached-clause-finds : goal.returns-in_ok-search-in-Attached-clause-finds
+returns-in_ok-search-in-Attached-clause-finds g c = elim c.in-Attached.is [
+  | inl is ↦ rw is (chosen_in c.in-Attached.a c.in_ok-search-in-Attached.search c.in_ok-search-in-Attached.ensures.finds)
+  | inr is ↦ rw is (chosen_in c.in-Attached.a c.in_ok-search-in-Attached.search c.in_ok-search-in-Attached.ensures.finds)
+]

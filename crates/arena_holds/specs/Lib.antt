@@ -1,0 +1,9 @@
+pub mod Blocks
+pub mod BookChanges
+pub mod Calls
+pub mod Searching
+pub mod Places
+pub mod Returning
+pub mod Going
+pub mod Holding
+pub mod Obeys

@@ -1,5 +1,0 @@
-use Rattle.malloc_calls.proofs.Supplies.{supplied_by}
-use Rattle.malloc_calls.proofs.supplying.aligned_supply.Goals as goal
-
-pub returns-clause-supplies : goal.returns-clause-supplies
-returns-clause-supplies g c = supplied_by c.in_ok-search.search.block c.found.result c.found.ensures c.in_ok-search.ensures.takes

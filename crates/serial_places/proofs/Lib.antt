@@ -1,0 +1,11 @@
+pub mod Joining
+pub mod Playing
+pub mod Slots
+pub mod SerialBooks
+pub mod SerialKeeps
+pub mod SerialLaws
+pub mod SerialFirst
+pub mod Opening
+pub mod Serving
+mod Insides
+mod Ends

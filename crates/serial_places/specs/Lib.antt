@@ -1,0 +1,5 @@
+pub mod Joined
+pub mod Playing
+pub mod Trays
+pub mod SerialWays
+pub mod SerialPlaces

@@ -1,0 +1,29 @@
+use Rattle.malloc_calls.specs.Own.{own_of, names_of, number_of}
+use Rattle.malloc_calls.specs.Frees.{free_call}
+use Rattle.trace_replay.proofs.CallResults.{Empties, free_empties}
+use Rattle.trace_replay.proofs.HeldNames.{empties_name}
+use Rattle.trace_replay.proofs.QuietCalls.{quiet_call}
+use Rattle.trace_replay.proofs.Results.{if_ok}
+use Rattle.trace_replay.proofs.calling.free.Goals as goal
+
+pub returns-clause-keeps : goal.returns-clause-keeps
+returns-clause-keeps g c =
+    if_ok _ _ c.free.result (λ reply q. q.keeps)
+    (quiet_call g.K.Kernel.port c.args.t.now c.args.line c.args.name (free_call c.args.t.now (number_of c.ready.new.self) c.args.name (own_of c.ready.new.self)) c.args.thread.now c.ready.new.self c.free.new.self c.args.serial.now c.free.new.p
+    (Empties c.args.name (names_of c.ready.new.self)) c.free.result c.in_ok-ready.ensures.ok c.free.ensures.number (free_empties c.args.t.now (number_of c.ready.new.self) c.args.name (own_of c.ready.new.self))
+    c.free.ensures.carries c.free.ensures.does)
+
+pub returns-clause-names : goal.returns-clause-names
+returns-clause-names g c =
+    if_ok _ _ c.free.result
+    (λ reply q. empties_name c.args.thread.now c.ready.new.self c.free.new.self c.args.name reply c.in_ok-ready.ensures.ok q.result)
+    (quiet_call g.K.Kernel.port c.args.t.now c.args.line c.args.name (free_call c.args.t.now (number_of c.ready.new.self) c.args.name (own_of c.ready.new.self)) c.args.thread.now c.ready.new.self c.free.new.self c.args.serial.now c.free.new.p
+    (Empties c.args.name (names_of c.ready.new.self)) c.free.result c.in_ok-ready.ensures.ok c.free.ensures.number (free_empties c.args.t.now (number_of c.ready.new.self) c.args.name (own_of c.ready.new.self))
+    c.free.ensures.carries c.free.ensures.does)
+
+pub returns-clause-trays : goal.returns-clause-trays
+returns-clause-trays g c =
+    if_ok _ _ c.free.result (λ reply q. q.trays)
+    (quiet_call g.K.Kernel.port c.args.t.now c.args.line c.args.name (free_call c.args.t.now (number_of c.ready.new.self) c.args.name (own_of c.ready.new.self)) c.args.thread.now c.ready.new.self c.free.new.self c.args.serial.now c.free.new.p
+    (Empties c.args.name (names_of c.ready.new.self)) c.free.result c.in_ok-ready.ensures.ok c.free.ensures.number (free_empties c.args.t.now (number_of c.ready.new.self) c.args.name (own_of c.ready.new.self))
+    c.free.ensures.carries c.free.ensures.does)

@@ -1,0 +1,30 @@
+use Rattle.malloc_calls.specs.Own.{own_of, names_of, number_of}
+use Rattle.malloc_calls.specs.Mallocs.{malloc_call}
+use Rattle.trace_replay.proofs.CallResults.{KeepsOthers, malloc_keeps}
+use Rattle.trace_replay.proofs.HeldNames.{makes_bytes}
+use Rattle.trace_replay.proofs.QuietCalls.{quiet_call}
+use Rattle.trace_replay.proofs.Results.{if_ok, if_ok₂}
+use Rattle.trace_replay.proofs.calling.malloc.Goals as goal
+
+pub returns-clause-keeps : goal.returns-clause-keeps
+returns-clause-keeps g c =
+    if_ok _ _ c.malloc.result (λ reply q. q.keeps)
+    (quiet_call g.K.Kernel.port c.args.t.now c.args.line c.args.name (malloc_call c.args.t.now (number_of c.ready.new.self) c.args.name c.args.size (own_of c.ready.new.self)) c.args.thread.now c.ready.new.self c.malloc.new.self c.args.serial.now c.malloc.new.p
+    (KeepsOthers c.args.name (names_of c.ready.new.self)) c.malloc.result c.in_ok-ready.ensures.ok c.malloc.ensures.number (malloc_keeps c.args.t.now (number_of c.ready.new.self) c.args.name c.args.size (own_of c.ready.new.self))
+    c.malloc.ensures.carries c.malloc.ensures.does)
+
+pub returns-clause-names : goal.returns-clause-names
+returns-clause-names g c =
+    if_ok₂ _ _ _ c.malloc.result
+    (λ reply q fits. makes_bytes c.args.thread.now c.ready.new.self c.malloc.new.self c.args.name c.args.size reply c.in_ok-ready.ensures.ok q.result fits)
+    (quiet_call g.K.Kernel.port c.args.t.now c.args.line c.args.name (malloc_call c.args.t.now (number_of c.ready.new.self) c.args.name c.args.size (own_of c.ready.new.self)) c.args.thread.now c.ready.new.self c.malloc.new.self c.args.serial.now c.malloc.new.p
+    (KeepsOthers c.args.name (names_of c.ready.new.self)) c.malloc.result c.in_ok-ready.ensures.ok c.malloc.ensures.number (malloc_keeps c.args.t.now (number_of c.ready.new.self) c.args.name c.args.size (own_of c.ready.new.self))
+    c.malloc.ensures.carries c.malloc.ensures.does)
+    c.malloc.ensures.fits
+
+pub returns-clause-trays : goal.returns-clause-trays
+returns-clause-trays g c =
+    if_ok _ _ c.malloc.result (λ reply q. q.trays)
+    (quiet_call g.K.Kernel.port c.args.t.now c.args.line c.args.name (malloc_call c.args.t.now (number_of c.ready.new.self) c.args.name c.args.size (own_of c.ready.new.self)) c.args.thread.now c.ready.new.self c.malloc.new.self c.args.serial.now c.malloc.new.p
+    (KeepsOthers c.args.name (names_of c.ready.new.self)) c.malloc.result c.in_ok-ready.ensures.ok c.malloc.ensures.number (malloc_keeps c.args.t.now (number_of c.ready.new.self) c.args.name c.args.size (own_of c.ready.new.self))
+    c.malloc.ensures.carries c.malloc.ensures.does)

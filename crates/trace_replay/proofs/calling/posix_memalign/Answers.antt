@@ -1,0 +1,32 @@
+use Rattle.std.proofs.Common.{◌<◌}
+use Rattle.malloc_calls.specs.Own.{own_of, names_of, number_of}
+use Rattle.malloc_calls.specs.Mallocs.{posix_memalign_call, IsAlignedName}
+use Rattle.trace_replay.proofs.CallResults.{KeepsOthers, memalign_keeps}
+use Rattle.trace_replay.proofs.HeldNames.{makes_aligned}
+use Rattle.trace_replay.proofs.QuietCalls.{quiet_call}
+use Rattle.trace_replay.proofs.Results.{if_ok, if_ok₃, ok_later}
+use Rattle.trace_replay.proofs.calling.posix_memalign.Goals as goal
+
+pub returns-clause-keeps : goal.returns-clause-keeps
+returns-clause-keeps g c =
+    if_ok _ _ c.posix_memalign.result (λ reply q. q.keeps)
+    (quiet_call g.K.Kernel.port c.args.t.now c.args.line c.args.name (posix_memalign_call c.args.t.now (number_of c.ready.new.self) c.args.name c.args.align c.args.size (own_of c.ready.new.self)) c.args.thread.now c.ready.new.self c.posix_memalign.new.self c.args.serial.now c.posix_memalign.new.p
+    (KeepsOthers c.args.name (names_of c.ready.new.self)) c.posix_memalign.result c.in_ok-ready.ensures.ok c.posix_memalign.ensures.number (memalign_keeps c.args.t.now (number_of c.ready.new.self) c.args.name c.args.align c.args.size (own_of c.ready.new.self))
+    c.posix_memalign.ensures.carries c.posix_memalign.ensures.does)
+
+pub returns-clause-names : goal.returns-clause-names
+returns-clause-names g c =
+    if_ok₃ _ _ _ _ c.posix_memalign.result
+    (λ reply q fits aligned. makes_aligned c.args.thread.now c.ready.new.self c.posix_memalign.new.self c.args.name c.args.align c.args.size reply c.in_ok-ready.ensures.ok q.result fits aligned)
+    (quiet_call g.K.Kernel.port c.args.t.now c.args.line c.args.name (posix_memalign_call c.args.t.now (number_of c.ready.new.self) c.args.name c.args.align c.args.size (own_of c.ready.new.self)) c.args.thread.now c.ready.new.self c.posix_memalign.new.self c.args.serial.now c.posix_memalign.new.p
+    (KeepsOthers c.args.name (names_of c.ready.new.self)) c.posix_memalign.result c.in_ok-ready.ensures.ok c.posix_memalign.ensures.number (memalign_keeps c.args.t.now (number_of c.ready.new.self) c.args.name c.args.align c.args.size (own_of c.ready.new.self))
+    c.posix_memalign.ensures.carries c.posix_memalign.ensures.does)
+    c.posix_memalign.ensures.fits
+    (ok_later (16 < c.args.align) (IsAlignedName c.args.align c.args.name (names_of c.posix_memalign.new.self)) c.posix_memalign.result c.posix_memalign.ensures.aligned)
+
+pub returns-clause-trays : goal.returns-clause-trays
+returns-clause-trays g c =
+    if_ok _ _ c.posix_memalign.result (λ reply q. q.trays)
+    (quiet_call g.K.Kernel.port c.args.t.now c.args.line c.args.name (posix_memalign_call c.args.t.now (number_of c.ready.new.self) c.args.name c.args.align c.args.size (own_of c.ready.new.self)) c.args.thread.now c.ready.new.self c.posix_memalign.new.self c.args.serial.now c.posix_memalign.new.p
+    (KeepsOthers c.args.name (names_of c.ready.new.self)) c.posix_memalign.result c.in_ok-ready.ensures.ok c.posix_memalign.ensures.number (memalign_keeps c.args.t.now (number_of c.ready.new.self) c.args.name c.args.align c.args.size (own_of c.ready.new.self))
+    c.posix_memalign.ensures.carries c.posix_memalign.ensures.does)

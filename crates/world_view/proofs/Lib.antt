@@ -1,0 +1,9 @@
+mod Idle
+mod Placing
+mod Going
+mod InRows
+mod ByAddress
+mod Finding
+mod InUse
+mod MappedShown
+mod Whole

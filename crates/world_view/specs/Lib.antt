@@ -1,0 +1,4 @@
+pub mod Places
+pub mod Scenes
+pub mod Rows
+pub mod Shows

@@ -1,0 +1,16 @@
+//! What a report shows of threads, arenas and trays: each chunk at the place where it is found, the caches, the book of
+//! arenas and the words beside the arenas. A contract sees them as a scene (`Scene` of `Scenes`); the one promise is
+//! `snapshot`'s clause `shown`, and `laws` says that nothing of a whole scene is left out.
+#![tactic(auto)]
+
+mod arenas;
+mod finds;
+mod law;
+mod places;
+mod shown;
+
+pub use law::laws;
+pub use shown::snapshot;
+
+#[cfg(test)]
+mod tests;

@@ -1,0 +1,122 @@
+//! The chunks of arenas, each at the place where it is found.
+
+ghost use Rattle.std.specs.Prelude.{◌≡◌, ◌<◌, ◌+◌, ◌*◌, [], map, fold, slice_index_or, IfOk, OnOk};
+ghost use Rattle.stats_text.specs.Views.{lists_of};
+ghost use Rattle.stats_text.specs.declared.views.Place.TheVariants as places;
+ghost use Rattle.world_view.specs.Places.{bins_of, found_in, put_found, place_in, shown_tiles, finds_found};
+ghost use Rattle.world_view.specs.Rows.{fast_at};
+
+use crate::finds::{Find, tile};
+use arena_ground::Ground;
+use chunk_tags::{Addr, NoMemory, Tile, TileKind};
+use stats_text::{Place, TileView};
+use std::alloc::Global;
+use std::collections::BTreeMap;
+
+/// The list at an index; there is none behind the last one.
+fn list(alloc: Global, lists: &[Vec<Addr>], index: usize) -> Result<Vec<Addr>, NoMemory>
+    ensures { IfOk result (λ v. v.items ≡ slice_index_or (map (λ l. l.items) lists.now) index []) }
+{
+    match lists.get(index) {
+        None => Ok(Vec::new(alloc)),
+        Some(list) => Ok(Vec::from_slice(alloc, list.as_slice())?),
+    }
+}
+
+/// The ten fast bins of the arena at an index, each from the front.
+#[tactic(auto, unfolding(crate::specs::Rows::fast_at))]
+pub fn fast_bins(
+    alloc: Global,
+    lists: &[Vec<Addr>],
+    index: usize,
+) -> Result<Vec<(u8, Vec<Addr>)>, NoMemory>
+    requires { index < 64 }
+    ensures { IfOk result (λ v. lists_of v.items ≡ fast_at (map (λ l. l.items) lists.now) index) }
+{
+    let mut bins = Vec::new(alloc);
+    for number in 0..10_u8 {
+        let list = list(alloc, lists, 10 * index + usize::from(number))?;
+        bins.push((number, list))?;
+    }
+    Ok(bins)
+}
+
+/// The bins of an arena, each from the front.
+#[tactic(auto, unfolding(crate::specs::Places::bins_of))]
+pub fn bins(alloc: Global, ground: &Ground) -> Result<Vec<(u8, Vec<Addr>)>, NoMemory>
+    ensures { IfOk result (λ v. lists_of v.items ≡ bins_of ground.now.arena) }
+{
+    let mut bins = Vec::new(alloc);
+    for number in 0..127_u8 {
+        bins.push((number, ground.bin(alloc, number)?))?;
+    }
+    Ok(bins)
+}
+
+/// Puts the blocks of threads and trays in their places by address.
+pub fn put_finds(found: &mut BTreeMap<u64, Place>, finds: &[Find]) -> Result<(), NoMemory>
+    ensures { OnOk result (found.new.entries ≡ fold put_found found.old.entries (finds_found finds.now)) }
+{
+    for find in finds {
+        found.insert(find.tile.addr.0, find.tile.place)?;
+    }
+    Ok(())
+}
+
+/// Puts the chunks of a list at a place.
+fn put_list(found: &mut BTreeMap<u64, Place>, addrs: &[Addr], place: Place) -> Result<(), NoMemory>
+    ensures { OnOk result (found.new.entries ≡ fold put_found found.old.entries (map (λ addr. (addr, place)) addrs.now)) }
+{
+    for addr in addrs {
+        found.insert(addr.0, place)?;
+    }
+    Ok(())
+}
+
+/// Puts the chunks of fast bins.
+pub fn put_fast(found: &mut BTreeMap<u64, Place>, bins: &[(u8, Vec<Addr>)]) -> Result<(), NoMemory>
+    ensures { OnOk result (found.new.entries ≡ fold put_found found.old.entries (found_in places.Fast (lists_of bins.now))) }
+{
+    for bin in bins {
+        put_list(found, bin.1.as_slice(), Place::Fast { bin: bin.0 })?;
+    }
+    Ok(())
+}
+
+/// Puts the chunks of other bins.
+pub fn put_bins(found: &mut BTreeMap<u64, Place>, bins: &[(u8, Vec<Addr>)]) -> Result<(), NoMemory>
+    ensures { OnOk result (found.new.entries ≡ fold put_found found.old.entries (found_in places.Bin (lists_of bins.now))) }
+{
+    for bin in bins {
+        put_list(found, bin.1.as_slice(), Place::Bin { bin: bin.0 })?;
+    }
+    Ok(())
+}
+
+/// Where a tile of an arena is.
+fn place(found: &BTreeMap<u64, Place>, t: &Tile) -> Option<Place>
+    ensures { result ≡ place_in found.now.entries t.now }
+{
+    match t.kind {
+        TileKind::Used | TileKind::Free => found.get(&t.addr.0).copied(),
+        TileKind::Top => Some(Place::Top),
+        TileKind::Fence => Some(Place::Fence),
+    }
+}
+
+/// The tiles of an arena, as they are shown.
+pub fn tile_views(
+    alloc: Global,
+    found: &BTreeMap<u64, Place>,
+    tiles: &[Tile],
+) -> Result<Vec<TileView>, NoMemory>
+    ensures { IfOk result (λ v. v.items ≡ shown_tiles found.now.entries tiles.now) }
+{
+    let mut views = Vec::new(alloc);
+    for t in tiles {
+        if let Some(place) = place(found, t) {
+            views.push(tile(t.addr, t.size, 0, place))?;
+        }
+    }
+    Ok(views)
+}
