@@ -7,19 +7,21 @@ ghost use Rattle.trace_replay.specs.Asked.{served_of};
 ghost use Rattle.trace_replay.specs.Headline.{TellsInput, Answers};
 ghost use Rattle.trace_replay.specs.SerialText.{verdict};
 
+mod behind;
 mod ending;
 
 use address_space::{Always, Kernel};
+use behind::BehindName;
 use chunk_tags::NoMemory;
 use ending::{Complaint, exit_code};
 use std::alloc::Global;
-use std::env::{self, FillError};
+use std::env;
 use std::io::{self, ErrorKind};
 use std::process::ExitCode;
 use std::rt::Env;
 use trace_replay::{Exit, Open, Sink, Source, StdSink, StdSource, THREADS};
 
-/// The program's name alone, whatever its bytes are.
+/// The program's name, in front of its words.
 #[tactic(auto, unfolding(command_words::specs::Parts::parts_from, command_words::specs::Asked::are_taken))]
 fn name_alone(alloc: Global) -> Result<Vec<String>, NoMemory>
     ensures { IfOk result (λ words. IsOk (served_of words.items)) }
@@ -40,18 +42,19 @@ fn unreadable_words(alloc: Global) -> Result<Vec<String>, NoMemory>
     Ok(words)
 }
 
-/// Whether a word stands behind the program's name.
-fn has_word<R: Env>(rt: &R) -> bool {
-    !matches!(rt.arg(1, &mut []), Err(FillError::NotPresent))
-}
-
-/// The words of the command line.
+/// The words of the command line, with the name in front. What the program was called as isn't read: it may have any bytes.
 fn words<R: Env + AllocGlobal>(rt: &R) -> Result<Vec<String>, NoMemory> {
-    match env::args(rt) {
-        Ok(args) => Ok(args.collect(rt.alloc())?),
-        Err(error) if error.kind() != ErrorKind::InvalidData => Err(NoMemory),
-        Err(_) if has_word(rt) => unreadable_words(rt.alloc()),
-        Err(_) => name_alone(rt.alloc()),
+    let alloc = rt.alloc();
+    match env::args(&(BehindName(rt), alloc)) {
+        Ok(behind) => {
+            let mut words = name_alone(alloc)?;
+            for word in behind {
+                words.push(word)?;
+            }
+            Ok(words)
+        }
+        Err(error) if error.kind() == ErrorKind::InvalidData => unreadable_words(alloc),
+        Err(_) => Err(NoMemory),
     }
 }
 

@@ -1,4 +1,3 @@
-use Rattle.std.proofs.Common.{sym}
 use Rattle.ptmreplay.proofs.ports.Goals as goal
 
 pub returns : goal.returns
