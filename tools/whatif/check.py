@@ -17,6 +17,7 @@ TOOL = os.path.join(HERE, 'whatif')
 MIXED = os.path.join(ROOT, 'tests', 'replay', 'options', 'mixed_calls')
 RECORDED = os.path.join(ROOT, 'tests', 'replay', 'recorded')
 BUILT = os.path.join(ROOT, 'crates', 'ptmreplay', 'out', 'ptmreplay')
+COUNTS = os.path.join(ROOT, 'crates', 'kernel_calls', 'out', 'kernel_calls')
 COLUMNS = ['system', 'max-arenas', 'max-mapped', 'in-use', 'stuck', 'mapped', 'most-mapped']
 
 # Stands for the program over one trace: for `--mxfast=0` it gives what the file mixed_calls+mxfast_0 of the tests has.
@@ -28,6 +29,13 @@ cat "$name.report"
 [ ! -f "$name.stderr" ] || cat "$name.stderr" >&2
 [ ! -f "$name.status" ] || exit "$(cat "$name.status")"
 ''' % MIXED
+
+# Stands for the program that counts kernel calls: the total is the number of its words and the bytes of its input.
+CALLS = '''#!/bin/sh
+[ "$*" != --mxfast=24\\ --summary ] || { echo 'kernel_calls: no memory' >&2; exit 8; }
+[ "$*" != --mxfast=160\\ --summary ] || exit 0
+printf 'ptmcalls 1\\nbreak up 1\\ntotal %d%s\\n' $# "$(wc -c | tr -d ' ')"
+'''
 
 # Each run waits for the other one, half a minute at most.
 BESIDE = '''#!/bin/sh
@@ -59,11 +67,11 @@ def read(path):
         return file.read()
 
 
-def rows_of(table):
+def rows_of(table, columns=()):
     """The heading of a table, and its rows by value: numbers, or the text of a failure."""
     lines = [line.split(maxsplit=1) for line in table.split('\n')[:-1]]
     rows = {v: rest if rest.startswith('failed') else [int(w) for w in rest.split()] for v, rest in lines[1:]}
-    assert lines[0][1].split() == COLUMNS and len(rows) == len(lines) - 1
+    assert lines[0][1].split() == COLUMNS + list(columns) and len(rows) == len(lines) - 1
     return lines[0][0], rows
 
 
@@ -93,9 +101,10 @@ class Whatif(unittest.TestCase):
         return done.returncode, done.stdout, done.stderr
 
     def table(self, status, *words, **more):
+        columns = more.pop('columns', ())
         result = self.run_tool(*words, **more)
         self.assertEqual((result[0], result[2]), (status, ''))
-        return rows_of(result[1])
+        return rows_of(result[1], columns)
 
     def refused(self, status, said, *words, **more):
         result = self.run_tool(*words, **more)
@@ -160,6 +169,33 @@ class Whatif(unittest.TestCase):
                      '--program', BUILT, MIXED + '.trace', 'mxfats', '1')
         self.refused(2, 'refuses --mxfast 1; it takes 0 to 160', '--program', BUILT, MIXED + '.trace', 'mxfast', '1',
                      '--', '--mxfast', '2')
+
+    def test_kernel_calls(self):
+        """They stand in a column of their own, whoever runs the programs; the program that counts fails as the other."""
+        calls = self.script('ca lls', CALLS)
+        words = ['--calls', calls, '--program', self.stand_in, MIXED + '.trace', 'mxfast', 'default', '0', '24', '160']
+        size = os.path.getsize(MIXED + '.trace')
+        for own in [[]] + ([['--parallel', '']] if shutil.which('parallel') else []):
+            _, rows = self.table(1, '--svg', self.picture, *own, *words, columns=['kernel-calls'])
+            self.assertEqual(rows['default'], numbers_of(read(MIXED + '.report')) + [int('1%d' % size)])
+            self.assertEqual(rows['0'], numbers_of(read(MIXED + '+mxfast_0.report')) + [int('2%d' % size)])
+            self.assertEqual(rows['24'], 'failed, status 8: kernel_calls: no memory')
+            self.assertEqual(rows['160'], 'failed, no table of kernel calls')
+            self.assertIn('<title>0, kernel calls: %s</title>' % format(int('2%d' % size), ','), read(self.picture))
+        self.refused(1, "no-such can't be run", '--calls', self.picture + '/no-such', *words[2:])
+        self.table(0, '--svg', self.picture, *words[2:])
+        self.assertNotIn('ernel calls', read(self.picture))
+
+    @unittest.skipUnless(os.access(BUILT, os.X_OK) and os.access(COUNTS, os.X_OK), 'the programs are not built')
+    def test_kernel_calls_of_the_program(self):
+        for trace in sorted(glob.glob(os.path.join(RECORDED, '*.trace'))):
+            words = ['--calls', COUNTS, '--program', BUILT, trace, '--mmap-threshold', '65536', '--', '--top-pad', '0']
+            _, rows = self.table(0, *words, columns=['kernel-calls'])
+            with open(trace, 'rb') as file:
+                direct = subprocess.run([COUNTS, '--top-pad', '0', '--mmap-threshold', '65536', '--by-thread'],
+                                        stdin=file, stdout=subprocess.PIPE, check=True).stdout.decode()
+            rows_behind = direct[direct.index('thread '):].split('\n')[1:-1]
+            self.assertEqual(rows['65536'][-1], sum(int(row.split()[-1]) for row in rows_behind))
 
     def test_a_run_that_fails(self):
         words = ['--svg', self.picture] + self.failing()
@@ -282,17 +318,17 @@ class Whatif(unittest.TestCase):
     def test_help(self):
         status, said, err = self.run_tool('--help')
         self.assertEqual((status, err), (0, ''))
-        self.assertIn('[--parallel OPTIONS] TRACE OPTION VALUE..', said)
+        self.assertIn('[--parallel OPTIONS]\n           TRACE OPTION VALUE..', said)
         self.assertEqual(self.run_tool('-h')[1], said)
 
-    @unittest.skipUnless(os.access(BUILT, os.X_OK), 'ptmreplay is not built')
+    @unittest.skipUnless(os.access(BUILT, os.X_OK) and os.access(COUNTS, os.X_OK), 'the programs are not built')
     def test_the_example(self):
         """What the page shows of the tool is what it writes."""
         shown = re.findall(r'^    tools/whatif/whatif (--svg .*)\n\n((?:    .*\n)+)', read(HERE + '/README.md'), re.M)
         self.assertEqual(len(shown), 1)
         words = shown[0][0].split()
         words[words.index('--svg') + 1] = self.picture
-        status, said, err = self.run_tool('--program', BUILT, *words, cwd=ROOT)
+        status, said, err = self.run_tool('--program', BUILT, '--calls', COUNTS, *words, cwd=ROOT)
         self.assertEqual((status, err), (0, ''))
         self.assertEqual(re.sub('^', '    ', said.rstrip('\n'), flags=re.M) + '\n', shown[0][1])
         self.assertEqual(read(self.picture), read(HERE + '/example.svg'))

@@ -1,4 +1,4 @@
-"""The picture of a table of whatif, as an SVG: bytes, stuck bytes and mapped chunks over the values."""
+"""The picture of a table of whatif, as an SVG: bytes, stuck bytes, mapped chunks and kernel calls over the values."""
 
 from html import escape
 
@@ -8,17 +8,18 @@ from heap_picture import bytes_short, number, short, ticks
 SERIES = {'system': ('circle', '', 'from the system'), 'max-arenas': ('square', '7 4', 'maximum of the arenas'),
           'max-mapped': ('triangle', '2 3', 'maximum of the mappings'), 'in-use': ('diamond', '10 3 2 3', 'in use'),
           'stuck': ('cross', '', 'stuck: free and not top'), 'mapped': ('circle', '', 'mapped at the end'),
-          'most-mapped': ('square', '7 4', 'most at once')}
+          'most-mapped': ('square', '7 4', 'most at once'), 'kernel-calls': ('diamond', '', 'kernel calls')}
 PANELS = (('Bytes', 230, ('max-arenas', 'max-mapped', 'in-use', 'system'), bytes_short),
           ('Stuck bytes', 100, ('stuck',), bytes_short),
-          ('Mapped chunks', 100, ('most-mapped', 'mapped'), number))
+          ('Mapped chunks', 100, ('most-mapped', 'mapped'), number),
+          ('Kernel calls', 100, ('kernel-calls',), number))
 
 LIGHT = {'ground': '#ffffff', 'ink': '#15191f', 'soft': '#535b66', 'line': '#d5dae0', 'system': '#0072b2',
          'max-arenas': '#c24f00', 'max-mapped': '#00805c', 'in-use': '#9c4a85', 'stuck': '#c24f00',
-         'mapped': '#0072b2', 'most-mapped': '#c24f00'}
+         'mapped': '#0072b2', 'most-mapped': '#c24f00', 'kernel-calls': '#9c4a85'}
 DARK = {'ground': '#14181d', 'ink': '#e8ebef', 'soft': '#a7b0bb', 'line': '#3d4550', 'system': '#56b4e9',
         'max-arenas': '#ff9a4d', 'max-mapped': '#35c79a', 'in-use': '#e79bc8', 'stuck': '#ff9a4d',
-        'mapped': '#56b4e9', 'most-mapped': '#ff9a4d'}
+        'mapped': '#56b4e9', 'most-mapped': '#ff9a4d', 'kernel-calls': '#e79bc8'}
 
 LEFT, INNER, RIGHT, GAP = 90, 760, 20, 62
 
@@ -107,10 +108,13 @@ def value_shapes(rows, places, top):
 
 
 def svg_of(title, rows):
-    """The whole picture of these rows: pairs of a value and its numbers, or a text where the run failed."""
+    """The whole picture of these rows: pairs of a value and its numbers, or a text where the run failed. A panel whose
+    numbers no row has is left out."""
     places = [LEFT + INNER * (i + 0.5) / len(rows) for i in range(len(rows))]
     out, y = [text(20, 28, title, 16, weight='bold')], 78
     for panel in PANELS:
+        if not any(isinstance(row, dict) and panel[2][0] in row for _, row in rows):
+            continue
         out += panel_shapes(panel, rows, places, y)
         y += panel[1] + GAP
     out += value_shapes(rows, places, y - GAP + 20)

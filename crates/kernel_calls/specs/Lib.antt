@@ -1,0 +1,4 @@
+pub mod Counting
+pub mod Table
+pub mod Words
+pub mod Written
