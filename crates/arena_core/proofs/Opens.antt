@@ -1,6 +1,6 @@
 -- Laws of opening another arena, for this crate and those above it.
-use Rattle.std.proofs.Common.{◌≡◌, ℕ, ◌+◌, ◌<◌, ◌≤◌, Bool, true, false, not, ◌&&◌, ◌||◌, cond, List, [], ◌∷◌, ◌++◌, Option, Some, None, IsTrue, IfSome, Result, Ok, Err, refl, sym, ap, ◌∙◌, subst, append-nil, arith}
-use Rattle.std.specs.Prelude.{nat_lt, nat_le, if◌then◌else◌, option_map, IsSome, OnErr}
+use Rattle.std.proofs.Common.{◌≡◌, ℕ, ◌+◌, ◌^◌, ◌<◌, ◌≤◌, Bool, true, false, not, ◌&&◌, cond, List, [], ◌∷◌, ◌++◌, Option, Some, None, IfSome, Result, Ok, Err, refl, sym, ap, ◌∙◌, subst, append-nil, arith}
+use Rattle.std.specs.Prelude.{nat_lt, nat_le, if◌then◌else◌, IsSome, OnErr}
 use Rattle.std.specs.Result.{IsErr}
 use Rattle.std.proofs.lemmas.Bool.{eq-eqb, ne_eqb, ltb-false, le-leb, or_parts, true≢false}
 use Rattle.chunk_tags.specs.declared.refusals.NoMemory.{NoMemory}
@@ -18,7 +18,7 @@ use Rattle.arena_rules.specs.Heaps.{opened_arena}
 use Rattle.arena_rules.specs.Growth.{Took, first_heap, first_length, opened}
 use Rattle.arena_rules.specs.Rules.{Rules, Stop, Misfit, Asks, end_of_rules, flag_of, passes_window, same_ask, windows_of}
 use Rattle.arena_rules.specs.Walks as walks
-use Rattle.arena_rules.specs.Walks.{Walks, Reaches, StopsShort}
+use Rattle.arena_rules.specs.Walks.{Walks, Reaches}
 use Rattle.arena_rules.proofs.Walks.{reaches_told, reaches_then, short_here, short_then, walks_behind, walks_end}
 use Rattle.arena_core.specs.Asking.{AsksFor, granted_answer}
 use Rattle.arena_core.specs.declared.journal.Act.TheVariants.{Open}
@@ -28,7 +28,7 @@ use Rattle.arena_core.specs.Arenas.{recorded}
 use Rattle.arena_core.specs.Journal.{Recorded}
 use Rattle.arena_core.specs.Opening.{asked_ways, closed_arena, AsksFirst, Opens, OpensAs, OpensShort, RefusesOpening}
 use Rattle.arena_core.specs.Replay.{rules_of, found_nothing, is_possible, may_act, arena_ended, IsReplay}
-use Rattle.arena_core.specs.Tellings.{tells_others}
+use Rattle.arena_core.specs.Tellings.{Dealings, dealings_with, tells_others}
 use Rattle.arena_core.proofs.Growing.{asked_windows, fit_asked}
 use Rattle.arena_core.proofs.Refusals.{rose_twice}
 
@@ -156,26 +156,27 @@ opens_second plain port t number bytes s u z said mid said' (Err d) a b = record
 -- ---- the journal
 
 -- no chunk is told of where only asks are put
-tells_none : {K A : Type 0} {port : Port K} {t : Tunables} {r q : Rules A} {s z : Space K} {ss : List Said} → Walks t (asked_ways port) r s ss q z → tells_others [] q [] ≡ true → tells_others [] r ss ≡ true
-tells_none walks.here h = h
-tells_none (walks.idled i a) h = absurd i
-tells_none (walks.done d a) h = absurd d
-tells_none (walks.told {n = Asks ask} f g a) h = tells_none a h
-tells_none (walks.told f g a) h = absurd g
+tells_none : {K A : Type 0} {port : Port K} {t : Tunables} {r q : Rules A} {s z : Space K} {ss : List Said} (start : Plain) (d : Dealings) → Walks t (asked_ways port) r s ss q z → tells_others start d q [] ≡ true → tells_others start d r ss ≡ true
+tells_none start d walks.here h = h
+tells_none start d (walks.idled i a) h = absurd i
+tells_none start d (walks.done did a) h = absurd did
+tells_none start d (walks.told {n = Asks ask} f g a) h = tells_none start d a h
+tells_none start d (walks.told f g a) h = absurd g
 
 abbrev opens_or_not : Option Plain → Rules Took
 opens_or_not o = elim o [ Some b ↦ Stop (found_nothing b) | None ↦ Misfit ]
 
-pub opened_replay : {K : Type 0} (port : Port K) (t : Tunables) (who : Who) (number bytes : ℕ) (b : Plain) (s z : Space K) (said : List Said) → 0 < number → Reaches t (asked_ways port) (opened t bytes (closed_arena t number)) s [] (Stop (Some b)) said z →
+pub opened_replay : {K : Type 0} (port : Port K) (t : Tunables) (who : Who) (number bytes : ℕ) (b : Plain) (s z : Space K) (said : List Said) → 0 < number → bytes ≤ 2 ^ 63 → Reaches t (asked_ways port) (opened t bytes (closed_arena t number)) s [] (Stop (Some b)) said z →
     IsReplay t (closed_arena t number) (recorded who (Open bytes) said Done ∷ []) b
-opened_replay port t who number bytes b s z said other reaches =
+opened_replay port t who number bytes b s z said other most reaches =
     let a : Plain = closed_arena t number in
+    let begins : Dealings = dealings_with [] in
     let goes = walks_behind opens_or_not reaches.walks in
     let whole : reaches.said ++ [] ≡ said = append-nil reaches.said ∙ sym reaches.added in
     let ends : end_of_rules t (rules_of t (Open bytes) a) said ≡ Some (found_nothing b) = subst (λ ss. end_of_rules t (rules_of t (Open bytes) a) ss ≡ Some (found_nothing b)) whole (walks_end [] goes) in
-    let tells : tells_others [] (rules_of t (Open bytes) a) said ≡ true = subst (λ ss. tells_others [] (rules_of t (Open bytes) a) ss ≡ true) (sym reaches.added) (tells_none goes refl) in
-    let may : may_act (Open bytes) a ≡ true = ap (λ (x : Bool). not x && true) (ne_eqb number 0 (λ e. absurd (omega (arith, other, e)))) in
-    let possible : is_possible t (recorded who (Open bytes) said Done) a ≡ true = ap (λ (x : Bool). x && tells_others [] (rules_of t (Open bytes) a) said) may ∙ tells in
+    let tells : tells_others a begins (rules_of t (Open bytes) a) said ≡ true = subst (λ ss. tells_others a begins (rules_of t (Open bytes) a) ss ≡ true) (sym reaches.added) (tells_none a begins goes refl) in
+    let may : may_act (Open bytes) a ≡ true = ap (λ (x : Bool). not x && nat_le bytes (2 ^ 63)) (ne_eqb number 0 (λ e. absurd (omega (arith, other, e)))) ∙ le-leb bytes (2 ^ 63) most in
+    let possible : is_possible t (recorded who (Open bytes) said Done) a ≡ true = ap (λ (x : Bool). x && tells_others a begins (rules_of t (Open bytes) a) said) may ∙ tells in
     record { gives = ap (λ (x : Bool). cond x (arena_ended (Open bytes) Done (end_of_rules t (rules_of t (Open bytes) a) said)) None) possible ∙ ap (arena_ended (Open bytes) Done) ends }
 
 pub opens_as : {M K : Type 0} (plain : M → Plain) (port : Port K) (t : Tunables) (who : Who) (number bytes : ℕ) (g : M) (journal : List Recorded) (s z : Space K) (said : List Said) → Opens plain port t number bytes s [] (Ok (Some g)) z said → journal ≡ recorded who (Open bytes) said Done ∷ [] →
@@ -197,7 +198,7 @@ on_err (Err e) p = p
 pub opens_not : {K : Type 0} (port : Port K) (t : Tunables) (number bytes : ℕ) (s : Space K) → OpensShort port t number bytes s s
 opens_not port t number bytes s = record { said = []; stops = short_here; windows = refl }
 
-pub replay_of : {M K : Type 0} (plain : M → Plain) (port : Port K) (t : Tunables) (who : Who) (number bytes : ℕ) (g : M) (journal : List Recorded) (s z : Space K) → 0 < number → OpensAs plain port t who number bytes s g journal z →
+pub replay_of : {M K : Type 0} (plain : M → Plain) (port : Port K) (t : Tunables) (who : Who) (number bytes : ℕ) (g : M) (journal : List Recorded) (s z : Space K) → 0 < number → bytes ≤ 2 ^ 63 → OpensAs plain port t who number bytes s g journal z →
     IsReplay t (closed_arena t number) journal (plain g)
-replay_of plain port t who number bytes g journal s z other o =
-    subst (λ es. IsReplay t (closed_arena t number) es (plain g)) (sym o.journal_is) (opened_replay port t who number bytes (plain g) s z o.said other o.walks)
+replay_of plain port t who number bytes g journal s z other most o =
+    subst (λ es. IsReplay t (closed_arena t number) es (plain g)) (sym o.journal_is) (opened_replay port t who number bytes (plain g) s z o.said other most o.walks)

@@ -1,18 +1,21 @@
 -- Laws of recorded holds, for this crate and those above it: the arena is still what its journal gives.
-use Rattle.std.proofs.Common.{◌≡◌, ℕ, ◌-◌, ◌≤◌, ◌^◌, true, ◌&&◌, nat_le, List, [], ◌∷◌, ◌++◌, Result, Ok, Err, sym, subst, inl, inr, arith}
-use Rattle.std.proofs.lemmas.Bool.{and_from}
+use Rattle.std.proofs.Common.{◌≡◌, ℕ, ◌-◌, ◌≤◌, ◌^◌, Bool, true, false, ◌&&◌, nat_le, List, [], ◌∷◌, ◌++◌, Result, Ok, Err, refl, sym, subst, inl, inr, arith}
+use Rattle.std.specs.Prelude.{IsSome, length, nat_lt}
+use Rattle.std.proofs.lemmas.Bool.{and_from, lt-ltb, or_left, or_right}
 use Rattle.std.proofs.lemmas.Bool.Decides.{nat_tests}
 use Rattle.std.proofs.lemmas.List.Sums.{sum_by-cons}
 use Rattle.chunk_tags.specs.BinOrder.{once}
 use Rattle.chunk_tags.specs.Sizes.{IsRequestSize}
+use Rattle.chunk_tags.specs.Tiles.{top_of}
 use Rattle.chunk_tags.specs.declared.tiles.Chunk.{Chunk}
+use Rattle.chunk_tags.specs.declared.tiles.Tile.{Tile}
 use Rattle.chunk_tags.specs.declared.refusals.NoMemory.{NoMemory}
 use Rattle.chunk_tags.specs.declared.tunables.Tunables.{Tunables}
 use Rattle.address_space.specs.declared.space.Space.{Space}
 use Rattle.thread_cache.specs.Caches.{CacheValue}
 use Rattle.fast_bins.specs.FastPorts.{Fast}
 use Rattle.arena_rules.specs.declared.said.Said.{Said}
-use Rattle.arena_rules.specs.PlainArena.{Plain}
+use Rattle.arena_rules.specs.PlainArena.{Plain, is_main}
 use Rattle.arena_rules.specs.Rules.{Rules, Stop}
 use Rattle.arena_rules.specs.Growth.{Took}
 use Rattle.arena_rules.specs.Align.{IsAlignment, request_with_lead}
@@ -34,9 +37,9 @@ use Rattle.arena_core.specs.Arenas.{Held, Records, RecordsShort, Takes, FailsSho
 use Rattle.arena_core.specs.Asking.{Finds, found_of, beside_arena}
 use Rattle.arena_core.specs.Journal.{Recorded}
 use Rattle.arena_core.specs.Ledgers.{stage}
-use Rattle.arena_core.specs.Replay.{IsReplay, rules_of, may_act, hand_of, ended_of, is_request_size, is_alignment, chunk_at, found_nothing}
+use Rattle.arena_core.specs.Replay.{IsReplay, rules_of, may_act, hand_of, ended_of, is_opened, is_request_size, is_alignment, chunk_at, found_nothing}
 use Rattle.arena_core.proofs.Lifting.{works_carries}
-use Rattle.arena_core.specs.Tellings.{tells_others}
+use Rattle.arena_core.specs.Tellings.{dealings_with, tells_others}
 use Rattle.arena_core.proofs.Tellings.{IsApart, tells_walked, apart_backed}
 use Rattle.arena_core.proofs.Replays.{replay_more, next_done, next_short}
 
@@ -48,12 +51,12 @@ only_said {t = t} {w = w} {r = r} {q = q} {o = o} {z = z} a = subst (λ ss. Walk
 pub record CanAct {P K : Type 0} (m : Means P K) (act : Act) (x : Held P K) : Type 0 where
   pub may : may_act act x.arena ≡ true
   pub words : Apart m.fast m.dials
-  pub apart : IsApart (m.fast.stock x.outside.port) (hand_of act)
+  pub apart : IsApart x.arena (m.fast.stock x.outside.port) (dealings_with (hand_of act))
 
 -- and then its entry is a possible one
 possible : {P K : Type 0} {m : Means P K} {number : ℕ} {q : Rules Took} {z : Outside P K} {said : List Said} (t : Tunables) (act : Act) (x : Held P K) → CanAct m act x →
-    Walks t (ways m number) (rules_of t act x.arena) x.outside said q z → may_act act x.arena && tells_others (hand_of act) (rules_of t act x.arena) said ≡ true
-possible t act x can walks = and_from (may_act act x.arena) _ can.may (tells_walked (hand_of act) can.words can.apart walks)
+    Walks t (ways m number) (rules_of t act x.arena) x.outside said q z → may_act act x.arena && tells_others x.arena (dealings_with (hand_of act)) (rules_of t act x.arena) said ≡ true
+possible t act x can walks = and_from (may_act act x.arena) _ can.may (tells_walked x.arena (dealings_with (hand_of act)) can.words can.apart walks)
 
 pub records_replay : {P K : Type 0} {m : Means P K} {t : Tunables} {who : Who} {act : Act} {x y : Held P K} {given : Chunks} {found : Found} (start : Plain) → CanAct m act x → Records m t who act x given found y → IsReplay t start x.journal x.arena → IsReplay t start y.journal y.arena
 records_replay {t = t} {who = who} {act = act} {x = x} {y = y} {found = found} start can r old =
@@ -71,21 +74,36 @@ short_replay {t = t} {who = who} {act = act} {x = x} {y = y} start can (inr r) o
 request_size : (nb : ℕ) → IsRequestSize nb → is_request_size nb ≡ true
 request_size nb size = grind (arith, nat_tests, size.chunk.0, size.chunk.1, size.largest)
 
+-- where there is a top there is a tile
+some_tile : (ts : List Tile) → IsSome (top_of ts) → nat_lt 0 (length ts) ≡ true
+some_tile [] none = absurd cc
+some_tile (t ∷ ts) some = lt-ltb 0 (length (t ∷ ts)) (omega arith)
+
+-- another arena that has a top is there
+opened_with_top : (a : Plain) → (is_main a ≡ false → IsSome (top_of a.tiles)) → is_opened a ≡ true
+opened_with_top a top =
+    let cases : (b : Bool) → is_main a ≡ b → is_opened a ≡ true = elim [
+      | true ↦ λ main. or_left (is_main a) (nat_lt 0 (length a.tiles)) main
+      | false ↦ λ other. or_right (is_main a) (nat_lt 0 (length a.tiles)) (some_tile a.tiles (top other))
+    ] in
+    cases (is_main a) refl
+
 -- one chunk in hand
-apart_hand : {P : Type 0} {fast : Fast P} {a : Plain} {port : P} (c : Chunk) → IsBacked fast a port (one_chunk c) → IsApart (fast.stock port) (c ∷ [])
+apart_hand : {P : Type 0} {fast : Fast P} {a : Plain} {port : P} (c : Chunk) → IsBacked fast a port (one_chunk c) → IsApart a (fast.stock port) (dealings_with (c ∷ []))
 apart_hand c backed = apart_backed (c ∷ []) backed (λ e. omega (arith, sum_by-cons (once e) c []))
 
-pub can_take : {P K : Type 0} (m : Means P K) (nb : ℕ) (x : Held P K) → IsRequestSize nb → Apart m.fast m.dials → IsBacked m.fast x.arena x.outside.port no_chunk → CanAct m (acts.Take nb) x
-can_take m nb x size words backed = record { may = request_size nb size; words = words; apart = apart_backed [] backed (λ e. omega arith) }
+pub can_take : {P K : Type 0} (m : Means P K) (nb : ℕ) (x : Held P K) → (is_main x.arena ≡ false → IsSome (top_of x.arena.tiles)) → IsRequestSize nb → Apart m.fast m.dials → IsBacked m.fast x.arena x.outside.port no_chunk → CanAct m (acts.Take nb) x
+can_take m nb x top size words backed = record { may = and_from (is_opened x.arena) _ (opened_with_top x.arena top) (request_size nb size); words = words; apart = apart_backed [] backed (λ e. omega arith) }
 
 pub can_resize : {P K : Type 0} (m : Means P K) (at size nb : ℕ) (x : Held P K) → IsRequestSize nb → Apart m.fast m.dials → IsBacked m.fast x.arena x.outside.port (one_chunk (chunk_at at size)) → CanAct m (acts.Resize at size nb) x
 can_resize m at size nb x request words backed =
     let c : Chunk = chunk_at at size in
     record { may = and_from (is_request_size nb) _ (request_size nb request) (hand_own c backed); words = words; apart = apart_hand c backed }
 
-pub can_align : {P K : Type 0} (m : Means P K) (align nb : ℕ) (x : Held P K) → IsRequestSize nb → IsAlignment align → request_with_lead align nb ≤ 2 ^ 63 - 1 → Apart m.fast m.dials → IsBacked m.fast x.arena x.outside.port no_chunk → CanAct m (acts.Align align nb) x
-can_align m align nb x request alignment range words backed = record {
-  may = and_from (is_request_size nb) _ (request_size nb request) (and_from (is_alignment align) _ (and_from (nat_le 32 align) _ (grind (arith, nat_tests, alignment.least)) alignment.power) (grind (arith, nat_tests, range)));
+pub can_align : {P K : Type 0} (m : Means P K) (align nb : ℕ) (x : Held P K) → (is_main x.arena ≡ false → IsSome (top_of x.arena.tiles)) → IsRequestSize nb → IsAlignment align → request_with_lead align nb ≤ 2 ^ 63 - 1 → Apart m.fast m.dials → IsBacked m.fast x.arena x.outside.port no_chunk → CanAct m (acts.Align align nb) x
+can_align m align nb x top request alignment range words backed = record {
+  may = and_from (is_opened x.arena) _ (opened_with_top x.arena top)
+      (and_from (is_request_size nb) _ (request_size nb request) (and_from (is_alignment align) _ (and_from (nat_le 32 align) _ (grind (arith, nat_tests, alignment.least)) alignment.power) (grind (arith, nat_tests, range))));
   words = words;
   apart = apart_backed [] backed (λ e. omega arith);
 }

@@ -1,5 +1,5 @@
 -- A journal is replayed: each entry's act goes through its rules with the answers that the entry has (this project's own).
-use Rattle.std.specs.Prelude.{◌≡◌, ℕ, ◌+◌, ◌-◌, ◌^◌, ◌%◌, Bool, true, false, ◌&&◌, not, length, nat_eq, nat_le, List, [], ◌∷◌, Option, Some, None, if◌then◌else◌}
+use Rattle.std.specs.Prelude.{◌≡◌, ℕ, ◌+◌, ◌-◌, ◌^◌, ◌%◌, Bool, true, false, ◌&&◌, ◌||◌, not, length, nat_eq, nat_le, nat_lt, List, [], ◌∷◌, Option, Some, None, if◌then◌else◌}
 use Rattle.std.specs.Int.{is_power_of_two}
 use Rattle.chunk_tags.specs.declared.tiles.Chunk.{Chunk}
 use Rattle.chunk_tags.specs.declared.tunables.Tunables.{Tunables}
@@ -16,7 +16,7 @@ use Rattle.arena_core.specs.declared.journal.Ended.{Ended}
 use Rattle.arena_core.specs.declared.journal.Ended.TheVariants.{Got, Done, Refused, Short}
 use Rattle.arena_rules.specs.declared.said.Said.{Said}
 use Rattle.arena_core.specs.Journal.{Recorded}
-use Rattle.arena_core.specs.Tellings.{tells_others}
+use Rattle.arena_core.specs.Tellings.{dealings_with, tells_others}
 
 abbrev pub chunk_at : ℕ → ℕ → Chunk
 chunk_at at size = record { at = at; size = size }
@@ -45,14 +45,19 @@ is_alignment align = nat_le 32 align && is_power_of_two align
 abbrev pub has_lead_in_range : ℕ → ℕ → Bool
 has_lead_in_range align nb = nat_le (request_with_lead align nb) (2 ^ 63 - 1)
 
--- Whether an act meets the conditions of its call: its sizes are in range, its alignment is one of posix_memalign's, and its
--- chunk is a used one; what is opened is another arena without a heap.
+-- whether an arena is there: main always, another one from its opening on
+abbrev pub is_opened : Plain → Bool
+is_opened a = is_main a || nat_lt 0 (length a.tiles)
+
+-- Whether an act meets the conditions of its call: its sizes are in range, its alignment is one of posix_memalign's, its chunk
+-- is a used one, and a search is in an arena that is there. What is opened is another arena without a heap. So the journal of
+-- another arena begins with its opening.
 abbrev pub may_act : Act → Plain → Bool
-may_act (Open bytes) a = not (is_main a) && nat_eq (length a.tiles) 0
-may_act (Take nb) a = is_request_size nb
+may_act (Open bytes) a = not (is_main a) && (nat_eq (length a.tiles) 0 && nat_le bytes (2 ^ 63))
+may_act (Take nb) a = is_opened a && is_request_size nb
 may_act (Give at size) a = is_own a (chunk_at at size)
 may_act (Resize at size nb) a = is_request_size nb && is_own a (chunk_at at size)
-may_act (Align align nb) a = is_request_size nb && (is_alignment align && has_lead_in_range align nb)
+may_act (Align align nb) a = is_opened a && (is_request_size nb && (is_alignment align && has_lead_in_range align nb))
 
 -- the chunks in hand when an act begins
 abbrev pub hand_of : Act → List Chunk
@@ -108,7 +113,7 @@ arena_after t act Short r said = left_by_rules t r said
 
 -- whether an entry can be one of a hold of this arena, as far as its act and the chunks that it was told of go
 abbrev pub is_possible : Tunables → Recorded → Plain → Bool
-is_possible t e a = may_act e.act a && tells_others (hand_of e.act) (rules_of t e.act a) e.said
+is_possible t e a = may_act e.act a && tells_others a (dealings_with (hand_of e.act)) (rules_of t e.act a) e.said
 
 -- one entry
 abbrev pub next_arena : Tunables → Recorded → Plain → Option Plain

@@ -122,6 +122,8 @@ impl<M: Moves> Arena<M> {
         ensures replay { (start : Plain) → IsReplay t.now start self.old.journal.items (M.plain self.old.ground)
             → IsReplay t.now start self.new.journal.items (M.plain self.new.ground) }
     {
+        // Another arena has a top, so it was opened: no journal has a search before that.
+        self.ground.top_law();
         make_room(&mut self.journal)?;
         let mut said = Vec::new(alloc);
         match search(&mut self.ground, nb, cache, port, space, t, &mut said) {

@@ -112,6 +112,34 @@ fn an_aligned_chunk_is_cut_on_both_sides()
         ∷ []) ≡ Some (135168, 135168, 134288) }
 {}
 
+/// No hold is told of what it cut off itself. While the lead is released, which consolidates, the aligned part is in no fast
+/// bin, though its size is one of these; told of nothing, the same hold stands.
+#[tactic(auto, unfolding(arena_rules::specs::PlainArena::empty_bins, arena_rules::specs::Search::most_stashed, arena_rules::specs::Release::consolidated, std::specs::Prelude::count_ones))]
+fn a_hold_is_told_of_nothing_that_it_cut_off()
+    ensures told { main_after (takes_at 656 (Flag false ∷ Dial 131072 ∷ Asked (Break 0x555555559000 0x55555557a000) Granted ∷ []) 0x555555559000
+        ∷ takes_at 28016 (Flag false ∷ []) 0x555555559290
+        ∷ aligns_at 131072 32 (Flag false ∷ Flag false ∷ Dial 1073741824 ∷ Asked (Break 0x55555557a000 0x5555555a1000) Granted
+        ∷ Room false ∷ Flag true ∷ Own None ∷ Own None ∷ Own None ∷ Own None ∷ Own (Some 0x55555557fff0) ∷ Own None
+        ∷ Own None ∷ Own None ∷ Own None ∷ Own None ∷ Own None ∷ Dial 1073741824 ∷ Room true ∷ []) 0x55555557fff0
+        ∷ []) ≡ None }
+    ensures none { bytes_after (takes_at 656 (Flag false ∷ Dial 131072 ∷ Asked (Break 0x555555559000 0x55555557a000) Granted ∷ []) 0x555555559000
+        ∷ takes_at 28016 (Flag false ∷ []) 0x555555559290
+        ∷ aligns_at 131072 32 (Flag false ∷ Flag false ∷ Dial 1073741824 ∷ Asked (Break 0x55555557a000 0x5555555a1000) Granted
+        ∷ Room false ∷ Flag true ∷ Own None ∷ Own None ∷ Own None ∷ Own None ∷ Own None
+        ∷ Own None ∷ Own None ∷ Own None ∷ Own None ∷ Own None ∷ Dial 1073741824 ∷ Room true ∷ []) 0x55555557fff0
+        ∷ []) ≡ Some (294912, 294912, 135088) }
+{}
+
+/// What a hold pushed it may be told of: a small lead goes to its fast bin, and then the tail's release consolidates.
+#[tactic(auto, unfolding(arena_rules::specs::PlainArena::empty_bins, arena_rules::specs::Search::most_stashed, arena_rules::specs::Release::consolidated, std::specs::Prelude::count_ones))]
+fn a_hold_is_told_of_what_it_pushed()
+    ensures { bytes_after (takes_at 656 (Flag false ∷ Dial 131072 ∷ Asked (Break 0x555555559000 0x55555557a000) Granted ∷ []) 0x555555559000
+        ∷ takes_at 27936 (Flag false ∷ []) 0x555555559290
+        ∷ aligns_at 65536 32 (Flag false ∷ Room false ∷ Room false ∷ Flag true ∷ Own None ∷ Own None ∷ Own (Some 0x55555555ffb0)
+        ∷ Own None ∷ Own None ∷ Own None ∷ Own None ∷ Own None ∷ Own None ∷ Own None ∷ Own None ∷ Dial 131072 ∷ []) 0x55555555fff0
+        ∷ []) ≡ Some (135168, 135168, 106480) }
+{}
+
 /// 48 is a multiple of 16, and no alignment: no hold has searched for it.
 #[tactic(auto, unfolding(arena_rules::specs::PlainArena::empty_bins, arena_rules::specs::Search::most_stashed, std::specs::Prelude::count_ones))]
 fn an_alignment_is_a_power_of_two()
@@ -142,6 +170,22 @@ fn another_arena_is_opened_for_a_request()
     ensures again { bytes_of_other (with_windows 131072 2)
         (opens_for 40000 (Asked (NewHeap 1 0 45056) Refused ∷ Asked (NewHeap 1 0 32768) Granted ∷ [])
         ∷ []) ≡ Some (32768, 32768, 30528) }
+{}
+
+/// Another arena's journal begins with its opening: before that nothing is searched there, and not even a mapping is found.
+/// Nor is it opened twice.
+#[tactic(auto, unfolding(arena_rules::specs::PlainArena::empty_bins, arena_rules::specs::Search::most_stashed))]
+fn another_arena_is_opened_first()
+    ensures unopened { bytes_of_other serial_values (maps_at 200016 (Flag false ∷ Flag false ∷ Dial 131072 ∷ Dial 0
+        ∷ Asked (Map 0x601000000000 200704) Granted ∷ []) 0x601000000000 200704
+        ∷ []) ≡ None }
+    ensures opened { bytes_of_other serial_values (opens_for 640 (Asked (NewHeap 1 0 135168) Granted ∷ [])
+        ∷ maps_at 200016 (Flag false ∷ Flag false ∷ Dial 131072 ∷ Dial 0
+        ∷ Asked (Map 0x601000000000 200704) Granted ∷ []) 0x601000000000 200704
+        ∷ []) ≡ Some (135168, 135168, 132928) }
+    ensures twice { bytes_of_other serial_values (opens_for 640 (Asked (NewHeap 1 0 135168) Granted ∷ [])
+        ∷ opens_for 640 (Asked (NewHeap 1 0 135168) Granted ∷ [])
+        ∷ []) ≡ None }
 {}
 
 /// A heap is extended to its window's end at most; then one more comes, and what is left of the old top before its fence is

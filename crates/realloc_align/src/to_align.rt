@@ -128,6 +128,7 @@ pub fn aligned<M: Moves, K: Kernel, P: FastPort + Dials>(
     ensures replay { (start : Plain) → IsReplay t.now start a.old.journal.items (M.plain a.old.ground)
         → IsReplay t.now start a.new.journal.items (M.plain a.new.ground) }
 {
+    a.ground.top_law();
     if make_room(&mut a.journal).is_err() {
         return Err(GiveShort { back: None });
     }

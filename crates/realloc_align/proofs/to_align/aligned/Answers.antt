@@ -8,14 +8,14 @@ returns-in-Ok-clause-replay g c = λ start old.
     let finds = rw c.new-said.ensures.items at c.in-Ok.ensures.finds in
     let added = rw (c.make_room.ensures.answers, c.aligned_end.ensures) at c.append.ensures in
     let is = rw c.number-number.ensures at c.take_aligned.ensures in
-    records_replay start (can_align _ c.args.align c.args.nb _ c.requires.size c.requires.align c.requires.most c.requires.apart c.requires.ready.backed)
+    records_replay start (can_align _ c.args.align c.args.nb _ c.top_law.ensures c.requires.size c.requires.align c.requires.most c.requires.apart c.requires.ready.backed)
     (align_recorded _ c.args.t.now c.args.who c.args.align c.args.nb _ _ _ _ _ _ _ _ _ _ _ c.in-Ok.found c.take_aligned.result finds added is).records old
 
 pub returns-in-Err-clause-replay : goal.returns-in-Err-clause-replay
 returns-in-Err-clause-replay g c = λ start old.
     let finds = rw c.new-said.ensures.items at c.in-Err.ensures.finds in
     let added = rw c.make_room.ensures.answers at c.append-in-Err.ensures in
-    short_replay start (can_align _ c.args.align c.args.nb _ c.requires.size c.requires.align c.requires.most c.requires.apart c.requires.ready.backed)
+    short_replay start (can_align _ c.args.align c.args.nb _ c.top_law.ensures c.requires.size c.requires.align c.requires.most c.requires.apart c.requires.ready.backed)
     (inr (align_short _ c.args.t.now c.args.who c.args.align c.args.nb _ _ _ _ _ _ _ _ _ _ _ c.in-Err.field-0 finds added)) old
 
 pub returns-in-Ok-clause-fits : goal.returns-in-Ok-clause-fits
