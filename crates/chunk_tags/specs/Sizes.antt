@@ -1,5 +1,5 @@
 -- What a request becomes, and the indexes of a size: glibc 2.31 malloc/malloc.c, request2size, csize2tidx,
--- in_smallbin_range, smallbin_index, largebin_index_64, fastbin_index and set_max_fast.
+-- in_smallbin_range, smallbin_index, largebin_index_64 and fastbin_index.
 use Rattle.std.specs.Prelude.{◌≡◌, ℕ, ◌+◌, ◌-◌, ◌*◌, ◌/◌, ◌%◌, ◌^◌, ◌≤◌, Bool, nat_lt, nat_le, Option, Some, None, if◌then◌else◌}
 
 -- sizes of chunks: multiples of 16 from 32 on

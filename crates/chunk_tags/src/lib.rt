@@ -1,15 +1,17 @@
 //! The numbers of the allocator: chunk addresses and sizes, what a request becomes, the indexes of a size, blocks in
 //! somebody's hand, tiles in a row, and the tunables. A contract sees an address or a size as a number, and the rules
-//! of numbers and of rows are its definitions `Sizes`, `Pages`, `Tiles` and `Tunables`.
+//! of numbers and of rows are its definitions `Sizes`, `Pages`, `Tiles`, `Tunables` and `Mallopt`.
 #![tactic(auto)]
 
 mod block;
+mod mallopt;
 mod refusals;
 mod sizes;
 mod tiles;
 mod tunables;
 
 pub use block::Block;
+pub use mallopt::Parameter;
 pub use refusals::{NoMemory, Refused};
 pub use sizes::{
     Addr, MAX_CACHED, MAX_REQUEST, PAGE, Size, cache_index, cached_size, fast_index, is_small,

@@ -74,3 +74,58 @@ fn sizes_have_bins_and_pages(rt: HostRuntime) {
         (PAGE, PAGE, PAGE)
     );
 }
+
+/// What mallopt sets, in the order of its parameters.
+fn numbers(t: &Tunables) -> [u64; 7] {
+    [
+        t.max_fast,
+        t.trim_threshold,
+        t.top_pad,
+        t.mmap_threshold,
+        t.mmaps_max,
+        u64::from(t.arena_test),
+        u64::from(t.arena_max),
+    ]
+}
+
+/// The starting value of the thresholds and of the top pad.
+const START: u64 = 131_072;
+
+#[test]
+fn mallopt_sets_by_number(rt: HostRuntime) {
+    // what is set then, and whether the dynamic threshold is still on
+    for (param, value, after, dynamic) in [
+        (1, 24, [32, START, START, START, 65_536, 8, 0], true),
+        (-1, 131_072, [128, START, START, START, 65_536, 8, 0], false),
+        (-2, 0, [128, START, 0, START, 65_536, 8, 0], false),
+        (
+            -3,
+            33_554_432,
+            [128, START, START, 33_554_432, 65_536, 8, 0],
+            false,
+        ),
+        (
+            -4,
+            2_147_483_647,
+            [128, START, START, START, 2_147_483_647, 8, 0],
+            false,
+        ),
+        (-7, 1, [128, START, START, START, 65_536, 1, 0], true),
+        (-8, 2, [128, START, START, START, 65_536, 8, 2], true),
+        (-7, 0, [128, START, START, START, 65_536, 8, 0], true),
+        (-5, -1, [128, START, START, START, 65_536, 8, 0], true),
+    ] {
+        let mut t = Tunables::defaults(Mode::Serial);
+        assert_eq!(rt; t.mallopt(param, value), Ok(()), "{param} {value}");
+        assert_eq!(rt;
+            (numbers(&t), t.dynamic),
+            (after, dynamic),
+            "{param} {value}"
+        );
+    }
+    for (param, value) in [(1, 161), (-3, 33_554_433), (-4, 2_147_483_648), (-8, -1)] {
+        let mut t = Tunables::defaults(Mode::Serial);
+        assert_eq!(rt; t.mallopt(param, value), Err(Refused), "{param} {value}");
+        assert_eq!(rt; t, Tunables::defaults(Mode::Serial), "{param} {value}");
+    }
+}

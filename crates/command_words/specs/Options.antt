@@ -1,12 +1,15 @@
 -- The options of the command line: their names, the values that they take, and what each sets (this project's own, but
 -- for the values of mallopt(3) and the sizes of glibc 2.31's caches).
-use Rattle.std.specs.Prelude.{ℕ, ◌+◌, ◌*◌, ◌/◌, ◌%◌, ◌==◌, ◌&&◌, Bool, true, false, nat_le, nat_lt, List, [], ◌∷◌, Option, codes, find, if◌then◌else◌}
+use Rattle.std.specs.Prelude.{ℕ, ◌+◌, ◌%◌, ◌==◌, ◌&&◌, Bool, true, nat_le, List, [], ◌∷◌, Option, codes, find}
 use Rattle.std.specs.Int.{is_power_of_two}
 use Rattle.std.specs.Str.{bytes_eq}
+use Rattle.chunk_tags.specs.Mallopt.{largest_of, set_parameter}
 use Rattle.chunk_tags.specs.Sizes.{chunk_size_of, cache_index_of}
+use Rattle.chunk_tags.specs.declared.mallopt.Parameter.{Parameter}
+use Rattle.chunk_tags.specs.declared.mallopt.Parameter.TheVariants.{Mxfast, TrimThreshold, TopPad, MmapThreshold, MmapMax, ArenaTest, ArenaMax}
 use Rattle.chunk_tags.specs.declared.tunables.Tunables.{Tunables}
 use Rattle.command_words.specs.declared.setting.Setting.{Setting}
-use Rattle.command_words.specs.declared.setting.Setting.TheVariants.{Mxfast, TrimThreshold, TopPad, MmapThreshold, MmapMax, ArenaTest, ArenaMax, TcacheCount, TcacheMax, Cores, Records, HeapMax, Heaps, MainMax, Polls, Gen, Lines}
+use Rattle.command_words.specs.declared.setting.Setting.TheVariants.{Mallopt, TcacheCount, TcacheMax, Cores, Records, HeapMax, Heaps, MainMax, Polls, Gen, Lines}
 use Rattle.command_words.specs.declared.setting.Form.{Form}
 use Rattle.command_words.specs.declared.setting.Form.TheVariants.{Any, PowerOfTwo, Pages}
 use Rattle.command_words.specs.declared.setting.Range.{Range}
@@ -21,18 +24,23 @@ pub record Row : Type 0 where
 abbrev pub row : List ℕ → ℕ → ℕ → Form → Row
 row name lowest highest form = record { name = name; range = record { lowest = lowest; highest = highest; form = form } }
 
--- the largest number that mallopt takes, an int
-abbrev pub max_int : ℕ
-max_int = 2147483647
+-- the name of the option for a parameter of mallopt(3)
+abbrev pub parameter_name : Parameter → List ℕ
+parameter_name Mxfast = codes "mxfast"
+parameter_name TrimThreshold = codes "trim-threshold"
+parameter_name TopPad = codes "top-pad"
+parameter_name MmapThreshold = codes "mmap-threshold"
+parameter_name MmapMax = codes "mmap-max"
+parameter_name ArenaTest = codes "arena-test"
+parameter_name ArenaMax = codes "arena-max"
+
+-- the lowest value of that option
+abbrev pub lowest_of : Parameter → ℕ
+lowest_of ArenaTest = 1
+lowest_of _ = 0
 
 abbrev pub row_of : Setting → Row
-row_of Mxfast = row (codes "mxfast") 0 160 Any
-row_of TrimThreshold = row (codes "trim-threshold") 0 max_int Any
-row_of TopPad = row (codes "top-pad") 0 max_int Any
-row_of MmapThreshold = row (codes "mmap-threshold") 0 33554432 Any
-row_of MmapMax = row (codes "mmap-max") 0 max_int Any
-row_of ArenaTest = row (codes "arena-test") 1 max_int Any
-row_of ArenaMax = row (codes "arena-max") 0 max_int Any
+row_of (Mallopt parameter) = row (parameter_name parameter) (lowest_of parameter) (largest_of parameter) Any
 row_of TcacheCount = row (codes "tcache-count") 0 127 Any
 row_of TcacheMax = row (codes "tcache-max") 0 1032 Any
 row_of Cores = row (codes "cores") 1 64 Any
@@ -46,7 +54,7 @@ row_of Lines = row (codes "lines") 0 1000000 Any
 
 -- the options that take a value
 abbrev pub settings : List Setting
-settings = Mxfast ∷ TrimThreshold ∷ TopPad ∷ MmapThreshold ∷ MmapMax ∷ ArenaTest ∷ ArenaMax ∷ TcacheCount ∷ TcacheMax ∷ Cores ∷ Records ∷ HeapMax ∷ Heaps ∷ MainMax ∷ Polls ∷ Gen ∷ Lines ∷ []
+settings = Mallopt Mxfast ∷ Mallopt TrimThreshold ∷ Mallopt TopPad ∷ Mallopt MmapThreshold ∷ Mallopt MmapMax ∷ Mallopt ArenaTest ∷ Mallopt ArenaMax ∷ TcacheCount ∷ TcacheMax ∷ Cores ∷ Records ∷ HeapMax ∷ Heaps ∷ MainMax ∷ Polls ∷ Gen ∷ Lines ∷ []
 
 -- the option with a value that has this name
 unfoldable pub setting_named : List ℕ → Option Setting
@@ -75,24 +83,13 @@ takes_number setting n = is_within (row_of setting).range n
 
 -- ---- what a setting sets
 
--- the largest size of a fast chunk for a value: glibc's set_max_fast
-abbrev pub max_fast_of : ℕ → ℕ
-max_fast_of n = if nat_lt n 8 then 16 else (n + 8) / 16 * 16
-
 -- how many lists of a cache are used, where this is the largest request that is cached
 abbrev pub bins_up_to : ℕ → ℕ
 bins_up_to n = cache_index_of (chunk_size_of n) + 1
 
--- the tunables with a setting at this number. Each of the four thresholds switches the dynamic one off, whatever its
--- value; what a generated trace has is no tunable.
+-- the tunables with a setting at this number; what a generated trace has is no tunable
 abbrev pub set : Setting → ℕ → Tunables → Tunables
-set Mxfast n t = record t { max_fast = max_fast_of n }
-set TrimThreshold n t = record t { trim_threshold = n; dynamic = false }
-set TopPad n t = record t { top_pad = n; dynamic = false }
-set MmapThreshold n t = record t { mmap_threshold = n; dynamic = false }
-set MmapMax n t = record t { mmaps_max = n; dynamic = false }
-set ArenaTest n t = record t { arena_test = n }
-set ArenaMax n t = record t { arena_max = n }
+set (Mallopt parameter) n t = set_parameter parameter n t
 set TcacheCount n t = record t { tcache_count = n }
 set TcacheMax n t = record t { tcache_bins = bins_up_to n }
 set Cores n t = record t { cores = n }

@@ -1,18 +1,15 @@
 //! The options that take a value.
 
 ghost use Rattle.std.specs.Prelude.{◌≡◌};
-ghost use Rattle.command_words.specs.Options.{row_of, setting_named, is_within};
+ghost use Rattle.command_words.specs.Options.{row_of, lowest_of, setting_named, is_within};
+
+use chunk_tags::Parameter;
 
 /// What an option with a value sets; the field of the tunables says what it means.
 #[derive(Clone, Copy, Debug, PartialEq, Eq)]
 pub enum Setting {
-    Mxfast,
-    TrimThreshold,
-    TopPad,
-    MmapThreshold,
-    MmapMax,
-    ArenaTest,
-    ArenaMax,
+    /// A parameter of mallopt(3).
+    Mallopt(Parameter),
     TcacheCount,
     TcacheMax,
     Cores,
@@ -66,8 +63,20 @@ fn any_within(lowest: u64, highest: u64) -> Range
     }
 }
 
-/// The largest number that mallopt takes, an `int`.
-const MAX_INT: u64 = 2_147_483_647;
+/// The lowest value of the option for a parameter of mallopt(3).
+fn lowest(parameter: Parameter) -> u64
+    ensures { result ≡ lowest_of parameter }
+{
+    match parameter {
+        Parameter::ArenaTest => 1,
+        Parameter::Mxfast
+        | Parameter::TrimThreshold
+        | Parameter::TopPad
+        | Parameter::MmapThreshold
+        | Parameter::MmapMax
+        | Parameter::ArenaMax => 0,
+    }
+}
 
 impl Setting {
     /// The option with this name; `None` where no option that takes a value has it.
@@ -76,13 +85,13 @@ impl Setting {
         ensures { result ≡ setting_named name.now }
     {
         match name {
-            "mxfast" => Some(Setting::Mxfast),
-            "trim-threshold" => Some(Setting::TrimThreshold),
-            "top-pad" => Some(Setting::TopPad),
-            "mmap-threshold" => Some(Setting::MmapThreshold),
-            "mmap-max" => Some(Setting::MmapMax),
-            "arena-test" => Some(Setting::ArenaTest),
-            "arena-max" => Some(Setting::ArenaMax),
+            "mxfast" => Some(Setting::Mallopt(Parameter::Mxfast)),
+            "trim-threshold" => Some(Setting::Mallopt(Parameter::TrimThreshold)),
+            "top-pad" => Some(Setting::Mallopt(Parameter::TopPad)),
+            "mmap-threshold" => Some(Setting::Mallopt(Parameter::MmapThreshold)),
+            "mmap-max" => Some(Setting::Mallopt(Parameter::MmapMax)),
+            "arena-test" => Some(Setting::Mallopt(Parameter::ArenaTest)),
+            "arena-max" => Some(Setting::Mallopt(Parameter::ArenaMax)),
             "tcache-count" => Some(Setting::TcacheCount),
             "tcache-max" => Some(Setting::TcacheMax),
             "cores" => Some(Setting::Cores),
@@ -102,11 +111,7 @@ impl Setting {
         ensures { result ≡ (row_of self).range }
     {
         match self {
-            Setting::Mxfast => any_within(0, 160),
-            Setting::TrimThreshold | Setting::TopPad => any_within(0, MAX_INT),
-            Setting::MmapThreshold => any_within(0, 33_554_432),
-            Setting::MmapMax | Setting::ArenaMax => any_within(0, MAX_INT),
-            Setting::ArenaTest => any_within(1, MAX_INT),
+            Setting::Mallopt(parameter) => any_within(lowest(parameter), parameter.largest()),
             Setting::TcacheCount => any_within(0, 127),
             Setting::TcacheMax => any_within(0, 1032),
             Setting::Cores | Setting::Records | Setting::Heaps => any_within(1, 64),

@@ -1,8 +1,8 @@
 //! What the options set.
 
-ghost use Rattle.std.specs.Prelude.{◌≡◌, ◌≤◌, false, IsTrue, IfSome};
+ghost use Rattle.std.specs.Prelude.{◌≡◌, ◌≤◌, IsTrue, IfSome};
 ghost use Rattle.chunk_tags.specs.Tunables.{IsTuned};
-ghost use Rattle.command_words.specs.Options.{takes_number, max_fast_of, bins_up_to, set};
+ghost use Rattle.command_words.specs.Options.{takes_number, bins_up_to, set};
 ghost use Rattle.command_words.specs.Asked.{fresh_draft, with_choice};
 ghost use Rattle.command_words.specs.Views.{IsFitting};
 
@@ -18,14 +18,6 @@ pub struct Draft {
     pub lines: Option<u64>,
 }
 
-/// The largest size of a fast chunk for a value: glibc's `set_max_fast`.
-fn max_fast(n: u64) -> u64
-    requires { n ≤ 160 }
-    ensures { result ≡ max_fast_of n }
-{
-    if n < 8 { 16 } else { (n + 8) / 16 * 16 }
-}
-
 /// How many lists of a cache are used, where this is the largest request that is cached.
 fn bins(n: u64) -> u8
     requires { n ≤ 1032 }
@@ -33,16 +25,6 @@ fn bins(n: u64) -> u8
 {
     let largest = request_size(n).unwrap();
     cache_index(largest) + 1
-}
-
-/// The tunables with the dynamic threshold off.
-fn steady(t: Tunables) -> Tunables
-    ensures { result ≡ record t { dynamic = false } }
-{
-    Tunables {
-        dynamic: false,
-        ..t
-    }
 }
 
 /// The tunables with an option at this number.
@@ -53,34 +35,7 @@ pub(crate) fn set(setting: Setting, n: u64, t: Tunables) -> Tunables
     ensures tuned { IsTuned result }
 {
     match setting {
-        Setting::Mxfast => Tunables {
-            max_fast: max_fast(n),
-            ..t
-        },
-        Setting::TrimThreshold => Tunables {
-            trim_threshold: n,
-            ..steady(t)
-        },
-        Setting::TopPad => Tunables {
-            top_pad: n,
-            ..steady(t)
-        },
-        Setting::MmapThreshold => Tunables {
-            mmap_threshold: n,
-            ..steady(t)
-        },
-        Setting::MmapMax => Tunables {
-            mmaps_max: n,
-            ..steady(t)
-        },
-        Setting::ArenaTest => Tunables {
-            arena_test: n as u32,
-            ..t
-        },
-        Setting::ArenaMax => Tunables {
-            arena_max: n as u32,
-            ..t
-        },
+        Setting::Mallopt(parameter) => t.with_parameter(parameter, n),
         Setting::TcacheCount => Tunables {
             tcache_count: n as u16,
             ..t
