@@ -24,8 +24,11 @@ use std::alloc::Global;
 use std::io;
 use std::process::ExitCode;
 use table::table;
-use trace_replay::{CountSink, Exit, Open, Sink, Source, StdSink, StdSource};
+use trace_replay::{CountSink, Exit, Open, Sink, Source, StdSink, StdSource, THREADS};
 use words::{all_words, take_flag};
+
+/// A port for each thread.
+const PORTS: usize = THREADS as usize;
 
 /// Runs over a port for each of these counts, and lets go what the run writes.
 fn count_calls<S: Source>(
@@ -37,7 +40,8 @@ fn count_calls<S: Source>(
     requires { length all.old ≡ 64 }
 
     // Words that are refused are answered so, or memory is short.
-    ensures word { IfErr (served_of words.now) (λ exit. (result ≡ exit) ⊎ (result ≡ Exit.NoMemory)) }
+    ensures word { IfErr (served_of words.now)
+        (λ exit. (result ≡ exit) ⊎ (result ≡ Exit.NoMemory)) }
 
     // What the words and the bytes alone refuse is refused exactly where they do.
     ensures job { (bytes : List ℕ) → TellsInput S.supply (served_of words.now) source.old bytes →
@@ -67,7 +71,8 @@ fn report<S: Source, W: Sink>(
     sink: &mut W,
 ) -> Exit
     // Words that are refused are answered so, or memory is short.
-    ensures word { IfErr (served_of words.now) (λ exit. (result ≡ exit) ⊎ (result ≡ Exit.NoMemory)) }
+    ensures word { IfErr (served_of words.now)
+        (λ exit. (result ≡ exit) ⊎ (result ≡ Exit.NoMemory)) }
 
     // What the words and the bytes alone refuse is refused exactly where they do.
     ensures job { (bytes : List ℕ) → TellsInput S.supply (served_of words.now) source.old bytes →
@@ -83,7 +88,7 @@ fn report<S: Source, W: Sink>(
     ensures sink { LeavesSink W.store sink.old result sink.new }
     ensures table { result ≡ Exit.Done → WritesTable W.store sink.old by_thread sink.new }
 {
-    let mut all = [Counts::NONE; 64];
+    let mut all = [Counts::NONE; PORTS];
     let exit = count_calls(alloc, words, source, &mut all);
     if exit != Exit::Done {
         return exit;

@@ -10,7 +10,7 @@ use std::alloc::Global;
 
 /// How a count stands in the table.
 #[derive(Clone, Copy, Debug, PartialEq, Eq)]
-pub(crate) enum Form {
+enum Form {
     /// In a line of its own, behind its name.
     Line,
     /// In a row, without its name.
