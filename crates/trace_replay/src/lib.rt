@@ -25,20 +25,4 @@ pub use top_call::run;
 pub use trace_text::THREADS;
 
 #[cfg(test)]
-mod arenas;
-#[cfg(test)]
 mod examples;
-#[cfg(test)]
-mod fault_tests;
-#[cfg(test)]
-mod form_tests;
-#[cfg(test)]
-mod gate_tests;
-#[cfg(test)]
-mod resizes;
-#[cfg(test)]
-mod rows;
-#[cfg(test)]
-mod tests;
-#[cfg(test)]
-mod texts;

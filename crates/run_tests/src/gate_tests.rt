@@ -2,10 +2,10 @@
 
 use crate::tests::ample;
 use crate::texts::{TWO_BLOCKS, TWO_LINES};
-use crate::{Exit, Gate, SureSource, run};
 use address_space::Always;
 use std::sync::atomic::{AtomicU64, Ordering};
 use std::test::Fail;
+use trace_replay::{Exit, Gate, SureSource, run};
 
 /// A gate that counts its calls.
 #[derive(Drop)]

@@ -3,7 +3,6 @@
 ghost use Rattle.std.specs.Prelude.{◌≡◌, None, IfOk, vec_len};
 ghost use Rattle.byte_edge.specs.Streams.{Supply, Store};
 
-use super::*;
 use crate::arenas::{
     ALIGNED_IN_A_HEAP, MAPPED_STRUCTURE, MOVED_IN_THE_END, NOT_ALIGNED, ONE_ALIGNED, TWO_IN_A_HEAP,
     TWO_MAPPED,
@@ -16,6 +15,10 @@ use address_space::{Always, Budget};
 use chunk_tags::NoMemory;
 use std::alloc::Global;
 use std::test::Fail;
+use trace_replay::{
+    CountSink, Exit, Fetch, Flush, MemSink, MemSource, Open, Put, Sink, Source, StdSink, StdSource,
+    SureSource, run,
+};
 
 /// The bytes that a write of `Sips` takes at the most.
 const SIP: usize = 7;

@@ -2,7 +2,6 @@
 
 ghost use Rattle.std.specs.Prelude.{◌≤◌};
 
-use super::*;
 use crate::arenas::{ONE_CORE, ONE_CORE_REPORT};
 use crate::tests::ample;
 use crate::texts::{
@@ -13,6 +12,7 @@ use chunk_tags::NoMemory;
 use std::alloc::Global;
 use std::test::Fail;
 use trace_maker::generate;
+use trace_replay::{Exit, MemSink, MemSource, Open, Source, SureSource, run};
 use trace_text::print_trace;
 
 /// The program's name, and behind it `--summary` where that is asked for.

@@ -1,6 +1,5 @@
 //! Whole runs, with the texts that the rules give for them.
 
-use super::*;
 use crate::arenas::*;
 use crate::resizes::*;
 use crate::rows::*;
@@ -9,6 +8,7 @@ use address_space::Always;
 use chunk_tags::NoMemory;
 use std::alloc::{AllocError, Global};
 use std::test::Fail;
+use trace_replay::{Exit, MemSink, Open, Sink, Source, SureSource, run};
 use trace_text::BadWhy;
 
 /// Runs over ports that grant each ask, without a word.
