@@ -1,5 +1,5 @@
 -- A call is read from the command and the numbers that spell it, and from no other.
-use Rattle.std.proofs.Common.{◌≡◌, ℕ, ◌^◌, ◌<◌, cond, List, [], ◌∷◌, map, codes, Result, Ok, refl, ap, subst, ◌∙◌, arith, inl, inr}
+use Rattle.std.proofs.Common.{◌≡◌, ℕ, ◌^◌, ◌<◌, ◌≤◌, eqb, cond, List, [], ◌∷◌, map, codes, Result, Ok, refl, ap, subst, ◌∙◌, arith, inl, inr}
 use Rattle.std.specs.Fmt.{decimal}
 use Rattle.std.specs.Str.{bytes_eq}
 use Rattle.std.proofs.lemmas.Bool.{cases_Bool, ne_eqb}
@@ -9,7 +9,7 @@ use Rattle.trace_text.specs.declared.command.Command.{Command}
 use Rattle.trace_text.specs.declared.command.Command.TheVariants as command
 use Rattle.trace_text.specs.declared.trace.Call.{Call}
 use Rattle.trace_text.specs.declared.trace.Call.TheVariants.{Malloc, Calloc, Realloc, Align, Free, Post, Take, Exit}
-use Rattle.trace_text.specs.Grammar.{◌>>=◌, command_of, call_of}
+use Rattle.trace_text.specs.Grammar.{◌>>=◌, highest_name, command_of, call_of}
 use Rattle.trace_text.specs.Spelling.{IsName, IsCall}
 use Rattle.trace_text.proofs.Steps.{bind_ok, ok_is, name_again, tray_again, one_again, two_again, three_again, alone_is, size_is, tray_pair_is, sizes_is, end_is}
 
@@ -74,38 +74,41 @@ numbers_of Exit = []
 -- ---- reading a call
 
 -- what was read: the fields are the numbers of the call
-pub record Spells (thread : ℕ) (k : Command) (fields : List (List ℕ)) (call : Call) : Type 0 where
+pub record Spells (version thread : ℕ) (k : Command) (fields : List (List ℕ)) (call : Call) : Type 0 where
   pub command : k ≡ command_for call
   pub spelled : fields ≡ map decimal (numbers_of call)
-  pub range : IsCall thread call
+  pub range : IsCall version thread call
 
 -- what was read before it is made a call
-made : {A : Type 0} (thread : ℕ) (k : Command) (fields : List (List ℕ)) (read : Result A BadWhy) (make : A → Call) (call : Call) → (read >>= λ x. Ok (make x)) ≡ Ok call → ((x : A) → read ≡ Ok x → Spells thread k fields (make x)) → Spells thread k fields call
-made thread k fields read make call e spells =
+made : {A : Type 0} (version thread : ℕ) (k : Command) (fields : List (List ℕ)) (read : Result A BadWhy) (make : A → Call) (call : Call) → (read >>= λ x. Ok (make x)) ≡ Ok call → ((x : A) → read ≡ Ok x → Spells version thread k fields (make x)) → Spells version thread k fields call
+made version thread k fields read make call e spells =
     let x = bind_ok read (λ x. Ok (make x)) call e in
-    subst (λ (c : Call). Spells thread k fields c) (ok_is (make x.0) call x.2) (spells x.0 x.1)
+    subst (λ (c : Call). Spells version thread k fields c) (ok_is (make x.0) call x.2) (spells x.0 x.1)
 
-pub call_is : (thread : ℕ) (k : Command) (fields : List (List ℕ)) (call : Call) → call_of thread k fields ≡ Ok call → Spells thread k fields call
+pub call_is : (version thread : ℕ) (k : Command) (fields : List (List ℕ)) (call : Call) → call_of version thread k fields ≡ Ok call → Spells version thread k fields call
 unfolding call_of
-call_is thread command.Malloc fields call e = made thread command.Malloc fields _ _ call e (λ p read. let found = size_is fields p read in record { command = refl; spelled = found.0; range = (found.1, found.2) })
-call_is thread command.Calloc fields call e = made thread command.Calloc fields _ _ call e (λ p read. let found = sizes_is fields p read in record { command = refl; spelled = found.0; range = (found.1, found.2, found.3) })
-call_is thread command.Realloc fields call e = made thread command.Realloc fields _ _ call e (λ p read. let found = size_is fields p read in record { command = refl; spelled = found.0; range = (found.1, found.2) })
-call_is thread command.Align fields call e = made thread command.Align fields _ _ call e (λ p read. let found = sizes_is fields p read in record { command = refl; spelled = found.0; range = (found.1, found.2, found.3) })
-call_is thread command.Free fields call e = made thread command.Free fields _ _ call e (λ name read. let found = alone_is fields name read in record { command = refl; spelled = found.0; range = found.1 })
-call_is thread command.Post fields call e = made thread command.Post fields _ _ call e (λ p read. let found = tray_pair_is fields p read in record { command = refl; spelled = found.0; range = (found.1, found.2) })
-call_is thread command.Take fields call e = made thread command.Take fields _ _ call e (λ p read. let found = tray_pair_is fields p read in record { command = refl; spelled = found.0; range = (found.1, found.2) })
-call_is thread command.Exit fields call e = made thread command.Exit fields _ _ call e (λ none read. let found = end_is thread fields none read in record { command = refl; spelled = found.0; range = found.1 })
+call_is version thread command.Malloc fields call e = made version thread command.Malloc fields _ _ call e (λ p read. let found = size_is version fields p read in record { command = refl; spelled = found.0; range = (found.1, found.2) })
+call_is version thread command.Calloc fields call e = made version thread command.Calloc fields _ _ call e (λ p read. let found = sizes_is version fields p read in record { command = refl; spelled = found.0; range = (found.1, found.2, found.3) })
+call_is version thread command.Realloc fields call e = made version thread command.Realloc fields _ _ call e (λ p read. let found = size_is version fields p read in record { command = refl; spelled = found.0; range = (found.1, found.2) })
+call_is version thread command.Align fields call e = made version thread command.Align fields _ _ call e (λ p read. let found = sizes_is version fields p read in record { command = refl; spelled = found.0; range = (found.1, found.2, found.3) })
+call_is version thread command.Free fields call e = made version thread command.Free fields _ _ call e (λ name read. let found = alone_is version fields name read in record { command = refl; spelled = found.0; range = found.1 })
+call_is version thread command.Post fields call e = made version thread command.Post fields _ _ call e (λ p read. let found = tray_pair_is version fields p read in record { command = refl; spelled = found.0; range = (found.1, found.2) })
+call_is version thread command.Take fields call e = made version thread command.Take fields _ _ call e (λ p read. let found = tray_pair_is version fields p read in record { command = refl; spelled = found.0; range = (found.1, found.2) })
+call_is version thread command.Exit fields call e = made version thread command.Exit fields _ _ call e (λ none read. let found = end_is thread fields none read in record { command = refl; spelled = found.0; range = found.1 })
 
-named_small : (name : ℕ) → IsName name → name < 2 ^ 64
-named_small name h = omega (arith, h.1)
+highest_small : (version : ℕ) → highest_name version ≤ 4294967295
+highest_small version = elim (cases_Bool (eqb version 1)) [ inl first ↦ rw first (omega arith) | inr other ↦ rw other (omega arith) ]
 
-pub call_again : (thread : ℕ) (call : Call) → IsCall thread call → call_of thread (command_for call) (map decimal (numbers_of call)) ≡ Ok call
+pub named_small : (version name : ℕ) → IsName version name → name < 2 ^ 64
+named_small version name h = omega (arith, h.1, highest_small version)
+
+pub call_again : (version thread : ℕ) (call : Call) → IsCall version thread call → call_of version thread (command_for call) (map decimal (numbers_of call)) ≡ Ok call
 unfolding call_of
-call_again thread (Malloc name size) r = rw (two_again name size (named_small name r.0) r.1, name_again name r.0) refl
-call_again thread (Calloc name n size) r = rw (three_again name n size (named_small name r.0) r.1 r.2, name_again name r.0) refl
-call_again thread (Realloc name size) r = rw (two_again name size (named_small name r.0) r.1, name_again name r.0) refl
-call_again thread (Align name align size) r = rw (three_again name align size (named_small name r.0) r.1 r.2, name_again name r.0) refl
-call_again thread (Free name) r = rw (one_again name (named_small name r), name_again name r) refl
-call_again thread (Post name tray) r = rw (two_again name tray (named_small name r.0) (omega (arith, r.1)), name_again name r.0, tray_again tray r.1) refl
-call_again thread (Take name tray) r = rw (two_again name tray (named_small name r.0) (omega (arith, r.1)), name_again name r.0, tray_again tray r.1) refl
-call_again thread Exit r = rw (ne_eqb thread 0 (λ is. absurd (omega (arith, is)))) refl
+call_again version thread (Malloc name size) r = rw (two_again name size (named_small version name r.0) r.1, name_again version name r.0) refl
+call_again version thread (Calloc name n size) r = rw (three_again name n size (named_small version name r.0) r.1 r.2, name_again version name r.0) refl
+call_again version thread (Realloc name size) r = rw (two_again name size (named_small version name r.0) r.1, name_again version name r.0) refl
+call_again version thread (Align name align size) r = rw (three_again name align size (named_small version name r.0) r.1 r.2, name_again version name r.0) refl
+call_again version thread (Free name) r = rw (one_again name (named_small version name r), name_again version name r) refl
+call_again version thread (Post name tray) r = rw (two_again name tray (named_small version name r.0) (omega (arith, r.1)), name_again version name r.0, tray_again tray r.1) refl
+call_again version thread (Take name tray) r = rw (two_again name tray (named_small version name r.0) (omega (arith, r.1)), name_again version name r.0, tray_again tray r.1) refl
+call_again version thread Exit r = rw (ne_eqb thread 0 (λ is. absurd (omega (arith, is)))) refl

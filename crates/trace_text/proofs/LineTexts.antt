@@ -18,11 +18,11 @@ no_end text first lines e =
     let bad : text ∷ [] ≡ first ∷ parts.0 ∷ parts.1 = rw parts.2 at e in
     absurd cc
 
-pub behind_header : (bytes first body : List ℕ) (lines : List Line) → parts_of bytes ≡ first ∷ parts_of body → Allows lines → bytes ≡ spelling lines → parts_of body ≡ texts_of lines
-behind_header bytes first body lines cut fit is = same_others first header (parts_of body) (texts_of lines) (sym cut ∙ ap parts_of is ∙ spelling_split lines fit)
+pub behind_header : (bytes first body : List ℕ) (version : ℕ) (lines : List Line) → parts_of bytes ≡ first ∷ parts_of body → Allows version lines → bytes ≡ spelling version lines → parts_of body ≡ texts_of lines
+behind_header bytes first body version lines cut fit is = same_others first (header version) (parts_of body) (texts_of lines) (sym cut ∙ ap parts_of is ∙ spelling_split version lines fit)
 
-pub has_header : (bytes : List ℕ) (lines : List Line) → parts_of bytes ≡ bytes ∷ [] → Allows lines → bytes ≡ spelling lines → ⊥
-has_header bytes lines cut fit is = no_end bytes header lines (sym cut ∙ ap parts_of is ∙ spelling_split lines fit)
+pub has_header : (bytes : List ℕ) (version : ℕ) (lines : List Line) → parts_of bytes ≡ bytes ∷ [] → Allows version lines → bytes ≡ spelling version lines → ⊥
+has_header bytes version lines cut fit is = no_end bytes (header version) lines (sym cut ∙ ap parts_of is ∙ spelling_split version lines fit)
 
 pub has_text : (rest : List ℕ) (line : Line) (lines : List Line) → parts_of rest ≡ rest ∷ [] → parts_of rest ≡ texts_of (line ∷ lines) → ⊥
 has_text rest line lines cut is = no_end rest (spelling_of line) lines (sym cut ∙ is)

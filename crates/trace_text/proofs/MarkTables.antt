@@ -1,18 +1,20 @@
--- Tables of marks.
-use Rattle.std.proofs.Common.{◌≡◌, ℕ, zero, suc, Bool, false, List, [], ◌∷◌, ◌++◌, get_or, replicate, refl, ap}
-use Rattle.trace_text.specs.Marks.{has, has_at}
+-- Tables of marks, and the names that threads hold.
+use Rattle.std.proofs.Common.{◌≡◌, ℕ, zero, suc, Bool, false, ltb, List, [], ◌∷◌, ◌++◌, get_or, replicate, refl, sym, ap, ◌∙◌, inl, inr}
+use Rattle.std.proofs.lemmas.Bool.{cases_Bool}
+use Rattle.trace_text.specs.Marks.{has}
+use Rattle.trace_text.specs.Names.{none_held, holds, holds_at}
 
-abbrev none_marked : List Bool
-none_marked = []
-
-none_at : (count i : ℕ) → get_or (replicate count none_marked) i none_marked ≡ none_marked
+none_at : (count i : ℕ) → get_or (replicate count none_held) i none_held ≡ none_held
 none_at zero i = refl
 none_at (suc count) zero = refl
 none_at (suc count) (suc i) = none_at count i
 
--- in empty tables no number is marked
-pub none_marked_at : (count i k : ℕ) → has_at (replicate count []) i k ≡ false
-none_marked_at count i k = ap (λ marks. has marks k) (none_at count i)
+none_of : (k : ℕ) → holds none_held k ≡ false
+none_of k = elim (cases_Bool (ltb k 65536)) [ inl near ↦ rw near refl | inr far ↦ rw far refl ]
+
+-- before any line, no thread holds a name
+pub none_held_at : (count i k : ℕ) → holds_at (replicate count none_held) i k ≡ false
+none_held_at count i k = ap (λ names. holds names k) (none_at count i) ∙ none_of k
 
 none_in : (c k : ℕ) → has (replicate c false) k ≡ false
 none_in zero k = refl

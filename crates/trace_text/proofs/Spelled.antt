@@ -22,7 +22,7 @@ use Rattle.trace_text.proofs.Numerals.{are_digits}
 use Rattle.trace_text.proofs.Digits.{digit_bounds}
 use Rattle.trace_text.proofs.Cuts.{Lacks, split_join}
 use Rattle.trace_text.proofs.Steps.{bind_ok, guard_ok, no_fault, ok_is, thread_is, thread_again}
-use Rattle.trace_text.proofs.Calls.{letter_of, command_again, command_is, command_for, numbers_of, call_is, call_again}
+use Rattle.trace_text.proofs.Calls.{letter_of, command_again, command_is, command_for, numbers_of, call_is, named_small, call_again}
 
 -- the fields of a line
 abbrev pub line_fields : ℕ → Call → List (List ℕ)
@@ -66,15 +66,15 @@ filled_from_length field some = ne_eqb (length field) 0 (λ none. absurd (omega 
 abbrev AllSmall : List ℕ → Type 0
 AllSmall ns = AllByRecursion (λ n. n < 2 ^ 64) ns
 
-numbers_small : (thread : ℕ) (call : Call) → IsCall thread call → AllSmall (numbers_of call)
-numbers_small thread (Malloc name size) r = (omega (arith, r.0.1), (r.1, tt))
-numbers_small thread (Calloc name n size) r = (omega (arith, r.0.1), (r.1, (r.2, tt)))
-numbers_small thread (Realloc name size) r = (omega (arith, r.0.1), (r.1, tt))
-numbers_small thread (Align name align size) r = (omega (arith, r.0.1), (r.1, (r.2, tt)))
-numbers_small thread (Free name) r = (omega (arith, r.1), tt)
-numbers_small thread (Post name tray) r = (omega (arith, r.0.1), (omega (arith, r.1), tt))
-numbers_small thread (Take name tray) r = (omega (arith, r.0.1), (omega (arith, r.1), tt))
-numbers_small thread Exit r = tt
+numbers_small : (version thread : ℕ) (call : Call) → IsCall version thread call → AllSmall (numbers_of call)
+numbers_small version thread (Malloc name size) r = (named_small version name r.0, (r.1, tt))
+numbers_small version thread (Calloc name n size) r = (named_small version name r.0, (r.1, (r.2, tt)))
+numbers_small version thread (Realloc name size) r = (named_small version name r.0, (r.1, tt))
+numbers_small version thread (Align name align size) r = (named_small version name r.0, (r.1, (r.2, tt)))
+numbers_small version thread (Free name) r = (named_small version name r, tt)
+numbers_small version thread (Post name tray) r = (named_small version name r.0, (omega (arith, r.1), tt))
+numbers_small version thread (Take name tray) r = (named_small version name r.0, (omega (arith, r.1), tt))
+numbers_small version thread Exit r = tt
 
 decimals_filled : (ns : List ℕ) → AllSmall ns → all_filled (map decimal ns) ≡ true
 decimals_filled [] h = refl
@@ -92,51 +92,51 @@ Lacks-join c (part ∷ next ∷ parts) other h =
 
 -- ---- the fields of a text
 
-fields_again : (line : Line) → line.thread ≤ 63 → IsCall line.thread line.call → fields_of (spelling_of line) ≡ line_fields line.thread line.call
-fields_again line small range =
+fields_again : (version : ℕ) (line : Line) → line.thread ≤ 63 → IsCall version line.thread line.call → fields_of (spelling_of line) ≡ line_fields line.thread line.call
+fields_again version line small range =
     ap (slice_split (λ b. b == 32)) (spelling_is line)
     ∙ split_join 32 (decimal line.thread) (letter_of (command_for line.call) ∷ map decimal (numbers_of line.call))
-    (decimal_lacks 32 line.thread (omega arith) (omega arith), ((letter_is (command_for line.call)).0, decimals_lack 32 (numbers_of line.call) (omega arith) (numbers_small line.thread line.call range)))
+    (decimal_lacks 32 line.thread (omega arith) (omega arith), ((letter_is (command_for line.call)).0, decimals_lack 32 (numbers_of line.call) (omega arith) (numbers_small version line.thread line.call range)))
 
 -- a spelling has no newline
-pub spelling_lacks : (before : List Line) (line : Line) → Fits before line → Lacks 10 (spelling_of line)
-spelling_lacks before line fits =
+pub spelling_lacks : (version : ℕ) (before : List Line) (line : Line) → Fits version before line → Lacks 10 (spelling_of line)
+spelling_lacks version before line fits =
     let small = fits.thread in
     rw (spelling_is line) (Lacks-join 10 (line_fields line.thread line.call) refl
-    (decimal_lacks 10 line.thread (omega arith) (omega arith), ((letter_is (command_for line.call)).1, decimals_lack 10 (numbers_of line.call) (omega arith) (numbers_small line.thread line.call fits.call))))
+    (decimal_lacks 10 line.thread (omega arith) (omega arith), ((letter_is (command_for line.call)).1, decimals_lack 10 (numbers_of line.call) (omega arith) (numbers_small version line.thread line.call fits.call))))
 
 -- ---- a line that fits is read from its spelling
 
-filled_again : (before : List Line) (line : Line) → Fits before line → filled_line before (decimal line.thread) (letter_of (command_for line.call)) (map decimal (numbers_of line.call)) ≡ Ok line
+filled_again : (version : ℕ) (before : List Line) (line : Line) → Fits version before line → filled_line version before (decimal line.thread) (letter_of (command_for line.call)) (map decimal (numbers_of line.call)) ≡ Ok line
 unfolding filled_line
-filled_again before line fits =
-    rw (thread_again line.thread fits.thread, fits.goes_on, command_again (command_for line.call), call_again line.thread line.call fits.call, fits.suits)
+filled_again version before line fits =
+    rw (thread_again line.thread fits.thread, fits.goes_on, command_again (command_for line.call), call_again version line.thread line.call fits.call, fits.suits)
     (ap (λ (n : ℕ). Ok (record { thread = line.thread; number = n; call = line.call })) (sym fits.number))
 
-pub line_again : (before : List Line) (line : Line) → Fits before line → line_of before (fields_of (spelling_of line)) ≡ Ok line
+pub line_again : (version : ℕ) (before : List Line) (line : Line) → Fits version before line → line_of version before (fields_of (spelling_of line)) ≡ Ok line
 unfolding line_of
-line_again before line fits =
+line_again version before line fits =
     let small = fits.thread in
-    rw (fields_again line small fits.call, filled_from_length (decimal line.thread) (decimal_nonempty line.thread (omega arith)), (letter_is (command_for line.call)).2, decimals_filled (numbers_of line.call) (numbers_small line.thread line.call fits.call))
-    (filled_again before line fits)
+    rw (fields_again version line small fits.call, filled_from_length (decimal line.thread) (decimal_nonempty line.thread (omega arith)), (letter_is (command_for line.call)).2, decimals_filled (numbers_of line.call) (numbers_small version line.thread line.call fits.call))
+    (filled_again version before line fits)
 
 -- ---- what is read is that line's spelling
 
 three_same : (a b : List ℕ) (others : List (List ℕ)) (x y : List ℕ) (zs : List (List ℕ)) → a ≡ x → b ≡ y → others ≡ zs → a ∷ b ∷ others ≡ x ∷ y ∷ zs
 three_same a b others x y zs p q r = cc
 
-filled_is : (before : List Line) (a b : List ℕ) (others : List (List ℕ)) (line : Line) → filled_line before a b others ≡ Ok line → (a ∷ b ∷ others ≡ line_fields line.thread line.call) × Fits before line
+filled_is : (version : ℕ) (before : List Line) (a b : List ℕ) (others : List (List ℕ)) (line : Line) → filled_line version before a b others ≡ Ok line → (a ∷ b ∷ others ≡ line_fields line.thread line.call) × Fits version before line
 unfolding filled_line
-filled_is before a b others line e =
+filled_is version before a b others line e =
     let thread = bind_ok (thread_of a) _ line e in
     let going = bind_ok (fault_if (has_ended thread.0 before) bad.Ended) _ line thread.2 in
     let k = bind_ok (command_of b) _ line going.2 in
-    let call = bind_ok (call_of thread.0 k.0 others) _ line k.2 in
+    let call = bind_ok (call_of version thread.0 k.0 others) _ line k.2 in
     let suits = bind_ok (fitting before thread.0 call.0) _ line call.2 in
     let first = thread_is a thread.0 thread.1 in
-    let spells = call_is thread.0 k.0 others call.0 call.1 in
+    let spells = call_is version thread.0 k.0 others call.0 call.1 in
     let read : Line = record { thread = thread.0; number = place_after before; call = call.0 } in
-    subst (λ (l : Line). (a ∷ b ∷ others ≡ line_fields l.thread l.call) × Fits before l) {x = read} (ok_is read line suits.2) (
+    subst (λ (l : Line). (a ∷ b ∷ others ≡ line_fields l.thread l.call) × Fits version before l) {x = read} (ok_is read line suits.2) (
       three_same a b others (decimal thread.0) (letter_of (command_for call.0)) (map decimal (numbers_of call.0)) first.0 (command_is b k.0 k.1 ∙ ap letter_of spells.command) spells.spelled,
       record {
         number = refl;
@@ -147,13 +147,13 @@ filled_is before a b others line e =
       },
     )
 
-fields_are : (before : List Line) (fields : List (List ℕ)) (line : Line) → line_of before fields ≡ Ok line → (fields ≡ line_fields line.thread line.call) × Fits before line
+fields_are : (version : ℕ) (before : List Line) (fields : List (List ℕ)) (line : Line) → line_of version before fields ≡ Ok line → (fields ≡ line_fields line.thread line.call) × Fits version before line
 unfolding line_of
-fields_are before [] line e = absurd cc
-fields_are before (a ∷ []) line e = absurd cc
-fields_are before (a ∷ b ∷ others) line e = filled_is before a b others line (guard_ok (all_filled (a ∷ b ∷ others)) bad.Fields (filled_line before a b others) line e).1
+fields_are version before [] line e = absurd cc
+fields_are version before (a ∷ []) line e = absurd cc
+fields_are version before (a ∷ b ∷ others) line e = filled_is version before a b others line (guard_ok (all_filled (a ∷ b ∷ others)) bad.Fields (filled_line version before a b others) line e).1
 
-pub line_is : (before : List Line) (text : List ℕ) (line : Line) → line_of before (fields_of text) ≡ Ok line → (text ≡ spelling_of line) × Fits before line
-line_is before text line e =
-    let found = fields_are before (fields_of text) line e in
+pub line_is : (version : ℕ) (before : List Line) (text : List ℕ) (line : Line) → line_of version before (fields_of text) ≡ Ok line → (text ≡ spelling_of line) × Fits version before line
+line_is version before text line e =
+    let found = fields_are version before (fields_of text) line e in
     (sym (join_with_byte-slice_split 32 text) ∙ ap (join_with_byte 32) found.0 ∙ sym (spelling_is line), found.1)

@@ -6,7 +6,7 @@ use Rattle.std.proofs.lemmas.Bool.{and_parts, leb-true, ltb-true, le-leb, lt-ltb
 use Rattle.trace_text.specs.declared.fault.BadWhy.{BadWhy}
 use Rattle.trace_text.specs.declared.fault.BadWhy.TheVariants as bad
 use Rattle.trace_text.specs.Numbers.{number_of}
-use Rattle.trace_text.specs.Grammar.{◌>>=◌, thread_of, number_at, name_at, tray_at, one_number, two_numbers, three_numbers, fault_if, name_alone, name_and_size, name_and_tray, name_and_sizes, end_of}
+use Rattle.trace_text.specs.Grammar.{◌>>=◌, highest_name, thread_of, number_at, name_at, tray_at, one_number, two_numbers, three_numbers, fault_if, name_alone, name_and_size, name_and_tray, name_and_sizes, end_of}
 use Rattle.trace_text.specs.Spelling.{IsName}
 use Rattle.trace_text.proofs.Numerals.{number_again, number_is}
 
@@ -57,17 +57,17 @@ pub number_at_again : (n : ℕ) → n < 2 ^ 64 → number_at (decimal n) ≡ Ok 
 unfolding number_at
 number_at_again n h = rw (number_again n h) refl
 
-pub name_is : (number name : ℕ) → name_at number ≡ Ok name → (number ≡ name) × IsName name
+pub name_is : (version number name : ℕ) → name_at version number ≡ Ok name → (number ≡ name) × IsName version name
 unfolding name_at
-name_is number name e =
-    let found = guard_ok (leb 1 number && leb number 65535) bad.Name (Ok number) name e in
+name_is version number name e =
+    let found = guard_ok (leb 1 number && leb number (highest_name version)) bad.Name (Ok number) name e in
     let same = ok_is number name found.1 in
-    let tests = and_parts (leb 1 number) (leb number 65535) found.0 in
-    (same, (omega (arith, leb-true 1 number tests.0, same), omega (arith, leb-true number 65535 tests.1, same)))
+    let tests = and_parts (leb 1 number) (leb number (highest_name version)) found.0 in
+    (same, (omega (arith, leb-true 1 number tests.0, same), omega (arith, leb-true number (highest_name version) tests.1, same)))
 
-pub name_again : (name : ℕ) → IsName name → name_at name ≡ Ok name
+pub name_again : (version name : ℕ) → IsName version name → name_at version name ≡ Ok name
 unfolding name_at
-name_again name h = rw (le-leb 1 name h.0, le-leb name 65535 h.1) refl
+name_again version name h = rw (le-leb 1 name h.0, le-leb name (highest_name version) h.1) refl
 
 pub tray_is : (number tray : ℕ) → tray_at number ≡ Ok tray → (number ≡ tray) × (tray ≤ 65535)
 unfolding tray_at
@@ -137,41 +137,41 @@ three_again m n o h k l = rw (number_at_again m h, number_at_again n k, number_a
 
 -- ---- the fields behind a command
 
-pub alone_is : (fields : List (List ℕ)) (name : ℕ) → name_alone fields ≡ Ok name → (fields ≡ decimal name ∷ []) × IsName name
-alone_is fields name e =
-    let n = bind_ok (one_number fields) name_at name e in
+pub alone_is : (version : ℕ) (fields : List (List ℕ)) (name : ℕ) → name_alone version fields ≡ Ok name → (fields ≡ decimal name ∷ []) × IsName version name
+alone_is version fields name e =
+    let n = bind_ok (one_number fields) (name_at version) name e in
     let found = one_is fields n.0 n.1 in
-    let named = name_is n.0 name n.2 in
+    let named = name_is version n.0 name n.2 in
     (rw named.0 at found.0, named.1)
 
-pub size_is : (fields : List (List ℕ)) (p : ℕ × ℕ) → name_and_size fields ≡ Ok p → (fields ≡ decimal p.0 ∷ decimal p.1 ∷ []) × IsName p.0 × (p.1 < 2 ^ 64)
-size_is fields p e =
+pub size_is : (version : ℕ) (fields : List (List ℕ)) (p : ℕ × ℕ) → name_and_size version fields ≡ Ok p → (fields ≡ decimal p.0 ∷ decimal p.1 ∷ []) × IsName version p.0 × (p.1 < 2 ^ 64)
+size_is version fields p e =
     let n = bind_ok (two_numbers fields) _ p e in
-    let x = bind_ok (name_at n.0.0) _ p n.2 in
+    let x = bind_ok (name_at version n.0.0) _ p n.2 in
     let found = two_is fields n.0 n.1 in
-    let named = name_is n.0.0 x.0 x.1 in
+    let named = name_is version n.0.0 x.0 x.1 in
     let read : ℕ × ℕ = (x.0, n.0.1) in
-    subst (λ (q : ℕ × ℕ). (fields ≡ decimal q.0 ∷ decimal q.1 ∷ []) × IsName q.0 × (q.1 < 2 ^ 64)) {x = read} (ok_is read p x.2) (rw named.0 at found.0, named.1, found.2)
+    subst (λ (q : ℕ × ℕ). (fields ≡ decimal q.0 ∷ decimal q.1 ∷ []) × IsName version q.0 × (q.1 < 2 ^ 64)) {x = read} (ok_is read p x.2) (rw named.0 at found.0, named.1, found.2)
 
-pub tray_pair_is : (fields : List (List ℕ)) (p : ℕ × ℕ) → name_and_tray fields ≡ Ok p → (fields ≡ decimal p.0 ∷ decimal p.1 ∷ []) × IsName p.0 × (p.1 ≤ 65535)
-tray_pair_is fields p e =
+pub tray_pair_is : (version : ℕ) (fields : List (List ℕ)) (p : ℕ × ℕ) → name_and_tray version fields ≡ Ok p → (fields ≡ decimal p.0 ∷ decimal p.1 ∷ []) × IsName version p.0 × (p.1 ≤ 65535)
+tray_pair_is version fields p e =
     let n = bind_ok (two_numbers fields) _ p e in
-    let x = bind_ok (name_at n.0.0) _ p n.2 in
+    let x = bind_ok (name_at version n.0.0) _ p n.2 in
     let y = bind_ok (tray_at n.0.1) _ p x.2 in
     let found = two_is fields n.0 n.1 in
-    let named = name_is n.0.0 x.0 x.1 in
+    let named = name_is version n.0.0 x.0 x.1 in
     let trayed = tray_is n.0.1 y.0 y.1 in
     let read : ℕ × ℕ = (x.0, y.0) in
-    subst (λ (q : ℕ × ℕ). (fields ≡ decimal q.0 ∷ decimal q.1 ∷ []) × IsName q.0 × (q.1 ≤ 65535)) {x = read} (ok_is read p y.2) (found.0 ∙ same_two (decimal n.0.0) (decimal n.0.1) (decimal x.0) (decimal y.0) (ap decimal named.0) (ap decimal trayed.0), named.1, trayed.1)
+    subst (λ (q : ℕ × ℕ). (fields ≡ decimal q.0 ∷ decimal q.1 ∷ []) × IsName version q.0 × (q.1 ≤ 65535)) {x = read} (ok_is read p y.2) (found.0 ∙ same_two (decimal n.0.0) (decimal n.0.1) (decimal x.0) (decimal y.0) (ap decimal named.0) (ap decimal trayed.0), named.1, trayed.1)
 
-pub sizes_is : (fields : List (List ℕ)) (p : ℕ × ℕ × ℕ) → name_and_sizes fields ≡ Ok p → (fields ≡ decimal p.0 ∷ decimal p.1 ∷ decimal p.2 ∷ []) × IsName p.0 × (p.1 < 2 ^ 64) × (p.2 < 2 ^ 64)
-sizes_is fields p e =
+pub sizes_is : (version : ℕ) (fields : List (List ℕ)) (p : ℕ × ℕ × ℕ) → name_and_sizes version fields ≡ Ok p → (fields ≡ decimal p.0 ∷ decimal p.1 ∷ decimal p.2 ∷ []) × IsName version p.0 × (p.1 < 2 ^ 64) × (p.2 < 2 ^ 64)
+sizes_is version fields p e =
     let n = bind_ok (three_numbers fields) _ p e in
-    let x = bind_ok (name_at n.0.0) _ p n.2 in
+    let x = bind_ok (name_at version n.0.0) _ p n.2 in
     let found = three_is fields n.0 n.1 in
-    let named = name_is n.0.0 x.0 x.1 in
+    let named = name_is version n.0.0 x.0 x.1 in
     let read : ℕ × ℕ × ℕ = (x.0, n.0.1, n.0.2) in
-    subst (λ (q : ℕ × ℕ × ℕ). (fields ≡ decimal q.0 ∷ decimal q.1 ∷ decimal q.2 ∷ []) × IsName q.0 × (q.1 < 2 ^ 64) × (q.2 < 2 ^ 64)) {x = read} (ok_is read p x.2) (rw named.0 at found.0, named.1, found.2, found.3)
+    subst (λ (q : ℕ × ℕ × ℕ). (fields ≡ decimal q.0 ∷ decimal q.1 ∷ decimal q.2 ∷ []) × IsName version q.0 × (q.1 < 2 ^ 64) × (q.2 < 2 ^ 64)) {x = read} (ok_is read p x.2) (rw named.0 at found.0, named.1, found.2, found.3)
 
 pub end_is : (thread : ℕ) (fields : List (List ℕ)) (y : Unit {0}) → end_of thread fields ≡ Ok y → (fields ≡ []) × (0 < thread)
 end_is thread [] y e =

@@ -1,6 +1,6 @@
 -- What a trace is: a header, and lines of which each fits the lines before it; or else which line is the
 -- first that is faulty, and its first fault (this project's own).
-use Rattle.std.specs.Prelude.{ℕ, ◌+◌, ◌==◌, Bool, not, ◌&&◌, List, [], ◌∷◌, ◌++◌, length, codes, Result, Ok, Err, nat_lt, nat_le, if◌then◌else◌}
+use Rattle.std.specs.Prelude.{ℕ, ◌+◌, ◌==◌, Bool, not, ◌&&◌, List, [], ◌∷◌, ◌++◌, length, codes, Option, Some, None, Result, Ok, Err, nat_lt, nat_le, if◌then◌else◌}
 use Rattle.std.specs.List.{list_all, slice_split}
 use Rattle.std.specs.Option.{ok_or}
 use Rattle.std.specs.Str.{bytes_eq}
@@ -35,6 +35,14 @@ all_filled fields = list_all (λ field. not (is_empty field)) fields
 abbrev pub threads : ℕ
 threads = 64
 
+-- the first line of a trace, by its version, which is 1 or 2
+abbrev pub header : ℕ → List ℕ
+header version = if version == 1 then codes "ptmtrace 1" else codes "ptmtrace 2"
+
+-- the highest name of a version
+abbrev pub highest_name : ℕ → ℕ
+highest_name version = if version == 1 then 65535 else 4294967295
+
 -- the thread of a field
 unfoldable pub thread_of : List ℕ → Result ℕ BadWhy
 thread_of field = do
@@ -58,9 +66,9 @@ command_of field =
 unfoldable pub number_at : List ℕ → Result ℕ BadWhy
 number_at field = ok_or (number_of field) bad.Number
 
--- a number as a name
-unfoldable pub name_at : ℕ → Result ℕ BadWhy
-name_at number = if nat_le 1 number && nat_le number 65535 then Ok number else Err bad.Name
+-- a number as a name of a version
+unfoldable pub name_at : ℕ → ℕ → Result ℕ BadWhy
+name_at version number = if nat_le 1 number && nat_le number (highest_name version) then Ok number else Err bad.Name
 
 -- a number as a tray
 unfoldable pub tray_at : ℕ → Result ℕ BadWhy
@@ -90,29 +98,29 @@ three_numbers _ = Err bad.Fields
 abbrev pub fault_if : Bool → BadWhy → Result (Unit {0}) BadWhy
 fault_if faulty why = if faulty then Err why else Ok tt
 
--- the fields behind the command: a name alone, or with a size, a tray, or two sizes
-abbrev pub name_alone : List (List ℕ) → Result ℕ BadWhy
-name_alone fields = do
+-- the fields behind the command, in a trace of a version: a name alone, or with a size, a tray, or two sizes
+abbrev pub name_alone : ℕ → List (List ℕ) → Result ℕ BadWhy
+name_alone version fields = do
   number ← one_number fields
-  name_at number
+  name_at version number
 
-abbrev pub name_and_size : List (List ℕ) → Result (ℕ × ℕ) BadWhy
-name_and_size fields = do
+abbrev pub name_and_size : ℕ → List (List ℕ) → Result (ℕ × ℕ) BadWhy
+name_and_size version fields = do
   numbers ← two_numbers fields
-  name ← name_at numbers.0
+  name ← name_at version numbers.0
   Ok (name, numbers.1)
 
-abbrev pub name_and_tray : List (List ℕ) → Result (ℕ × ℕ) BadWhy
-name_and_tray fields = do
+abbrev pub name_and_tray : ℕ → List (List ℕ) → Result (ℕ × ℕ) BadWhy
+name_and_tray version fields = do
   numbers ← two_numbers fields
-  name ← name_at numbers.0
+  name ← name_at version numbers.0
   tray ← tray_at numbers.1
   Ok (name, tray)
 
-abbrev pub name_and_sizes : List (List ℕ) → Result (ℕ × ℕ × ℕ) BadWhy
-name_and_sizes fields = do
+abbrev pub name_and_sizes : ℕ → List (List ℕ) → Result (ℕ × ℕ × ℕ) BadWhy
+name_and_sizes version fields = do
   numbers ← three_numbers fields
-  name ← name_at numbers.0
+  name ← name_at version numbers.0
   Ok (name, numbers.1, numbers.2)
 
 -- no field, and thread 0 doesn't end
@@ -120,30 +128,30 @@ abbrev pub end_of : ℕ → List (List ℕ) → Result (Unit {0}) BadWhy
 end_of thread [] = fault_if (thread == 0) bad.MainExit
 end_of thread _ = Err bad.Fields
 
--- the call of a thread, by its command and the fields behind it
-unfoldable pub call_of : ℕ → Command → List (List ℕ) → Result Call BadWhy
-call_of thread command.Malloc fields = do
-  read ← name_and_size fields
+-- the call of a thread in a trace of a version, by its command and the fields behind it
+unfoldable pub call_of : ℕ → ℕ → Command → List (List ℕ) → Result Call BadWhy
+call_of version thread command.Malloc fields = do
+  read ← name_and_size version fields
   Ok (Malloc read.0 read.1)
-call_of thread command.Calloc fields = do
-  read ← name_and_sizes fields
+call_of version thread command.Calloc fields = do
+  read ← name_and_sizes version fields
   Ok (Calloc read.0 read.1 read.2)
-call_of thread command.Realloc fields = do
-  read ← name_and_size fields
+call_of version thread command.Realloc fields = do
+  read ← name_and_size version fields
   Ok (Realloc read.0 read.1)
-call_of thread command.Align fields = do
-  read ← name_and_sizes fields
+call_of version thread command.Align fields = do
+  read ← name_and_sizes version fields
   Ok (Align read.0 read.1 read.2)
-call_of thread command.Free fields = do
-  name ← name_alone fields
+call_of version thread command.Free fields = do
+  name ← name_alone version fields
   Ok (Free name)
-call_of thread command.Post fields = do
-  read ← name_and_tray fields
+call_of version thread command.Post fields = do
+  read ← name_and_tray version fields
   Ok (Post read.0 read.1)
-call_of thread command.Take fields = do
-  read ← name_and_tray fields
+call_of version thread command.Take fields = do
+  read ← name_and_tray version fields
   Ok (Take read.0 read.1)
-call_of thread command.Exit fields = do
+call_of version thread command.Exit fields = do
   none ← end_of thread fields
   Ok Exit
 
@@ -174,28 +182,36 @@ abbrev pub place_after : List Line → ℕ
 place_after before = length before + 2
 
 -- the line of fields that are filled, behind these lines; or its first fault
-unfoldable pub filled_line : List Line → List ℕ → List ℕ → List (List ℕ) → Result Line BadWhy
-filled_line before first second others = do
+unfoldable pub filled_line : ℕ → List Line → List ℕ → List ℕ → List (List ℕ) → Result Line BadWhy
+filled_line version before first second others = do
   thread ← thread_of first
   goes_on ← fault_if (has_ended thread before) bad.Ended
   command ← command_of second
-  call ← call_of thread command others
+  call ← call_of version thread command others
   fits ← fitting before thread call
   Ok (record { thread = thread; number = place_after before; call = call })
 
 -- the same of any fields: two at least are needed, and each is to be filled
-unfoldable pub line_of : List Line → List (List ℕ) → Result Line BadWhy
-line_of before (first ∷ second ∷ others) = if all_filled (first ∷ second ∷ others) then filled_line before first second others else Err bad.Fields
-line_of before _ = Err bad.Fields
+unfoldable pub line_of : ℕ → List Line → List (List ℕ) → Result Line BadWhy
+line_of version before (first ∷ second ∷ others) = if all_filled (first ∷ second ∷ others) then filled_line version before first second others else Err bad.Fields
+line_of version before _ = Err bad.Fields
 
 -- a faulty line, by its place, and what is wrong with it
 pub record Fault : Type 0 where
   pub line : ℕ
   pub why : BadWhy
 
--- the lines of a text; or its first faulty line, with the first fault of that line
+-- what a trace says
+pub record Content : Type 0 where
+  pub version : ℕ
+  pub lines : List Line
+
+-- what a text says; or its first faulty line, with the first fault of that line
 abbrev pub Reading : Type 0
-Reading = Result (List Line) Fault
+Reading = Result Content Fault
+
+abbrev pub whole : ℕ → List Line → Reading
+whole version lines = Ok (record { version = version; lines = lines })
 
 abbrev pub faulty : ℕ → BadWhy → Reading
 faulty place why = Err (record { line = place; why = why })
@@ -205,21 +221,26 @@ abbrev pub go_on : List Line → Result Line BadWhy → (List Line → Reading) 
 go_on before (Ok line) rest = rest (before ++ line ∷ [])
 go_on before (Err why) rest = faulty (place_after before) why
 
--- the parts of a text round its newlines, read behind these lines; only the last has no newline
-unfoldable pub lines_after : List Line → List (List ℕ) → Reading
-lines_after before [] = Ok before
-lines_after before (text ∷ []) = if is_empty text then Ok before else faulty (place_after before) bad.Cut
-lines_after before (text ∷ next ∷ more) = go_on before (line_of before (fields_of text)) (λ so_far. lines_after so_far (next ∷ more))
+-- the parts of a text round its newlines, read behind these lines of a version; only the last has no newline
+unfoldable pub lines_after : ℕ → List Line → List (List ℕ) → Reading
+lines_after version before [] = whole version before
+lines_after version before (text ∷ []) = if is_empty text then whole version before else faulty (place_after before) bad.Cut
+lines_after version before (text ∷ next ∷ more) = go_on before (line_of version before (fields_of text)) (λ so_far. lines_after version so_far (next ∷ more))
 
--- the first line of a trace
-abbrev pub header : List ℕ
-header = codes "ptmtrace 1"
+-- the version whose header a line is
+unfoldable pub version_of : List ℕ → Option ℕ
+version_of text = if bytes_eq text (header 1) then Some 1 else (if bytes_eq text (header 2) then Some 2 else None)
 
--- the same with the header in front
+-- the parts behind a header; or the fault of a first line that is none
+abbrev pub after_header : Option ℕ → List (List ℕ) → Reading
+after_header (Some version) parts = lines_after version [] parts
+after_header None parts = faulty 1 bad.Header
+
+-- the same with the first line in front
 abbrev pub headed : List (List ℕ) → Reading
 headed [] = faulty 1 bad.Cut
 headed (text ∷ []) = faulty 1 bad.Cut
-headed (text ∷ next ∷ more) = if bytes_eq text header then lines_after [] (next ∷ more) else faulty 1 bad.Header
+headed (text ∷ next ∷ more) = after_header (version_of text) (next ∷ more)
 
 -- how these bytes are read
 unfoldable pub reading_of : List ℕ → Reading

@@ -5,4 +5,5 @@ pub mod Grammar
 pub mod Spelling
 pub mod ReadsAs
 pub mod Marks
+pub mod Names
 pub mod Seen

@@ -1,7 +1,7 @@
 //! The commands of a trace, and the calls that they ask for.
 
 ghost use Rattle.std.specs.Prelude.{◌≡◌, ◌<◌, IfOk};
-ghost use Rattle.trace_text.specs.Grammar.{threads, thread_of, command_of, number_at, name_at, tray_at, one_number, two_numbers, three_numbers, name_alone, name_and_size, name_and_tray, name_and_sizes, end_of, call_of};
+ghost use Rattle.trace_text.specs.Grammar.{threads, thread_of, command_of, number_at, name_at, tray_at, highest_name, one_number, two_numbers, three_numbers, name_alone, name_and_size, name_and_tray, name_and_sizes, end_of, call_of};
 
 use crate::fault::BadWhy;
 use crate::fields::Fields;
@@ -60,11 +60,17 @@ fn read_number(field: &[u8]) -> Result<u64, BadWhy>
     parse_number(field).ok_or(BadWhy::Number)
 }
 
-#[tactic(auto, unfolding(crate::specs::Grammar::name_at))]
-fn name_from(number: u64) -> Result<u32, BadWhy>
-    ensures { result ≡ name_at number }
+fn highest_name(version: u8) -> u32
+    ensures { result ≡ highest_name version }
 {
-    if number < 1 || number > 65_535 {
+    if version == 1 { 65_535 } else { u32::MAX }
+}
+
+#[tactic(auto, unfolding(crate::specs::Grammar::name_at))]
+fn name_from(version: u8, number: u64) -> Result<u32, BadWhy>
+    ensures { result ≡ name_at version number }
+{
+    if number < 1 || number > u64::from(highest_name(version)) {
         return Err(BadWhy::Name);
     }
     Ok(number as u32)
@@ -114,31 +120,31 @@ fn read_three(mut fields: Fields<'_>) -> Result<(u64, u64, u64), BadWhy>
     ))
 }
 
-fn read_name(fields: Fields<'_>) -> Result<u32, BadWhy>
-    ensures { result ≡ name_alone fields.entry }
+fn read_name(version: u8, fields: Fields<'_>) -> Result<u32, BadWhy>
+    ensures { result ≡ name_alone version fields.entry }
 {
-    name_from(read_one(fields)?)
+    name_from(version, read_one(fields)?)
 }
 
-fn read_name_and_size(fields: Fields<'_>) -> Result<(u32, u64), BadWhy>
-    ensures { result ≡ name_and_size fields.entry }
+fn read_name_and_size(version: u8, fields: Fields<'_>) -> Result<(u32, u64), BadWhy>
+    ensures { result ≡ name_and_size version fields.entry }
 {
     let (name, size) = read_two(fields)?;
-    Ok((name_from(name)?, size))
+    Ok((name_from(version, name)?, size))
 }
 
-fn read_name_and_tray(fields: Fields<'_>) -> Result<(u32, u32), BadWhy>
-    ensures { result ≡ name_and_tray fields.entry }
+fn read_name_and_tray(version: u8, fields: Fields<'_>) -> Result<(u32, u32), BadWhy>
+    ensures { result ≡ name_and_tray version fields.entry }
 {
     let (name, tray) = read_two(fields)?;
-    Ok((name_from(name)?, tray_from(tray)?))
+    Ok((name_from(version, name)?, tray_from(tray)?))
 }
 
-fn read_name_and_sizes(fields: Fields<'_>) -> Result<(u32, u64, u64), BadWhy>
-    ensures { result ≡ name_and_sizes fields.entry }
+fn read_name_and_sizes(version: u8, fields: Fields<'_>) -> Result<(u32, u64, u64), BadWhy>
+    ensures { result ≡ name_and_sizes version fields.entry }
 {
     let (name, first, second) = read_three(fields)?;
-    Ok((name_from(name)?, first, second))
+    Ok((name_from(version, name)?, first, second))
 }
 
 fn read_end(thread: u8, fields: Fields<'_>) -> Result<(), BadWhy>
@@ -151,38 +157,43 @@ fn read_end(thread: u8, fields: Fields<'_>) -> Result<(), BadWhy>
     Ok(())
 }
 
-/// The call of a thread, by its command and the fields behind it.
+/// The call of a thread in a trace of a version, by its command and the fields behind it.
 #[tactic(auto, unfolding(crate::specs::Grammar::call_of))]
-pub(crate) fn read_call(thread: u8, command: Command, fields: Fields<'_>) -> Result<Call, BadWhy>
-    ensures { result ≡ call_of thread command fields.entry }
+pub(crate) fn read_call(
+    version: u8,
+    thread: u8,
+    command: Command,
+    fields: Fields<'_>,
+) -> Result<Call, BadWhy>
+    ensures { result ≡ call_of version thread command fields.entry }
 {
     match command {
         Command::Malloc => {
-            let (name, size) = read_name_and_size(fields)?;
+            let (name, size) = read_name_and_size(version, fields)?;
             Ok(Call::Malloc { name, size })
         }
         Command::Calloc => {
-            let (name, n, size) = read_name_and_sizes(fields)?;
+            let (name, n, size) = read_name_and_sizes(version, fields)?;
             Ok(Call::Calloc { name, n, size })
         }
         Command::Realloc => {
-            let (name, size) = read_name_and_size(fields)?;
+            let (name, size) = read_name_and_size(version, fields)?;
             Ok(Call::Realloc { name, size })
         }
         Command::Align => {
-            let (name, align, size) = read_name_and_sizes(fields)?;
+            let (name, align, size) = read_name_and_sizes(version, fields)?;
             Ok(Call::Align { name, align, size })
         }
         Command::Free => {
-            let name = read_name(fields)?;
+            let name = read_name(version, fields)?;
             Ok(Call::Free { name })
         }
         Command::Post => {
-            let (name, tray) = read_name_and_tray(fields)?;
+            let (name, tray) = read_name_and_tray(version, fields)?;
             Ok(Call::Post { name, tray })
         }
         Command::Take => {
-            let (name, tray) = read_name_and_tray(fields)?;
+            let (name, tray) = read_name_and_tray(version, fields)?;
             Ok(Call::Take { name, tray })
         }
         Command::Exit => {

@@ -1,8 +1,8 @@
 //! Worked examples: how texts are read, stated on the definitions alone. Nothing runs; the check computes them.
-#![tactic(auto, unfolding(crate::specs::Before::is_held, crate::specs::Before::has_ended, crate::specs::Before::was_posted, crate::specs::Before::was_taken, crate::specs::Grammar::thread_of, crate::specs::Grammar::command_of, crate::specs::Grammar::number_at, crate::specs::Grammar::name_at, crate::specs::Grammar::tray_at, crate::specs::Grammar::one_number, crate::specs::Grammar::two_numbers, crate::specs::Grammar::three_numbers, crate::specs::Grammar::call_of, crate::specs::Grammar::fitting, crate::specs::Grammar::filled_line, crate::specs::Grammar::line_of, crate::specs::Grammar::lines_after, crate::specs::Grammar::reading_of, crate::specs::Numbers::number_of))]
+#![tactic(auto, unfolding(crate::specs::Before::is_held, crate::specs::Before::has_ended, crate::specs::Before::was_posted, crate::specs::Before::was_taken, crate::specs::Grammar::thread_of, crate::specs::Grammar::command_of, crate::specs::Grammar::number_at, crate::specs::Grammar::name_at, crate::specs::Grammar::tray_at, crate::specs::Grammar::one_number, crate::specs::Grammar::two_numbers, crate::specs::Grammar::three_numbers, crate::specs::Grammar::call_of, crate::specs::Grammar::fitting, crate::specs::Grammar::filled_line, crate::specs::Grammar::line_of, crate::specs::Grammar::lines_after, crate::specs::Grammar::version_of, crate::specs::Grammar::reading_of, crate::specs::Numbers::number_of))]
 
-ghost use Rattle.std.specs.Prelude.{◌≡◌, ◌∷◌, [], ◌-◌, ◌^◌, codes, Some, None, Ok, IsOk};
-ghost use Rattle.trace_text.specs.Grammar.{faulty, reading_of};
+ghost use Rattle.std.specs.Prelude.{◌≡◌, ◌∷◌, [], ◌-◌, ◌^◌, codes, Some, None, IsOk};
+ghost use Rattle.trace_text.specs.Grammar.{whole, faulty, reading_of};
 ghost use Rattle.trace_text.specs.Numbers.{number_of};
 
 use crate::fault::BadWhy;
@@ -168,8 +168,8 @@ ptmtrace 1
 
 /// Traces that are read whole.
 fn traces_are_read()
-    ensures nothing { reading_of (codes "ptmtrace 1\n") ≡ Ok [] }
-    ensures each_command { reading_of EACH_COMMAND.now ≡ Ok (
+    ensures nothing { reading_of (codes "ptmtrace 1\n") ≡ whole 1 [] }
+    ensures each_command { reading_of EACH_COMMAND.now ≡ whole 1 (
         record { thread = 0; number = 2; call = Call.Malloc 1 0 }
         ∷ record { thread = 0; number = 3; call = Call.Realloc 1 (2 ^ 64 - 1) }
         ∷ record { thread = 1; number = 4; call = Call.Calloc 65535 3 5 }
@@ -183,4 +183,36 @@ fn traces_are_read()
     ensures names_again { IsOk (reading_of (codes "ptmtrace 1\n0 m 1 8\n1 m 1 8\n0 f 1\n0 m 1 8\n0 r 1 0\n0 m 1 8\n0 p 1 0\n0 t 1 0\n")) }
     // a tray may be taken from before it is posted to
     ensures take_first { IsOk (reading_of (codes "ptmtrace 1\n0 t 1 7\n0 p 1 7\n")) }
+{}
+
+/// The names of version 2 go on where those of version 1 end.
+fn names_are_in_their_version()
+    ensures largest_of_1 { IsOk (reading_of (codes "ptmtrace 1\n0 m 65535 24\n")) }
+    ensures past_1 { reading_of (codes "ptmtrace 1\n0 m 4294967295 24\n") ≡ faulty 2 BadWhy.Name }
+    ensures past_both_in_1 { reading_of (codes "ptmtrace 1\n0 m 4294967296 24\n") ≡ faulty 2 BadWhy.Name }
+    ensures largest_of_2 { reading_of (codes "ptmtrace 2\n0 m 4294967295 24\n") ≡ whole 2 (
+        record { thread = 0; number = 2; call = Call.Malloc 4294967295 24 } ∷ []) }
+    ensures past_2 { reading_of (codes "ptmtrace 2\n0 m 4294967296 24\n") ≡ faulty 2 BadWhy.Name }
+    ensures zero_in_2 { reading_of (codes "ptmtrace 2\n0 m 0 24\n") ≡ faulty 2 BadWhy.Name }
+    ensures no_number { reading_of (codes "ptmtrace 2\n0 m 18446744073709551616 24\n") ≡ faulty 2 BadWhy.Number }
+    ensures tray_in_2 { reading_of (codes "ptmtrace 2\n0 t 65536 65536\n") ≡ faulty 2 BadWhy.Tray }
+{}
+
+/// Names above 65,535 are held as all others are.
+fn far_names_are_held()
+    ensures nothing { reading_of (codes "ptmtrace 2\n") ≡ whole 2 [] }
+    ensures held { reading_of (codes "ptmtrace 2\n0 m 65536 24\n0 m 65536 24\n") ≡ faulty 3 BadWhy.Held }
+    ensures not_held { reading_of (codes "ptmtrace 2\n0 m 65536 24\n1 f 65536\n") ≡ faulty 3 BadWhy.NotHeld }
+    ensures low_bits { reading_of (codes "ptmtrace 2\n0 m 65537 24\n0 f 1\n") ≡ faulty 3 BadWhy.NotHeld }
+    ensures again { IsOk (reading_of (codes "ptmtrace 2\n0 m 65536 8\n1 m 65536 8\n0 f 65536\n0 m 65536 8\n0 r 65536 0\n")) }
+{}
+
+/// No other first line is a header.
+fn versions_are_1_and_2()
+    ensures zero { reading_of (codes "ptmtrace 0\n") ≡ faulty 1 BadWhy.Header }
+    ensures three { reading_of (codes "ptmtrace 3\n") ≡ faulty 1 BadWhy.Header }
+    ensures leading_zero { reading_of (codes "ptmtrace 02\n") ≡ faulty 1 BadWhy.Header }
+    ensures blank { reading_of (codes "ptmtrace 2 \n") ≡ faulty 1 BadWhy.Header }
+    ensures eleven { reading_of (codes "ptmtrace 12\n") ≡ faulty 1 BadWhy.Header }
+    ensures cut { reading_of (codes "ptmtrace 2") ≡ faulty 1 BadWhy.Cut }
 {}

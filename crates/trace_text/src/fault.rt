@@ -11,7 +11,7 @@ use std::alloc::AllocFailed;
 pub enum BadWhy {
     /// It has no newline.
     Cut,
-    /// The first line isn't `ptmtrace 1`.
+    /// The first line is neither `ptmtrace 1` nor `ptmtrace 2`.
     Header,
     /// A field is empty, there are fewer than two, or not as many as the command has.
     Fields,
@@ -25,7 +25,7 @@ pub enum BadWhy {
     Command,
     /// Thread 0 doesn't end.
     MainExit,
-    /// The name isn't from 1 to 65,535.
+    /// The name isn't from 1 to the highest of the trace's version.
     Name,
     /// The name is to be made, and is held.
     Held,

@@ -7,6 +7,7 @@ mod command;
 mod fault;
 mod fields;
 mod marks;
+mod names;
 mod numbers;
 mod read;
 mod seen;

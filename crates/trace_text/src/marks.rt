@@ -1,13 +1,13 @@
-//! Marked numbers, and a table of them for each thread.
+//! Marked numbers.
 
-ghost use Rattle.std.specs.Prelude.{◌≡◌, ◌+◌, ◌^◌, ◌<◌, ℕ, [], length, replicate, OnOk, IfOk};
-ghost use Rattle.trace_text.specs.Marks.{has, has_at, Inserts, Removes, InsertsAt, RemovesAt};
+ghost use Rattle.std.specs.Prelude.{◌≡◌, ◌+◌, ◌^◌, ◌<◌, ℕ, [], length, OnOk};
+ghost use Rattle.trace_text.specs.Marks.{has, Inserts, Removes};
 
 use chunk_tags::NoMemory;
 use std::alloc::Global;
 use std::marker::Model;
 
-/// How many numbers a table has room for once one is marked: all names, and all trays.
+/// How many numbers a table has room for once one is marked: all trays, and the names that are near.
 const NUMBERS: usize = 65_536;
 
 /// Marked numbers (this project's own): a table with one place a number, made when the first is marked.
@@ -73,43 +73,4 @@ impl Marks {
             self.marks[n] = false;
         }
     }
-}
-
-/// Empty tables, `count` of them.
-pub(crate) fn tables(alloc: Global, count: u8) -> Result<Vec<Marks>, NoMemory>
-    ensures { IfOk result (λ tables. tables.items ≡ replicate count []) }
-{
-    let mut tables = Vec::with_capacity(alloc, usize::from(count))?;
-    for _ in 0..count {
-        tables.push(Marks::new(alloc))?;
-    }
-    Ok(tables)
-}
-
-/// Whether a number is marked in the table at an index.
-pub(crate) fn is_marked(tables: &[Marks], index: u8, n: u32) -> bool
-    ensures { result ≡ has_at tables.now index n }
-{
-    match tables.get(usize::from(index)) {
-        Some(table) => table.has(n),
-        None => false,
-    }
-}
-
-/// Marks a number in the table at an index.
-pub(crate) fn mark(tables: &mut [Marks], index: u8, n: u32) -> Result<(), NoMemory>
-    requires { index < length tables.old }
-    ensures length { length tables.new ≡ length tables.old }
-    ensures ok { OnOk result (InsertsAt tables.old tables.new index n) }
-{
-    tables[usize::from(index)].insert(n)
-}
-
-/// Unmarks a number in the table at an index.
-pub(crate) fn unmark(tables: &mut [Marks], index: u8, n: u32)
-    requires { index < length tables.old }
-    ensures length { length tables.new ≡ length tables.old }
-    ensures unmarked { RemovesAt tables.old tables.new index n }
-{
-    tables[usize::from(index)].remove(n);
 }

@@ -3,7 +3,7 @@
 ghost use Rattle.std.specs.Prelude.{◌≡◌, ◌<◌, ◌==◌, List, [], IfOk};
 ghost use Rattle.std.specs.List.{slice_split};
 ghost use Rattle.trace_text.specs.declared.trace.Line.{Line};
-ghost use Rattle.trace_text.specs.Grammar.{threads, fields_of, place_after, filled_line, line_of, lines_after, reading_of};
+ghost use Rattle.trace_text.specs.Grammar.{threads, fields_of, place_after, filled_line, line_of, lines_after, version_of, reading_of};
 ghost use Rattle.trace_text.specs.Seen.{Knows};
 ghost use Rattle.trace_text.specs.ReadsAs.{ReadsAs};
 ghost use Rattle.trace_text.specs.Spelling.{spelling, Allows};
@@ -15,9 +15,10 @@ use crate::seen::Seen;
 use crate::trace::{Line, Trace};
 use std::alloc::Global;
 
-/// The line of two filled fields and those behind them.
+/// The line of two filled fields and those behind them, in a trace of a version.
 #[tactic(auto, unfolding(crate::specs::Grammar::filled_line))]
 fn read_filled(
+    version: u8,
     first: &[u8],
     second: &[u8],
     others: Fields<'_>,
@@ -25,7 +26,7 @@ fn read_filled(
     seen: &Seen,
 ) -> Result<Line, BadWhy>
     ensures exact { (before : List Line) → Knows seen.now before → number ≡ place_after before →
-        result ≡ filled_line before first.now second.now others.entry }
+        result ≡ filled_line version before first.now second.now others.entry }
     ensures thread { IfOk result (λ line. line.thread < threads) }
 {
     let thread = read_thread(first)?;
@@ -33,7 +34,7 @@ fn read_filled(
         return Err(BadWhy::Ended);
     }
     let command = read_command(second)?;
-    let call = read_call(thread, command, others)?;
+    let call = read_call(version, thread, command, others)?;
     seen.check(thread, call)?;
     Ok(Line {
         thread,
@@ -44,9 +45,9 @@ fn read_filled(
 
 /// The line that a text is, behind the lines seen.
 #[tactic(auto, unfolding(crate::specs::Grammar::line_of))]
-fn read_line(text: &[u8], number: u64, seen: &Seen) -> Result<Line, BadWhy>
+fn read_line(version: u8, text: &[u8], number: u64, seen: &Seen) -> Result<Line, BadWhy>
     ensures exact { (before : List Line) → Knows seen.now before → number ≡ place_after before →
-        result ≡ line_of before (fields_of text.now) }
+        result ≡ line_of version before (fields_of text.now) }
     ensures thread { IfOk result (λ line. line.thread < threads) }
 {
     if !are_filled(text) {
@@ -55,12 +56,12 @@ fn read_line(text: &[u8], number: u64, seen: &Seen) -> Result<Line, BadWhy>
     let mut fields = Fields::of(text);
     let first = fields.take()?;
     let second = fields.take()?;
-    read_filled(first, second, fields, number, seen)
+    read_filled(version, first, second, fields, number, seen)
 }
 
-/// The lines of a text without its header, or its first fault.
-fn read_body(alloc: Global, text: &[u8]) -> Result<Trace, TraceFault>
-    ensures { ReadsAs result (lines_after [] (slice_split (λ b. b == 10) text.now)) }
+/// The trace of a version whose text behind the header this is, or its first fault.
+fn read_body(alloc: Global, version: u8, text: &[u8]) -> Result<Trace, TraceFault>
+    ensures { ReadsAs result (lines_after version [] (slice_split (λ b. b == 10) text.now)) }
 {
     let mut lines = Vec::new(alloc);
     let mut seen = Seen::new(alloc)?;
@@ -73,7 +74,7 @@ fn read_body(alloc: Global, text: &[u8]) -> Result<Trace, TraceFault>
                 why: BadWhy::Cut,
             });
         };
-        match read_line(line, place, &seen) {
+        match read_line(version, line, place, &seen) {
             Err(why) => return Err(TraceFault::Bad { line: place, why }),
             Ok(line) => {
                 seen.add(&line)?;
@@ -82,7 +83,21 @@ fn read_body(alloc: Global, text: &[u8]) -> Result<Trace, TraceFault>
         }
         rest = behind;
     }
-    Ok(Trace { lines })
+    Ok(Trace { version, lines })
+}
+
+/// The version whose header a line is.
+#[tactic(auto, unfolding(crate::specs::Grammar::version_of))]
+fn read_version(first: &[u8]) -> Option<u8>
+    ensures { result ≡ version_of first.now }
+{
+    if first == b"ptmtrace 1".as_slice() {
+        Some(1)
+    } else if first == b"ptmtrace 2".as_slice() {
+        Some(2)
+    } else {
+        None
+    }
 }
 
 /// The trace that a text spells, or its first faulty line with the first fault of that line (the form of
@@ -92,7 +107,8 @@ pub fn read_trace(alloc: Global, bytes: &[u8]) -> Result<Trace, TraceFault>
     ensures exact { ReadsAs result (reading_of bytes.now) }
 
     // What is read is allowed, and spelled so.
-    ensures found { IfOk result (λ t. Allows t.lines.items × (bytes.now ≡ spelling t.lines.items)) }
+    ensures found { IfOk result (λ t. Allows t.version t.lines.items ×
+        (bytes.now ≡ spelling t.version t.lines.items)) }
 {
     let Some((first, body)) = cut_line(bytes) else {
         return Err(TraceFault::Bad {
@@ -100,11 +116,11 @@ pub fn read_trace(alloc: Global, bytes: &[u8]) -> Result<Trace, TraceFault>
             why: BadWhy::Cut,
         });
     };
-    if first != b"ptmtrace 1".as_slice() {
+    let Some(version) = read_version(first) else {
         return Err(TraceFault::Bad {
             line: 1,
             why: BadWhy::Header,
         });
-    }
-    read_body(alloc, body)
+    };
+    read_body(alloc, version, body)
 }

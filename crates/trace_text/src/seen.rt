@@ -4,7 +4,8 @@ ghost use Rattle.std.specs.Prelude.{◌≡◌, ◌<◌, vec_len};
 ghost use Rattle.trace_text.specs.Grammar.{threads};
 
 use crate::fault::BadWhy;
-use crate::marks::{Marks, is_marked, mark, tables, unmark};
+use crate::marks::Marks;
+use crate::names::{Names, give_up, hold, is_held, no_names};
 use crate::trace::{Call, Line, THREADS};
 use chunk_tags::NoMemory;
 use std::alloc::Global;
@@ -12,7 +13,7 @@ use std::alloc::Global;
 /// Tables that say what the lines so far say.
 #[derive(Drop)]
 pub(crate) struct Seen {
-    held: Vec<Marks>,
+    held: Vec<Names>,
     ended: Marks,
     posted: Marks,
     taken: Marks,
@@ -31,7 +32,7 @@ impl Seen {
         ensures { IfOk result (λ seen. Knows seen []) }
     {
         Ok(Seen {
-            held: tables(alloc, THREADS)?,
+            held: no_names(alloc, THREADS)?,
             ended: Marks::new(alloc),
             posted: Marks::new(alloc),
             taken: Marks::new(alloc),
@@ -48,7 +49,7 @@ impl Seen {
     fn check_making(&self, thread: u8, name: u32) -> Result<(), BadWhy>
         ensures { (before : List Line) → Knows self.now before → result ≡ making before thread name }
     {
-        if is_marked(&self.held, thread, name) {
+        if is_held(&self.held, thread, name) {
             return Err(BadWhy::Held);
         }
         Ok(())
@@ -58,7 +59,7 @@ impl Seen {
     fn check_using(&self, thread: u8, name: u32) -> Result<(), BadWhy>
         ensures { (before : List Line) → Knows self.now before → result ≡ using before thread name }
     {
-        if !is_marked(&self.held, thread, name) {
+        if !is_held(&self.held, thread, name) {
             return Err(BadWhy::NotHeld);
         }
         Ok(())
@@ -99,23 +100,23 @@ impl Seen {
     {
         match line.call {
             Call::Malloc { name, .. } | Call::Calloc { name, .. } | Call::Align { name, .. } => {
-                mark(&mut self.held, line.thread, name)?;
+                hold(&mut self.held, line.thread, name)?;
             }
             Call::Realloc { name, size } => {
                 if size == 0 {
-                    unmark(&mut self.held, line.thread, name);
+                    give_up(&mut self.held, line.thread, name);
                 }
             }
             Call::Free { name } => {
-                unmark(&mut self.held, line.thread, name);
+                give_up(&mut self.held, line.thread, name);
             }
             Call::Post { name, tray } => {
                 self.posted.insert(tray)?;
-                unmark(&mut self.held, line.thread, name);
+                give_up(&mut self.held, line.thread, name);
             }
             Call::Take { name, tray } => {
                 self.taken.insert(tray)?;
-                mark(&mut self.held, line.thread, name)?;
+                hold(&mut self.held, line.thread, name)?;
             }
             Call::Exit => {
                 self.ended.insert(u32::from(line.thread))?;

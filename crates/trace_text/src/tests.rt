@@ -18,8 +18,14 @@ fn check_whole(rt: &impl Abort, alloc: Global, text: &[u8]) -> Result<(), Fail> 
 }
 
 /// Of these lines behind a header, the last is the first that is faulty.
-fn check_last_line(rt: &impl Abort, alloc: Global, why: BadWhy, lines: &[u8]) -> Result<(), Fail> {
-    let mut text = Vec::from_slice(alloc, b"ptmtrace 1\n")?;
+fn check_last_line(
+    rt: &impl Abort,
+    alloc: Global,
+    header: &[u8],
+    why: BadWhy,
+    lines: &[u8],
+) -> Result<(), Fail> {
+    let mut text = Vec::from_slice(alloc, header)?;
     text.extend_from_slice(lines)?;
     text.push(b'\n')?;
     let before = lines.iter().filter(|byte| **byte == b'\n').count() as u64;
@@ -27,6 +33,7 @@ fn check_last_line(rt: &impl Abort, alloc: Global, why: BadWhy, lines: &[u8]) ->
     Ok(())
 }
 
+/// The same of each of these texts, in both versions.
 fn check_last_lines(
     rt: &impl Abort,
     alloc: Global,
@@ -34,7 +41,8 @@ fn check_last_lines(
     texts: &[&[u8]],
 ) -> Result<(), Fail> {
     for lines in texts {
-        check_last_line(rt, alloc, why, lines)?;
+        check_last_line(rt, alloc, b"ptmtrace 1\n", why, lines)?;
+        check_last_line(rt, alloc, b"ptmtrace 2\n", why, lines)?;
     }
     Ok(())
 }
@@ -50,8 +58,15 @@ fn lines_without_newline_are_cut(rt: HostRuntime) {
 
 #[test]
 fn other_first_lines_are_no_headers(rt: HostRuntime) {
-    const TEXTS: [&[u8]; 9] = [
+    const TEXTS: [&[u8]; 16] = [
         b"\n",
+        b"ptmtrace 0\n",
+        b"ptmtrace 3\n",
+        b"ptmtrace 02\n",
+        b"ptmtrace 2 \n",
+        b"ptmtrace 12\n",
+        b"ptmtrace 2\r\n",
+        b"ptmtrace \n",
         b"ptmtrace 2x\n",
         b"ptmtrace  1\n",
         b"ptmtrace 1 \n",
@@ -171,19 +186,61 @@ fn thread_0_goes_on(rt: HostRuntime) -> Result<(), Fail> {
 }
 
 #[test]
-fn names_are_1_to_65535(rt: HostRuntime) -> Result<(), Fail> {
+fn names_are_in_the_range_of_their_version(rt: HostRuntime) -> Result<(), Fail> {
     check_last_lines(
         &rt,
         rt.alloc(),
         BadWhy::Name,
         &[
             b"0 m 0 8",
-            b"0 m 65536 8",
             b"0 f 0",
             b"0 p 0 65536",
+            b"0 m 4294967296 8",
+            b"0 m 4294967297 8",
             b"0 m 18446744073709551615 8",
         ],
     )
+}
+
+#[test]
+fn names_of_version_1_are_1_to_65535(rt: HostRuntime) -> Result<(), Fail> {
+    const LINES: [&[u8]; 4] = [
+        b"0 m 65536 8",
+        b"0 m 4294967295 24",
+        b"0 p 65536 65536",
+        b"0 f 65536",
+    ];
+    for lines in LINES {
+        check_last_line(&rt, rt.alloc(), b"ptmtrace 1\n", BadWhy::Name, lines)?;
+    }
+    Ok(())
+}
+
+#[test]
+fn far_names_are_held_as_others_are(rt: HostRuntime) -> Result<(), Fail> {
+    const HELD: [&[u8]; 5] = [
+        b"0 m 65536 8\n0 m 65536 8",
+        b"0 m 4294967295 8\n0 c 4294967295 8 8",
+        b"0 t 65536 0\n0 t 65536 0",
+        b"0 m 65536 8\n0 f 65536\n0 m 65536 8\n0 a 65536 8 8",
+        b"0 m 65536 8\n0 m 65537 8\n0 f 65536\n0 m 65537 8",
+    ];
+    const NOT_HELD: [&[u8]; 7] = [
+        b"0 f 4294967295",
+        b"0 m 65536 8\n1 f 65536",
+        b"0 m 65537 8\n0 f 1",
+        b"0 m 1 8\n0 f 65537",
+        b"0 m 65536 8\n0 f 65536\n0 f 65536",
+        b"0 m 65536 8\n0 r 65536 0\n0 r 65536 8",
+        b"0 m 65536 8\n0 p 65536 0\n0 f 65536",
+    ];
+    for lines in HELD {
+        check_last_line(&rt, rt.alloc(), b"ptmtrace 2\n", BadWhy::Held, lines)?;
+    }
+    for lines in NOT_HELD {
+        check_last_line(&rt, rt.alloc(), b"ptmtrace 2\n", BadWhy::NotHeld, lines)?;
+    }
+    Ok(())
 }
 
 #[test]
@@ -287,7 +344,7 @@ fn the_first_faulty_line_is_named(rt: HostRuntime) {
 
 #[test]
 fn whole_traces_are_printed_as_they_were(rt: HostRuntime) -> Result<(), Fail> {
-    const TEXTS: [&[u8]; 10] = [
+    const TEXTS: [&[u8]; 14] = [
         b"ptmtrace 1\n",
         b"ptmtrace 1\n0 m 1 8\n0 r 1 16\n0 f 1\n",
         b"ptmtrace 1\n1 c 65535 3 5\n1 a 1 64 100\n1 p 1 65535\n0 t 9 65535\n1 x\n",
@@ -298,6 +355,10 @@ fn whole_traces_are_printed_as_they_were(rt: HostRuntime) -> Result<(), Fail> {
         b"ptmtrace 1\n1 x\n2 m 1 8\n",
         b"ptmtrace 1\n0 m 1 8\n0 p 1 0\n0 t 1 0\n",
         b"ptmtrace 1\n0 t 1 7\n0 p 1 7\n",
+        b"ptmtrace 2\n",
+        b"ptmtrace 2\n0 m 1 8\n0 m 65535 8\n0 m 65536 8\n0 m 4294967295 24\n",
+        b"ptmtrace 2\n0 m 65536 8\n1 m 65536 8\n0 f 65536\n0 m 65536 8\n1 r 65536 0\n1 c 65536 1 8\n",
+        b"ptmtrace 2\n0 m 4294967295 8\n0 p 4294967295 9\n1 t 4294967295 9\n1 x\n",
     ];
     for text in TEXTS {
         check_whole(&rt, rt.alloc(), text)?;
@@ -369,6 +430,7 @@ const CALLS: [(u8, Call); 8] = [
 #[test]
 fn lines_say_their_calls(rt: HostRuntime) -> Result<(), Fail> {
     let trace = read_trace(rt.alloc(), EACH_CALL)?;
+    assert_eq!(rt; trace.version, 1);
     assert_eq!(rt; trace.lines.len(), CALLS.len());
     for (i, (thread, call)) in CALLS.iter().enumerate() {
         let line = Line {
@@ -378,6 +440,23 @@ fn lines_say_their_calls(rt: HostRuntime) -> Result<(), Fail> {
         };
         assert_eq!(rt; trace.lines.get(i).copied(), Some(line));
     }
+    Ok(())
+}
+
+#[test]
+fn the_header_says_the_version(rt: HostRuntime) -> Result<(), Fail> {
+    let trace = read_trace(rt.alloc(), b"ptmtrace 2\n0 m 4294967295 24\n")?;
+    assert_eq!(rt; trace.version, 2);
+    let call = Call::Malloc {
+        name: 4_294_967_295,
+        size: 24,
+    };
+    let line = Line {
+        thread: 0,
+        number: 2,
+        call,
+    };
+    assert_eq!(rt; trace.lines.as_slice(), [line].as_slice());
     Ok(())
 }
 

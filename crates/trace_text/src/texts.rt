@@ -25,7 +25,8 @@ impl<'a> Model for Texts<'a> {
 impl<'a> Texts<'a> {
     /// The texts of a trace's lines, behind its header.
     pub fn of(bytes: &'a [u8]) -> Texts<'a>
-        ensures { (lines : List Line) → Allows lines → bytes.now ≡ spelling lines → result ≡ texts_of lines }
+        ensures { (version : ℕ) (lines : List Line) → Allows version lines →
+            bytes.now ≡ spelling version lines → result ≡ texts_of lines }
     {
         match cut_line(bytes) {
             Some((_header, rest)) => Texts { rest },

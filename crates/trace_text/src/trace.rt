@@ -1,7 +1,8 @@
 //! What a trace is: calls of the allocator, line by line.
 
 /// A call of the allocator, as a line of a trace has it (this project's own). A name stands for a block
-/// of the line's thread, and is a number from 1 to 65,535. Sizes and alignments are in bytes.
+/// of the line's thread, and is a number from 1 on: to 65,535 in a trace of version 1, to 4,294,967,295 in one of version 2.
+/// Sizes and alignments are in bytes.
 #[derive(Clone, Copy, Debug, PartialEq, Eq)]
 pub enum Call {
     /// `malloc`.
@@ -36,8 +37,10 @@ pub struct Line {
     pub call: Call,
 }
 
-/// The lines of a trace behind its header.
+/// A trace: the version that its header names, and the lines behind it.
 #[derive(Debug, Drop)]
 pub struct Trace {
+    /// 1 or 2.
+    pub version: u8,
     pub lines: Vec<Line>,
 }

@@ -1,8 +1,8 @@
 //! Writing a trace.
 
-ghost use Rattle.std.specs.Prelude.{◌≡◌, ◌+◌, ◌≤◌, [], ◌∷◌, ◌++◌, length, drop, Ok, IfOk, OnOk, OnErr};
+ghost use Rattle.std.specs.Prelude.{◌≡◌, ◌+◌, ◌≤◌, [], ◌∷◌, ◌++◌, length, codes, drop, IfOk, OnOk, OnErr};
 ghost use Rattle.std.specs.Fmt.{decimal};
-ghost use Rattle.trace_text.specs.Grammar.{reading_of};
+ghost use Rattle.trace_text.specs.Grammar.{header, whole, reading_of};
 ghost use Rattle.trace_text.specs.Spelling.{spaced, call_spelling, spelling_of, spelling, Allows};
 
 use crate::trace::{Call, Line, Trace};
@@ -119,15 +119,26 @@ pub fn append_line(out: &mut Vec<u8>, line: &Line) -> Result<(), NoMemory>
     Ok(())
 }
 
-/// The one spelling of a trace: the header, and a line for each line.
+/// The header of a version, with its newline.
+fn header_line(version: u8) -> &'static [u8]
+    ensures { result.now ≡ header version ++ codes "\n" }
+{
+    if version == 1 {
+        b"ptmtrace 1\n".as_slice()
+    } else {
+        b"ptmtrace 2\n".as_slice()
+    }
+}
+
+/// The one spelling of a trace: the header of its version, and a line for each line.
 pub fn print_trace(alloc: Global, t: &Trace) -> Result<Vec<u8>, NoMemory>
-    ensures spelled { IfOk result (λ text. text.items ≡ spelling t.now.lines.items) }
+    ensures spelled { IfOk result (λ text. text.items ≡ spelling t.now.version t.now.lines.items) }
 
     // What is written is read again as that trace.
-    ensures again { IfOk result (λ text. Allows t.now.lines.items →
-        reading_of text.items ≡ Ok t.now.lines.items) }
+    ensures again { IfOk result (λ text. Allows t.now.version t.now.lines.items →
+        reading_of text.items ≡ whole t.now.version t.now.lines.items) }
 {
-    let mut text = Vec::from_slice(alloc, b"ptmtrace 1\n")?;
+    let mut text = Vec::from_slice(alloc, header_line(t.version))?;
     for line in &t.lines {
         append_line(&mut text, line)?;
         text.push(b'\n')?;
