@@ -1,5 +1,5 @@
 -- Tables of marks, and the names that threads hold.
-use Rattle.std.proofs.Common.{◌≡◌, ℕ, zero, suc, Bool, false, ltb, List, [], ◌∷◌, ◌++◌, get_or, replicate, refl, sym, ap, ◌∙◌, inl, inr}
+use Rattle.std.proofs.Common.{◌≡◌, ℕ, zero, suc, Bool, false, ltb, List, [], ◌∷◌, ◌++◌, get_or, replicate, refl, ap, ◌∙◌, inl, inr}
 use Rattle.std.proofs.lemmas.Bool.{cases_Bool}
 use Rattle.trace_text.specs.Marks.{has}
 use Rattle.trace_text.specs.Names.{none_held, holds, holds_at}

@@ -1,6 +1,6 @@
 -- Held names, one kind for each thread: near ones as a table, far ones as a set (this project's own). No public clause
 -- cites this file.
-use Rattle.std.specs.Prelude.{◌≡◌, ℕ, ◌==◌, nat_lt, nat_eq, Bool, false, not, ◌&&◌, ◌||◌, List, [], slice_index_or, if◌then◌else◌}
+use Rattle.std.specs.Prelude.{◌≡◌, ℕ, ◌==◌, nat_lt, nat_eq, Bool, not, ◌&&◌, ◌||◌, List, [], slice_index_or, if◌then◌else◌}
 use Rattle.std.specs.List.{list_any}
 use Rattle.trace_text.specs.Marks.{has}
 

@@ -1,4 +1,4 @@
-use Rattle.std.proofs.Common.{sym, ◌≡◌, ◌∙◌}
+use Rattle.std.proofs.Common.{sym}
 use Rattle.trace_text.specs.ReadsAs.{ReadsAs}
 use Rattle.trace_text.specs.Grammar.{reading_of}
 use Rattle.trace_text.proofs.RoundTrip.{found_is}
