@@ -22,7 +22,7 @@ sizes_within false false n = omega (arith, mod-lt n {m = 300001} (omega arith))
 size_within : (n kind : ℕ) → n % sizes_of kind < 2 ^ 64
 size_within n kind = sizes_within (ltb kind 12) (ltb kind 15) n
 
-pub name_within : (n : ℕ) → IsName (n % 1024 + 1)
+pub name_within : (n : ℕ) → IsName 1 (n % 1024 + 1)
 name_within n = let below = mod-lt n {m = 1024} (omega arith) in (omega arith, omega (arith, below))
 
 pub thread_within : (n : ℕ) → n % 4 < 4
@@ -35,12 +35,12 @@ abbrev pub line_with : ℕ → ℕ → Call → Line
 line_with thread number call = record { thread = thread; number = number; call = call }
 
 record IsGood (before : List Line) (thread : ℕ) (made : Call × State) : Type 0 where
-  call : IsCall thread made.0
+  call : IsCall 1 thread made.0
   suits : fitting before thread made.0 ≡ Ok tt
   posted : IsPosted before made.0
   follows : (number : ℕ) → Follows (before ++ line_with thread number made.0 ∷ []) made.1.queues made.1.next_tray
 
-good_block : (before : List Line) (thread name : ℕ) (s : State) → IsName name → is_held thread name before ≡ false → Follows before s.queues s.next_tray → IsGood before thread (malloc_made name s)
+good_block : (before : List Line) (thread name : ℕ) (s : State) → IsName 1 name → is_held thread name before ≡ false → Follows before s.queues s.next_tray → IsGood before thread (malloc_made name s)
 unfolding malloc_made fitting
 good_block before thread name s named free now = record {
   call = (named, size_within (draw (behind_draw s).seed) (draw s.seed % 16));
@@ -49,7 +49,7 @@ good_block before thread name s named free now = record {
   follows = λ number. Follows-plain before (line_with thread number (malloc_made name s).0) s.queues s.next_tray (record { goes_on = refl; posts_none = λ tray. refl; takes_none = λ tray. refl }) now;
 }
 
-good_taking : (queue : List ℕ) (before : List Line) (thread name : ℕ) (s : State) → queue_of s.queues thread ≡ queue → thread < 4 → IsName name → is_held thread name before ≡ false → Follows before s.queues s.next_tray → IsGood before thread (unheld_made queue thread name s)
+good_taking : (queue : List ℕ) (before : List Line) (thread name : ℕ) (s : State) → queue_of s.queues thread ≡ queue → thread < 4 → IsName 1 name → is_held thread name before ≡ false → Follows before s.queues s.next_tray → IsGood before thread (unheld_made queue thread name s)
 unfolding unheld_made fitting
 good_taking [] before thread name s e lt named free now = good_block before thread name s named free now
 good_taking (tray ∷ others) before thread name s e lt named free now =
@@ -61,7 +61,7 @@ good_taking (tray ∷ others) before thread name s e lt named free now =
       follows = λ number. (taken number).follows;
     }
 
-good_post : (before : List Line) (thread name : ℕ) (s : State) → s.next_tray ≤ 65535 → IsName name → is_held thread name before ≡ true → Follows before s.queues s.next_tray → IsGood before thread (post_made thread name s)
+good_post : (before : List Line) (thread name : ℕ) (s : State) → s.next_tray ≤ 65535 → IsName 1 name → is_held thread name before ≡ true → Follows before s.queues s.next_tray → IsGood before thread (post_made thread name s)
 unfolding post_made fitting
 good_post before thread name s few named held now =
     let posted = λ (number : ℕ). Follows-post before (line_with thread number (Post name s.next_tray)) s.queues s.next_tray (receiver_of thread) name refl few (thread_within (thread + 1)) now in
@@ -72,7 +72,7 @@ good_post before thread name s few named held now =
       follows = λ number. (posted number).follows;
     }
 
-good_resize : (before : List Line) (thread name : ℕ) (s : State) → IsName name → is_held thread name before ≡ true → Follows before s.queues s.next_tray → IsGood before thread (realloc_made name s)
+good_resize : (before : List Line) (thread name : ℕ) (s : State) → IsName 1 name → is_held thread name before ≡ true → Follows before s.queues s.next_tray → IsGood before thread (realloc_made name s)
 unfolding realloc_made fitting
 good_resize before thread name s named held now = record {
   call = (named, omega (arith, mod-lt (draw s.seed) {m = 4096} (omega arith)));
@@ -81,7 +81,7 @@ good_resize before thread name s named held now = record {
   follows = λ number. Follows-plain before (line_with thread number (realloc_made name s).0) s.queues s.next_tray (record { goes_on = refl; posts_none = λ tray. refl; takes_none = λ tray. refl }) now;
 }
 
-good_free : (before : List Line) (thread name : ℕ) (s : State) → IsName name → is_held thread name before ≡ true → Follows before s.queues s.next_tray → IsGood before thread (Free name, s)
+good_free : (before : List Line) (thread name : ℕ) (s : State) → IsName 1 name → is_held thread name before ≡ true → Follows before s.queues s.next_tray → IsGood before thread (Free name, s)
 unfolding fitting
 good_free before thread name s named held now = record {
   call = named;
@@ -90,12 +90,12 @@ good_free before thread name s named held now = record {
   follows = λ number. Follows-plain before (line_with thread number (Free name)) s.queues s.next_tray (record { goes_on = refl; posts_none = λ tray. refl; takes_none = λ tray. refl }) now;
 }
 
-good_using : (resizes posts : Bool) (before : List Line) (thread name : ℕ) (s : State) → (posts ≡ true → s.next_tray ≤ 65535) → IsName name → is_held thread name before ≡ true → Follows before s.queues s.next_tray → IsGood before thread (cond resizes (realloc_made name s) (cond posts (post_made thread name s) (Free name, s)))
+good_using : (resizes posts : Bool) (before : List Line) (thread name : ℕ) (s : State) → (posts ≡ true → s.next_tray ≤ 65535) → IsName 1 name → is_held thread name before ≡ true → Follows before s.queues s.next_tray → IsGood before thread (cond resizes (realloc_made name s) (cond posts (post_made thread name s) (Free name, s)))
 good_using true posts before thread name s few named held now = good_resize before thread name s named held now
 good_using false true before thread name s few named held now = good_post before thread name s (few refl) named held now
 good_using false false before thread name s few named held now = good_free before thread name s named held now
 
-good_call : (held : Bool) (before : List Line) (thread name : ℕ) (s : State) → is_held thread name before ≡ held → thread < 4 → IsName name → Follows before s.queues s.next_tray → IsGood before thread (call_made held thread name s)
+good_call : (held : Bool) (before : List Line) (thread name : ℕ) (s : State) → is_held thread name before ≡ held → thread < 4 → IsName 1 name → Follows before s.queues s.next_tray → IsGood before thread (call_made held thread name s)
 unfolding call_made held_made
 good_call true before thread name s is lt named now =
     let kind = draw s.seed % 8 in
@@ -105,7 +105,7 @@ good_call false before thread name s is lt named now = good_taking (queue_of s.q
 -- ---- and so does the line
 
 record IsGoodLine (before : List Line) (made : Line × State) : Type 0 where
-  fits : Fits before made.0
+  fits : Fits 1 before made.0
   posted : IsPosted before made.0.call
   follows : Follows (before ++ made.0 ∷ []) made.1.queues made.1.next_tray
 
@@ -124,7 +124,7 @@ good_line before s now =
 
 -- ---- all lines
 
-AllFit-push : (before lines : List Line) (line : Line) → AllFit before lines → Fits (before ++ lines) line → AllFit before (lines ++ line ∷ [])
+AllFit-push : (before lines : List Line) (line : Line) → AllFit 1 before lines → Fits 1 (before ++ lines) line → AllFit 1 before (lines ++ line ∷ [])
 unfolding AllFit
 AllFit-push before [] line fit more = (rw append-nil at more, tt)
 AllFit-push before (first ∷ lines) line fit more = (fit.0, AllFit-push (before ++ first ∷ []) lines line fit.1 (rw append_assoc more))
@@ -134,7 +134,7 @@ unfolding AllPosted
 AllPosted-push before [] line fit more = (rw append-nil at more, tt)
 AllPosted-push before (first ∷ lines) line fit more = (fit.0, AllPosted-push (before ++ first ∷ []) lines line fit.1 (rw append_assoc more))
 
-more_good : (count : ℕ) (before : List Line) (s : State) → Allows before → TakesPosted before → Follows before s.queues s.next_tray → Allows (more_lines before s count) × TakesPosted (more_lines before s count)
+more_good : (count : ℕ) (before : List Line) (s : State) → AllFit 1 [] before → TakesPosted before → Follows before s.queues s.next_tray → AllFit 1 [] (more_lines before s count) × TakesPosted (more_lines before s count)
 unfolding more_lines
 more_good zero before s fit posted now = (fit, posted)
 more_good (suc count) before s fit posted now =
@@ -142,9 +142,9 @@ more_good (suc count) before s fit posted now =
     let good = good_line before s now in
     more_good count (before ++ made.0 ∷ []) made.1 (AllFit-push [] before made.0 fit good.fits) (AllPosted-push [] before made.0 posted good.posted) good.follows
 
-pub lines_made_allowed : (seed count : ℕ) → Allows (lines_made seed count)
+pub lines_made_allowed : (seed count : ℕ) → Allows 1 (lines_made seed count)
 unfolding lines_made AllFit AllPosted
-lines_made_allowed seed count = (more_good count [] (opening seed) tt tt Follows-none).0
+lines_made_allowed seed count = ((omega arith, omega arith), (more_good count [] (opening seed) tt tt Follows-none).0)
 
 pub lines_made_posted : (seed count : ℕ) → TakesPosted (lines_made seed count)
 unfolding lines_made AllFit AllPosted

@@ -33,14 +33,16 @@ fn next_line(maker: &mut Maker, held: &mut Held, number: u64) -> Result<Line, No
     })
 }
 
-/// The trace of a seed, with `n` lines behind its header (this project's own): four threads, which take blocks, give
+/// The trace of a seed, of version 1, with `n` lines behind its header (this project's own): four threads, which take blocks, give
 /// them up, get other sizes for them and hand them on, as is drawn.
 pub fn generate(alloc: Global, seed: u64, n: u32) -> Result<Trace, NoMemory>
     requires { n ≤ 1000000 }
     ensures exact { IfOk result (λ trace. trace.lines.items ≡ lines_made seed n) }
 
+    ensures version { IfOk result (λ trace. trace.version ≡ 1) }
+
     // What is printed of it is read as these lines again.
-    ensures allowed { IfOk result (λ trace. Allows trace.lines.items) }
+    ensures allowed { IfOk result (λ trace. Allows trace.version trace.lines.items) }
 
     // Every take stands behind a post of its tray.
     ensures posted { IfOk result (λ trace. TakesPosted trace.lines.items) }
@@ -52,5 +54,5 @@ pub fn generate(alloc: Global, seed: u64, n: u32) -> Result<Trace, NoMemory>
         let line = next_line(&mut maker, &mut held, u64::from(done) + 2)?;
         lines.push(line)?;
     }
-    Ok(Trace { lines })
+    Ok(Trace { version: 1, lines })
 }
