@@ -1,5 +1,5 @@
 -- What is recorded of a resize and of a search for an aligned chunk, and what they give (this project's own).
-use Rattle.std.specs.Prelude.{◌≡◌, ℕ, ◌++◌, List, [], ◌∷◌, Option, Some, None, ◌⊎◌, if◌then◌else◌}
+use Rattle.std.specs.Prelude.{◌≡◌, ℕ, ◌≤◌, ◌++◌, List, [], ◌∷◌, Option, Some, None, IfSome, ◌⊎◌, if◌then◌else◌}
 use Rattle.chunk_tags.specs.declared.block.Block.{Block}
 use Rattle.chunk_tags.specs.declared.tiles.Chunk.{Chunk}
 use Rattle.chunk_tags.specs.declared.tunables.Tunables.{Tunables}
@@ -68,6 +68,10 @@ abbrev pub FitsResize : ℕ → Resized → Type 0
 FitsResize nb (Kept b) = IsEnough (need_of b.arena nb) b.size
 FitsResize nb (Moved b) = IsEnough (need_of b.arena nb) b.size
 FitsResize nb (Refused b) = Unit {0}
+
+-- where memory was short the block comes back as it was, or is enough
+abbrev pub FitsBack : ℕ → Block → Option Block → Type 0
+FitsBack nb b back = IfSome back (λ c. (c ≡ b) ⊎ (need_of c.arena nb ≤ c.size))
 
 -- what is taken where this was found for an aligned block: in a mapping the block is behind its lead
 abbrev pub aligned_take : ℕ → ℕ → Found → Take

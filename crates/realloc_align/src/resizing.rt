@@ -1,6 +1,6 @@
 //! A used chunk gets another size, and what is left is released.
 
-ghost use Rattle.std.specs.Prelude.{◌≡◌, ◌≤◌, IsTrue, IfOk};
+ghost use Rattle.std.specs.Prelude.{◌≡◌, ◌≤◌, IsTrue, IfOk, IfErr};
 ghost use Rattle.chunk_tags.specs.Sizes.{IsRequestSize};
 ghost use Rattle.address_space.specs.Ports.{Rose};
 ghost use Rattle.address_space.specs.Spaces.{space_refusals};
@@ -73,6 +73,7 @@ pub fn resize_in<M: Moves, K: Kernel, P: FastPort + Dials>(
         (stage (M.plain g.old) (beside_arena port.old cache.old space.old) said.old.items)
         result (stage (M.plain g.new) (beside_arena port.new cache.new space.new) said.new.items) }
     ensures fits { IfOk result (FitsFound nb) }
+    ensures stranded { IfErr result (λ s. FitsFound nb s.found) }
     ensures refused { IfOk result (λ found. found ≡ Found.Nowhere
         → Rose (space_refusals K.port space.old) (space_refusals K.port space.new)) }
 {

@@ -11,7 +11,7 @@ ghost use Rattle.arena_core.specs.Ledgers.{stage};
 ghost use Rattle.arena_core.specs.Asking.{IsSearchable, IsReady, AllowsMaps, FitsFound, beside_arena};
 ghost use Rattle.arena_core.specs.Arenas.{held};
 ghost use Rattle.arena_core.specs.Replay.{IsReplay, chunk_at};
-ghost use Rattle.realloc_align.specs.Calls.{ResizesBlock, FailsResize, FitsResize, block_found, resize_to};
+ghost use Rattle.realloc_align.specs.Calls.{ResizesBlock, FailsResize, FitsResize, FitsBack, block_found, resize_to};
 
 use crate::resizing::{Stranded, resize_in};
 use address_space::{Kernel, Space};
@@ -77,7 +77,7 @@ fn resize_to(number: u8, b: Block, found: &Found) -> Resized
 
 /// Gives a used block of an arena `nb` bytes, and records the hold (glibc's `_int_realloc`, with the search and the release
 /// that the C code leaves to its caller). Where there is no memory for the entry nothing changes; where memory is short
-/// later, the entry says so, and the block comes back where it is then.
+/// later, the entry says so, and the block comes back where it is then: as it was, or large enough.
 pub fn resize<M: Moves, K: Kernel, P: FastPort + Dials>(
     a: &mut Arena<M>,
     alloc: Global,
@@ -106,6 +106,7 @@ pub fn resize<M: Moves, K: Kernel, P: FastPort + Dials>(
         (held (M.plain a.old.ground) port.old cache.old space.old a.old.journal.items)
         e.back (held (M.plain a.new.ground) port.new cache.new space.new a.new.journal.items)) }
     ensures fits { IfOk result (FitsResize nb) }
+    ensures enough { IfErr result (λ e. FitsBack nb b e.back) }
 
     // The journal stays as it was only where it had no room for the entry.
     ensures full { IfErr result (λ _. a.new.journal.items ≡ a.old.journal.items
