@@ -34,6 +34,8 @@ use Rattle.arena_core.specs.declared.journal.Act.{Act}
 use Rattle.arena_core.specs.declared.journal.Act.TheVariants as acts
 use Rattle.arena_core.specs.declared.journal.Who.{Who}
 use Rattle.arena_core.specs.declared.take.GiveShort.{GiveShort}
+use Rattle.realloc_align.specs.Calls.{ResizesBlock, FailsResize}
+use Rattle.realloc_align.specs.declared.to_size.Resized.{Resized}
 use Rattle.arena_holds.specs.Places.{KeptArena, PlaceWays, PlaceLaws, IsLent, IsServed, Carries, standing, Hands, weight_of, in_cache, as_chunk_of, as_mapped, as_mapped_bytes, as_mapped_byte, given_byte, Covers, new_arena}
 use Rattle.arena_holds.specs.Holding.{SearchesArena}
 use Rattle.arena_holds.specs.Returning.{IsReturn, IsUnlocked, IsAccounted, IsNoted}
@@ -128,6 +130,25 @@ left_given {H = H} {K = K} m t who b before after (Err e) sound placed records s
         windows = ap (λ (x : Held H K). x.arena.windows) h.1;
       }
       | None ↦ λ h. let l = h.loses in record { number = l.number; sound = l.sound; placed = l.placed placed; windows = l.windows }
+    ] in
+    cases e.back short
+
+pub left_resized : {H K : Type 0} (m : Means H K) (t : Tunables) (who : Who) (b : Block) (nb : ℕ) (before after : Held H K) (result : Result Resized GiveShort) → IsSound before.arena → IsPlaced before.arena →
+    IfOk result (λ r. ResizesBlock m t who b nb before r after) → IfErr result (λ e. FailsResize m t who b nb before e.back after) → IsLeft before.arena after.arena
+left_resized m t who b nb before after (Ok r) sound placed resizes short =
+    let l = resizes.records.balances in record { number = l.number; sound = l.sound; placed = l.placed placed; windows = l.windows }
+left_resized {H = H} {K = K} m t who b nb before after (Err e) sound placed resizes short =
+    let cases : (o : Option Block) → FailsResize m t who b nb before o after → IsLeft before.arena after.arena = elim [
+      | Some back ↦ elim [
+        | inl same ↦ record {
+          number = ap (λ (x : Held H K). x.arena.number) same.1;
+          sound = subst (λ (x : Held H K). IsSound x.arena) (sym same.1) sound;
+          placed = subst (λ (x : Held H K). IsPlaced x.arena) (sym same.1) placed;
+          windows = ap (λ (x : Held H K). x.arena.windows) same.1;
+        }
+        | inr stops ↦ let l = stops.spares in record { number = l.number; sound = l.sound; placed = l.placed placed; windows = l.windows }
+      ]
+      | None ↦ λ h. absurd h
     ] in
     cases e.back short
 

@@ -5,7 +5,6 @@ pub mod Holds
 pub mod Founds
 pub mod Taken
 pub mod Unmapped
-pub mod Obeying
 pub mod Mappings
 pub mod Opened
 pub mod Searches

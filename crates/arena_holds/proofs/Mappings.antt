@@ -192,13 +192,15 @@ finds_mapped s t who cache act b c o q r first d later same search lent maps fil
         goes = subst (λ (x : Option Block). Goes s t who (search_mapping act cache) o (Mapped (Some b.addr) ∷ []) (Done (searched 0 x cache)) (standing r later)) (sym is)
             (going.mapped {next = λ start. Done (searched 0 (mapped_for act start) cache)} {p = standing r later} (record { lending = q; dial = first; last_dial = d; block = Some b; lent = lent; maps = maps; told = refl; gave = gave }) here);
       };
-      held = filled_mapping (size_searched act) (chunk_at b.addr b.size) c fills.page size fills.limit taken.fills;
-      fits = mapped_need act c taken.fills.arena taken.enough.room;
-      aligned = taken.aligned;
+      gets = record {
+        held = filled_mapping (size_searched act) (chunk_at b.addr b.size) c fills.page size fills.limit taken.fills;
+        fits = mapped_need act c taken.fills.arena taken.enough.room;
+        aligned = taken.aligned;
+        later = maps.asked.later;
+        opens = refl;
+        carries = beside_cache same cache (Some c) (carries_mapped s act b c o r first d later fills taken maps back);
+      };
       refused = λ e. absurd cc;
-      later = maps.asked.later;
-      opens = refl;
-      carries = beside_cache same cache (Some c) (carries_mapped s act b c o r first d later fills taken maps back);
     }
 
 pub finds_unmapped : {P H D K : Type 0} (s : Setting P H D K) (t : Tunables) (who : Who) (cache : CacheValue) (act : Act) (o : Standing P K) (q r : P) (first d : D) (later : Space K) → SameLaw s.ways →
@@ -210,11 +212,13 @@ finds_unmapped s t who cache act o q r first d later same lent maps gave returne
     told = Mapped None ∷ [];
     goes = going.mapped {next = λ start. Done (searched 0 (mapped_for act start) cache)} {p = standing r later} (record { lending = q; dial = first; last_dial = d; block = None; lent = lent; maps = maps; told = refl; gave = gave }) here;
   };
-  held = tt;
-  fits = tt;
-  aligned = tt;
+  gets = record {
+    held = tt;
+    fits = tt;
+    aligned = tt;
+    later = maps.asked.later;
+    opens = refl;
+    carries = beside_cache same cache None (carries_unmapped s (mapping_length (size_searched act)) o r first later maps.asked (returned [] maps.refused));
+  };
   refused = λ e. maps.asked.cause refl;
-  later = maps.asked.later;
-  opens = refl;
-  carries = beside_cache same cache None (carries_unmapped s (mapping_length (size_searched act)) o r first later maps.asked (returned [] maps.refused));
 }

@@ -45,12 +45,12 @@ is_none None e = refl
 
 gets_of : {P H D K : Type 0} {s : Setting P H D K} {t : Tunables} {who : Who} {rules : Call Searched} {act : Act} {cache left : CacheValue} {o z : Standing P K} {place : ℕ} {block : Option Block} →
     Finds s t who rules act cache o place block left z → Gets s act cache o block left z
-gets_of f = record { held = f.held; fits = f.fits; aligned = f.aligned; later = f.later; opens = f.opens; carries = f.carries }
+gets_of f = f.gets
 
 finds_of : {P H D K : Type 0} {s : Setting P H D K} {t : Tunables} {who : Who} {rules : Call Searched} {act : Act} {cache left : CacheValue} {o z : Standing P K} (place : ℕ) {block : Option Block} →
     Does s t who rules o (searched place block left) z → (block ≡ None → Rose (space_refusals s.means.kernel o.space) (space_refusals s.means.kernel z.space)) → Gets s act cache o block left z →
     Finds s t who rules act cache o place block left z
-finds_of place does refused g = record { does = does; held = g.held; fits = g.fits; aligned = g.aligned; refused = refused; later = g.later; opens = g.opens; carries = g.carries }
+finds_of place does refused g = record { does = does; gets = g; refused = refused }
 
 -- a first part gave nothing, or nobody saw it
 gets_after : {P H D K : Type 0} {s : Setting P H D K} {act : Act} {cache mid left : CacheValue} {o p z : Standing P K} {block : Option Block} →

@@ -1,5 +1,5 @@
 -- A hold as a step of a call: what was recorded is what the call is told.
-use Rattle.std.proofs.Common.{◌≡◌, ℕ, ◌+◌, ◌≤◌, true, false, List, [], ◌∷◌, length, Option, Some, None, inl, inr, refl, sym, ap, ◌∙◌, subst, arith}
+use Rattle.std.proofs.Common.{◌≡◌, ℕ, ◌+◌, ◌≤◌, true, false, List, [], ◌∷◌, length, Option, Some, None, ◌⊎◌, inl, inr, refl, sym, ap, ◌∙◌, subst, arith}
 use Rattle.std.specs.Prelude.{IfSome, Bool, cond, not, nat_eq}
 use Rattle.chunk_tags.specs.declared.block.Block.{Block}
 use Rattle.chunk_tags.specs.declared.tunables.Tunables.{Tunables}
@@ -13,7 +13,7 @@ use Rattle.arena_rules.specs.Walks.{Walks, StopsShort}
 use Rattle.arena_rules.specs.Align.{aligned_block, lead_of, size_with_lead}
 use Rattle.chunk_tags.specs.declared.tiles.Chunk.{Chunk}
 use Rattle.fast_bins.specs.FastPorts.{Fast}
-use Rattle.realloc_align.specs.Calls.{AlignsBlock, FitsTake, aligned_take, ResizesBlock, FailsResize, FitsResize, resize_to}
+use Rattle.realloc_align.specs.Calls.{AlignsBlock, FitsTake, aligned_take, ResizesBlock, FailsResize, FitsResize, FitsBack, resize_to}
 use Rattle.realloc_align.specs.Calls as resizes
 use Rattle.realloc_align.specs.declared.to_size.Resized.{Resized}
 use Rattle.realloc_align.specs.declared.to_size.Resized.TheVariants as sizes
@@ -42,6 +42,7 @@ use Rattle.arena_holds.specs.Calls as calls
 use Rattle.arena_holds.specs.Calls.{hold_end, taken_of, lead_taken}
 use Rattle.arena_holds.specs.Going as going
 use Rattle.arena_holds.specs.Going.{Does, HoldStep, Held as HeldTold, here}
+use Rattle.arena_holds.specs.Holding as holdings
 use Rattle.arena_holds.specs.Holding.{SearchesArena, SearchesHeld, block_mapped, Gives, Resizes, ResizesShort, block_in, block_behind}
 use Rattle.arena_holds.specs.Holding.{block_found as found_for}
 use Rattle.arena_holds.specs.Searching.{IsSearch, IsAligned, size_wanted}
@@ -362,14 +363,15 @@ pub resizes_short : {P H D K : Type 0} (s : Setting P H D K) (words : Dialled D)
     (b back : Block) (k k' : KeptArena) → PlaceLaws s.ways s.means.fast s.means.dials words → IfSome cache IsSoundCache → IfSome now IsSoundCache → IsHeld b → b.arena ≡ Some a →
     IsServed s.ways t (both_of (λ weigh. weigh b) (in_cache cache)) o → s.ways.lent o.places a port (Some k) q → IsUnlocked s.ways s.means.fast o.places a port k left k' r →
     FailsResize s.means t who b nb (held k.arena port cache o.space k.journal) (Some back) (held k'.arena left now later k'.journal) →
-    ResizesShort s b cache o back now (standing r later)
-resizes_short {H = H} {K = K} s words {a = a} {nb = nb} {cache = cache} {now = now} {o = o} {q = q} {r = r} {port = port} {left = left} {later = later} b back k k' laws sound well is_held arena served lent unlocked h =
+    FitsBack nb b (Some back) → ResizesShort s b nb cache o back now (standing r later)
+resizes_short {H = H} {K = K} s words {a = a} {nb = nb} {cache = cache} {now = now} {o = o} {q = q} {r = r} {port = port} {left = left} {later = later} b back k k' laws sound well is_held arena served lent unlocked h enough =
     let is : IsLent s.ways s.means.fast s.means.dials o.places a port k = laws.lends o.places q a port k lent in
     let n : ℕ = k.arena.number in
     let own : b.arena ≡ Some n = arena ∙ ap Some (sym is.number) in
     elim h [
       | inl same ↦ record {
         held = subst (λ (x : Block). IsHeld x) (sym same.0) is_held;
+        enough = enough;
         carries = carries_none s k k' cache now (both_of (λ weigh. weigh b) (in_cache cache)) (both_of (λ weigh. weigh back) (in_cache now)) unlocked same.1
             (λ w. omega (arith, ap w same.0, ap (λ (x : Held H K). in_cache x.outside.cache w) same.1));
       }
@@ -377,6 +379,7 @@ resizes_short {H = H} {K = K} s words {a = a} {nb = nb} {cache = cache} {now = n
           let stays = resized_back s.means {nb = nb} k k' b r.found laws.shows is_held own (lent_backed k (both_of (λ weigh. weigh b) (in_cache cache)) is served) r.stops r.spares r.mapped in
           rw r.came record {
             held = stays.1;
+            enough = subst (λ (x : Block). (x ≡ b) ⊎ (need_of x.arena nb ≤ x.size)) r.came enough;
             carries = carries_short s words {act = acts.Resize b.addr b.size nb} k k' (Some b) (Some (resizes.block_found n b r.found)) laws sound well is.number unlocked (handles_resize b nb n own) r.stops stays.0 r.spares;
           }
     ]
@@ -401,20 +404,28 @@ gives_held s words {t = t} {a = a} {o = o} {q = q} {r = r} {port = port} {left =
     }
 
 pub gives_short : {P H D K : Type 0} (s : Setting P H D K) (words : Dialled D) (t : Tunables) (who : Who) {a : ℕ} {o : Standing P K} {q r : P} {port left : H} {later : Space K}
-    (b : Block) (k k' : KeptArena) (back : Option Block) → PlaceLaws s.ways s.means.fast s.means.dials words → b.arena ≡ Some a → s.ways.lent o.places a port (Some k) q →
+    (b : Block) (k k' : KeptArena) (back : Option Block) → PlaceLaws s.ways s.means.fast s.means.dials words → b.arena ≡ Some a → s.ways.lent o.places a port (Some k) q → s.ways.gave q left k' r →
     IsUnlocked s.ways s.means.fast o.places a port k left k' r →
     GivesShort s.means t who b (held k.arena port None o.space k.journal) back (held k'.arena left None later k'.journal) →
-    Carries s.ways false (λ weigh. weigh b) o (λ weigh. 0) (standing r later)
-gives_short s words t who {a = a} {o = o} {q = q} {r = r} {port = port} {left = left} {later = later} b k k' (Some back) laws arena lent unlocked h =
-    carries_none s k k' None None (λ weigh. weigh b) (λ weigh. 0) unlocked h.1 (λ w. omega arith)
-gives_short s words t who {a = a} {o = o} {q = q} {r = r} {port = port} {left = left} {later = later} b k k' None laws arena lent unlocked h =
+    holdings.GivesShort s t who a b o back (standing r later)
+gives_short s words t who {a = a} {o = o} {q = q} {r = r} {port = port} {left = left} {later = later} b k k' (Some back) laws arena lent gave unlocked h = record {
+  same = h.0;
+  gone = λ none. absurd cc;
+  carries = carries_none s k k' None None (λ weigh. weigh b) (weight_of (Some back)) unlocked h.1 (λ w. omega (arith, ap w h.0));
+}
+gives_short s words t who {a = a} {o = o} {q = q} {r = r} {port = port} {left = left} {later = later} b k k' None laws arena lent gave unlocked h =
     let is : IsLent s.ways s.means.fast s.means.dials o.places a port k = laws.lends o.places q a port k lent in
     let n : ℕ = k.arena.number in
     let unlocked' : IsUnlocked s.ways s.means.fast o.places n port k left k' r = subst (λ (x : ℕ). IsUnlocked s.ways s.means.fast o.places x port k left k' r) (sym is.number) unlocked in
     let frame : IsFramed s.means (beside_arena port None o.space) (beside_arena left None later) = walked_frame {m = s.means} h.stops.reaches.walks in
-    carries_held false (λ weigh. weigh b) (λ weigh. 0) o.space later unlocked'
-    (only_least (λ x. IsAccounted s.ways s.means.fast n x (λ weigh. weigh b) port k (λ weigh. 0) left k') (account_given_short s.ways s.means b laws.shows (arena ∙ ap Some (sym is.number)) h)) (noted_short s.ways s.means (acts.Give b.addr b.size) k.arena laws.shows h.stops)
-    (λ n. omega (arith, framed_window s.means (beside_arena port None o.space) (beside_arena left None later) n frame)) frame.windows
+    record {
+      same = tt;
+      gone = λ none. record { lending = q; hold = port; last_hold = left; before = k; after = k'; lent = lent; short = h; gave = gave };
+      carries = carries_as laws.same (λ weigh. weigh b) (weight_of None) (λ w. refl) (λ w. refl)
+          (carries_held false (λ weigh. weigh b) (λ weigh. 0) o.space later unlocked'
+          (only_least (λ x. IsAccounted s.ways s.means.fast n x (λ weigh. weigh b) port k (λ weigh. 0) left k') (account_given_short s.ways s.means b laws.shows (arena ∙ ap Some (sym is.number)) h)) (noted_short s.ways s.means (acts.Give b.addr b.size) k.arena laws.shows h.stops)
+          (λ n. omega (arith, framed_window s.means (beside_arena port None o.space) (beside_arena left None later) n frame)) frame.windows);
+    }
 
 -- ---- the cache's structure stays in a hold, however that ends
 

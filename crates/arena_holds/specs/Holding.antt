@@ -1,5 +1,5 @@
 -- What a hold of an arena within a call promises, and what is done with a mapped chunk outside all holds (this project's own).
-use Rattle.std.specs.Prelude.{◌≡◌, ℕ, ◌+◌, ◌%◌, ◌≤◌, ◌&&◌, nat_eq, is_some, Bool, true, false, IsTrue, Option, Some, None, IsSome, IfSome, Result, Ok, Err, IfOk, IfErr, IsErr, if◌then◌else◌}
+use Rattle.std.specs.Prelude.{◌≡◌, ℕ, ◌+◌, ◌%◌, ◌≤◌, ◌&&◌, nat_eq, is_some, Bool, true, false, IsTrue, Option, Some, None, IsSome, IfSome, Result, Ok, Err, IfOk, IfErr, IsErr, ◌⊎◌, if◌then◌else◌}
 use Rattle.chunk_tags.specs.Pages.{mapping_length}
 use Rattle.chunk_tags.specs.declared.block.Block.{Block}
 use Rattle.chunk_tags.specs.declared.tiles.Chunk.{Chunk}
@@ -11,10 +11,11 @@ use Rattle.thread_cache.specs.Caches.{CacheValue, is_open}
 use Rattle.arena_rules.specs.Align.{aligned_block}
 use Rattle.arena_rules.specs.PlainArena.{Plain}
 use Rattle.arena_rules.specs.Rules.{block_of}
-use Rattle.consolidate_trim.specs.Holds.{no_chunk}
+use Rattle.consolidate_trim.specs.Holds.{no_chunk, one_chunk}
 use Rattle.consolidate_trim.specs.Outside.{Means}
-use Rattle.arena_core.specs.Arenas.{Held, Records, mapped_block, need_of}
+use Rattle.arena_core.specs.Arenas.{Held, Records, RecordsShort, held, mapped_block, need_of}
 use Rattle.arena_core.specs.Journal.{Recorded}
+use Rattle.arena_core.specs.Replay.{chunk_at}
 use Rattle.arena_core.specs.Steps.{IsEnough}
 use Rattle.arena_core.specs.declared.found.Found.{Found}
 use Rattle.arena_core.specs.declared.found.Found.TheVariants as finds
@@ -105,13 +106,8 @@ pub record SearchesHeld {P H D K : Type 0} (s : Setting P H D K) (t : Tunables) 
 pub record Finds {P H D K : Type 0} (s : Setting P H D K) (t : Tunables) (who : Who) (rules : Call Searched) (act : Act) (cache : CacheValue)
     (old : Standing P K) (place : ℕ) (block : Option Block) (left : CacheValue) (new : Standing P K) : Type 0 where
   pub does : Does s t who rules old (searched place block left) new
-  pub held : IfSome block IsHeld
-  pub fits : IfSome block (λ b. need_of b.arena (size_wanted act) ≤ b.size)
-  pub aligned : IfSome block (IsAligned act)
+  pub gets : Gets s act cache old block left new
   pub refused : block ≡ None → Rose (space_refusals s.means.kernel old.space) (space_refusals s.means.kernel new.space)
-  pub later : space_refusals s.means.kernel old.space ≤ space_refusals s.means.kernel new.space
-  pub opens : is_open left ≡ is_open cache
-  pub carries : Carries s.ways true (in_cache cache) old (both_of (weight_of block) (in_cache left)) new
 
 -- the arena that was searched, and what that came to, with the cache then; and the block
 abbrev pub chosen_with : CacheValue → Option Tried → Chosen
@@ -157,6 +153,25 @@ pub record Gives {P H D K : Type 0} (s : Setting P H D K) (t : Tunables) (who : 
   pub does : Does s t who (hold_of a (Give b.addr b.size) cache) old (hold_end place ended cache) new
   pub carries : Carries s.ways true (λ weigh. weigh b) old (λ weigh. 0) new
 
+-- Memory was short behind the entry there: the arena has the chunk, and the entry says so.
+pub record GivesUp {P H D K : Type 0} (s : Setting P H D K) (t : Tunables) (who : Who) (a : ℕ) (b : Block) (old new : Standing P K) : Type 0 where
+  pub lending : P
+  pub hold : H
+  pub last_hold : H
+  pub before : KeptArena
+  pub after : KeptArena
+  pub lent : s.ways.lent old.places a hold (Some before) lending
+  pub short : RecordsShort s.means t who (Give b.addr b.size) (held before.arena hold None old.space before.journal) (one_chunk (chunk_at b.addr b.size))
+      (held after.arena last_hold None new.space after.journal)
+  pub gave : s.ways.gave lending last_hold after new.places
+
+-- Memory was short there: the block comes back as it was, or the arena has it.
+pub record GivesShort {P H D K : Type 0} (s : Setting P H D K) (t : Tunables) (who : Who) (a : ℕ) (b : Block)
+    (old : Standing P K) (back : Option Block) (new : Standing P K) : Type 0 where
+  pub same : IfSome back (λ c. c ≡ b)
+  pub gone : back ≡ None → GivesUp s t who a b old new
+  pub carries : Carries s.ways false (λ weigh. weigh b) old (weight_of back) new
+
 -- what a hold's end makes of a block that was to get another size: where it isn't mapped and has its address, it is kept
 abbrev pub placed_block : Block → Block → Resized
 placed_block b c = if is_some c.arena && nat_eq c.addr b.addr then sizes.Kept c else sizes.Moved c
@@ -178,10 +193,11 @@ pub record Resizes {P H D K : Type 0} (s : Setting P H D K) (t : Tunables) (who 
   pub carries : Carries s.ways true (both_of (λ weigh. weigh b) (in_cache cache)) old
       (both_of (λ weigh. weigh (block_behind resized)) (in_cache left)) new
 
--- Memory was short there: the block comes back, where it is then.
-pub record ResizesShort {P H D K : Type 0} (s : Setting P H D K) (b : Block) (cache : CacheValue)
+-- Memory was short there: the block comes back, where it is then, as it was or large enough.
+pub record ResizesShort {P H D K : Type 0} (s : Setting P H D K) (b : Block) (nb : ℕ) (cache : CacheValue)
     (old : Standing P K) (back : Block) (left : CacheValue) (new : Standing P K) : Type 0 where
   pub held : IsHeld back
+  pub enough : (back ≡ b) ⊎ (need_of back.arena nb ≤ back.size)
   pub carries : Carries s.ways false (both_of (λ weigh. weigh b) (in_cache cache)) old
       (both_of (λ weigh. weigh back) (in_cache left)) new
 

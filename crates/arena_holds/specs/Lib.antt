@@ -6,4 +6,3 @@ pub mod Places
 pub mod Returning
 pub mod Going
 pub mod Holding
-pub mod Obeys

@@ -14,11 +14,11 @@ ghost use Rattle.arena_core.specs.Replay.{IsReplay};
 ghost use Rattle.arena_holds.specs.Places.{setting, IsServed, Carries, standing, both_of, in_cache, kept_of};
 ghost use Rattle.arena_holds.specs.Blocks.{IsHeld};
 ghost use Rattle.arena_holds.specs.Searching.{IsSearch};
-ghost use Rattle.arena_holds.specs.Holding.{SearchesArena, SearchesHeld, IsLentTo, Gives, Resizes, ResizesShort, block_in};
+ghost use Rattle.arena_holds.specs.Holding.{SearchesArena, SearchesHeld, IsLentTo, Gives, GivesShort, Resizes, ResizesShort, block_in};
 
 use crate::places::Places;
 use address_space::{Kernel, Space};
-use arena_core::{Act, Arena, Take, Who};
+use arena_core::{Act, Arena, GiveShort, Take, Who};
 use arena_rules::Moves;
 use chunk_tags::{Block, NoMemory, Size, Tunables};
 use fast_bins::FastPort;
@@ -84,7 +84,8 @@ fn search_arena<M: Moves, K: Kernel, P: FastPort + Dials>(
     }
 }
 
-/// Searches an arena that was lent, and gives it back. After `NoMemory` no block of the thread was lost.
+/// Searches an arena that was lent, and gives it back. After `NoMemory` no other block is claimed, and what others have stays
+/// given out.
 pub fn search_lent<P: Places, K: Kernel>(
     alloc: Global,
     p: &mut P,
@@ -122,8 +123,8 @@ pub fn search_lent<P: Places, K: Kernel>(
     }
 }
 
-/// Gives a block to its arena, in one hold, and gives the place of the hold's entry in the journal. After `NoMemory` no
-/// other block of the thread was lost.
+/// Gives a block to its arena, in one hold, and gives the place of the hold's entry in the journal. Where memory is short the
+/// block comes back, or the arena has it; what others have stays given out.
 pub fn give_held<P: Places, K: Kernel>(
     alloc: Global,
     p: &mut P,
@@ -132,15 +133,16 @@ pub fn give_held<P: Places, K: Kernel>(
     b: Block,
     space: &mut Space<K>,
     t: &Tunables,
-) -> Result<u64, NoMemory>
+) -> Result<u64, GiveShort>
     requires chunk { IsChunkSize b.size }
     requires arena { b.arena ≡ Some a }
     requires served { IsServed P.ways t.now (λ weigh. weigh b) (standing p.old space.old) }
     ensures gives { (cache : CacheValue) → IfOk result (λ hold.
         Gives (setting P.ways (means P.Hold.fast P.Hold.dials K.port) P.Dial.dials) t.now who.now a
         b cache (standing p.old space.old) hold (standing p.new space.new)) }
-    ensures short { OnErr result (Carries P.ways false (λ weigh. weigh b) (standing p.old space.old)
-        (λ weigh. 0) (standing p.new space.new)) }
+    ensures short { IfErr result (λ e.
+        GivesShort (setting P.ways (means P.Hold.fast P.Hold.dials K.port) P.Dial.dials) t.now
+        who.now a b (standing p.old space.old) e.back (standing p.new space.new)) }
 {
     let (mut hold, lent) = p.lock(a);
     let mut arena = lent.unwrap();
@@ -149,7 +151,7 @@ pub fn give_held<P: Places, K: Kernel>(
     p.unlock(hold, arena);
     match gave {
         Ok(()) => Ok(place),
-        Err(_short) => Err(NoMemory),
+        Err(short) => Err(short),
     }
 }
 
@@ -160,8 +162,8 @@ pub struct HeldResize {
     pub resized: Resized,
 }
 
-/// Gives a block of an arena `nb` bytes, in one hold. Where memory is short it comes back where it is then, and no other
-/// block of the thread was lost.
+/// Gives a block of an arena `nb` bytes, in one hold. Where memory is short it comes back where it is then, as it was or large
+/// enough; no other block is claimed, and what others have stays given out.
 pub fn resize_held<P: Places, K: Kernel>(
     alloc: Global,
     p: &mut P,
@@ -184,7 +186,7 @@ pub fn resize_held<P: Places, K: Kernel>(
         a b nb cache.old (standing p.old space.old) r.hold r.resized
         cache.new (standing p.new space.new)) }
     ensures short { IfErr result (λ back.
-        ResizesShort (setting P.ways (means P.Hold.fast P.Hold.dials K.port) P.Dial.dials) b
+        ResizesShort (setting P.ways (means P.Hold.fast P.Hold.dials K.port) P.Dial.dials) b nb
         cache.old (standing p.old space.old) back cache.new (standing p.new space.new)) }
     ensures structure { structure_of cache.new ≡ structure_of cache.old }
 {

@@ -7,7 +7,8 @@ ghost use Rattle.thread_cache.specs.Caches.{structure_of};
 ghost use Rattle.consolidate_trim.specs.Outside.{means};
 ghost use Rattle.arena_holds.specs.Places.{Hands, setting, IsServed, Carries, standing, in_cache};
 ghost use Rattle.arena_holds.specs.Searching.{IsSearch, search as search_rules, search_in, choose_and_search, search_again, search_by_choice, search_reused};
-ghost use Rattle.arena_holds.specs.Returning.{IsAllowed};
+ghost use Rattle.arena_holds.specs.BookChanges.{Undoes};
+ghost use Rattle.arena_holds.specs.Returning.{IsAllowed, IsBooked};
 ghost use Rattle.arena_holds.specs.Holding.{Finds, FindsChosen, OpensArena};
 
 use crate::holding::{Search, search_lent};
@@ -112,6 +113,7 @@ fn open_arena<P: Places, K: Kernel>(
         who.now a bytes (standing p.old space.old) opened (standing p.new space.new)) }
     ensures short { (hands : Hands) → OnErr result
         (Carries P.ways false hands (standing p.old space.old) hands (standing p.new space.new)) }
+    ensures undone { OnErr result (IsBooked P.ways p.old (Undoes a) p.new) }
 {
     match Arena::open(alloc, *who, a, bytes, space, t) {
         Ok(Some(arena)) => {
@@ -238,7 +240,7 @@ fn search_again<P: Places, K: Kernel>(
 
 /// Searches for a chunk for a thread: in the arena that it chooses, and where that is refused in another one (glibc's
 /// `arena_get` and `arena_get_retry` as `__libc_malloc` uses them). The arena is chosen for `bytes`, at the second try for
-/// `again`. After `NoMemory` no block of the thread was lost.
+/// `again`. After `NoMemory` no other block is claimed, and what others have stays given out.
 pub fn search<P: Places, K: Kernel>(
     alloc: Global,
     p: &mut P,

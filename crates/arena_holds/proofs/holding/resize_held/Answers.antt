@@ -1,7 +1,9 @@
 use Rattle.std.proofs.Common.{◌≡◌, Some, length, subst, arith}
 use Rattle.std.specs.Prelude.{option_map}
 use Rattle.consolidate_trim.specs.Outside.{means}
+use Rattle.arena_core.specs.Arenas.{held}
 use Rattle.arena_holds.specs.Places.{setting, kept_of, in_cache}
+use Rattle.arena_holds.proofs.Holds.{left_resized, is_return}
 use Rattle.arena_holds.proofs.Taken.{resizes_held, resizes_short, structure_resized, structure_unresized}
 use Rattle.arena_holds.proofs.holding.resize_held.Goals as goal
 
@@ -27,10 +29,28 @@ returns-in-Err-clause-short g c =
     let back : c.in-Err.short.back ≡ Some c.unwrap.result = cc in
     resizes_short (setting g.P.Places.ways (means g.P.Hold.FastPort.fast g.P.Hold.Dials.dials g.K.Kernel.port) g.P.Dial.Dials.dials) g.P.Dial.Dials.dials c.args.b c.unwrap.result
     (kept_of plain c.unwrap-arena.result) (kept_of plain c.resize-done.new.a) g.met.P.Places.laws c.laws.ensures c.laws-2.ensures c.requires.held c.requires.arena c.requires.served lent
-    (c.unlock.ensures.unlocked c.args.p.now c.args.a c.lock-hold.result.0 (kept_of plain c.unwrap-arena.result) lent) (rw back at c.in-Err.ensures.short)
+    (c.unlock.ensures.unlocked c.args.p.now c.args.a c.lock-hold.result.0 (kept_of plain c.unwrap-arena.result) lent) (rw back at c.in-Err.ensures.short) (rw back at c.in-Err.ensures.enough)
 
 pub returns-in-Ok-clause-structure : goal.returns-in-Ok-clause-structure
 returns-in-Ok-clause-structure g c = structure_resized c.in-Ok.ensures.resized
 
 pub returns-in-Err-clause-structure : goal.returns-in-Err-clause-structure
 returns-in-Err-clause-structure g c = structure_unresized _ _ _ c.args.b c.args.nb _ _ c.in-Err.short.back c.in-Err.ensures.short
+
+pub unlock-requires : goal.unlock-requires
+unlock-requires g c =
+    let plain = g.P.Ground.Moves.plain in
+    let laws = g.met.P.Places.laws in
+    let m = means g.P.Hold.FastPort.fast g.P.Hold.Dials.dials g.K.Kernel.port in
+    let k = kept_of plain c.unwrap-arena.result in
+    let k' = kept_of plain c.resize-done.new.a in
+    let e : c.lock-hold.result.1 ≡ Some c.unwrap-arena.result = cc in
+    let lent = subst (λ o. g.P.Places.ways.lent c.args.p.now c.args.a c.lock-hold.result.0 (option_map (kept_of plain) o) c.lock-hold.new.self) e c.lock-hold.ensures.lent in
+    let is = laws.lends c.args.p.now c.lock-hold.new.self c.args.a c.lock-hold.result.0 k lent in
+    record {
+      lent = is_return g.P.Places.ways g.P.Hold.FastPort.fast g.P.Hold.Dials.dials g.P.Dial.Dials.dials c.args.p.now c.lock-hold.new.self c.args.a c.lock-hold.result.0 k k' c.args.t.now
+          laws lent c.requires.served.tunables
+          (left_resized m c.args.t.now c.args.who.now c.args.b c.args.nb (held k.arena c.lock-hold.result.0 c.args.cache.now c.args.space.now k.journal)
+          (held k'.arena c.resize-done.new.port c.resize-done.new.cache c.resize-done.new.space k'.journal) c.resize-done.result is.sound is.placed c.resize-done.ensures.resized c.resize-done.ensures.short)
+          c.resize-done.ensures.replay;
+    }
