@@ -5,7 +5,7 @@ use Rattle.std.proofs.lemmas.List.Sums.{sum_by-cons}
 use Rattle.chunk_tags.specs.declared.block.Block.{Block}
 use Rattle.chunk_tags.specs.declared.tunables.Tunables.{Tunables}
 use Rattle.address_space.specs.declared.space.Space.{Space}
-use Rattle.thread_cache.specs.Caches.{CacheValue, blocks_of, structure_of, without_next}
+use Rattle.thread_cache.specs.Caches.{CacheValue, blocks_of, structure_of, without_next, is_open}
 use Rattle.arena_core.specs.declared.journal.Who.{Who}
 use Rattle.arena_holds.specs.BookChanges.{Leaves}
 use Rattle.arena_holds.specs.Calls.{Books, Done}
@@ -42,13 +42,17 @@ pub last_carries : {P H D K : Type 0} {s : Setting P H D K} {t : Tunables} {who 
     Releases s t who (past_cache t a b None) b None o to None z → Carries s.ways true (λ weigh. weigh b) o (λ _. 0) z
 last_carries a b same h = carries_as same (λ weigh. weigh b) (λ _. 0) (λ w. omega arith) (λ w. refl) h.carries
 
-pub last_short : {P H D K : Type 0} {s : Setting P H D K} {o z : Standing P K} {back : Option Block} (b : Block) → SameLaw s.ways → FewerLaw s.ways →
-    ReleasesShort s b None o back None z → Carries s.ways false (λ weigh. weigh b) o (λ _. 0) z
+pub last_short : {P H D K : Type 0} {s : Setting P H D K} {t : Tunables} {who : Who} {a : ℕ} {o z : Standing P K} {back : Option Block} (b : Block) → SameLaw s.ways → FewerLaw s.ways →
+    ReleasesShort s t who a b None o back None z → Carries s.ways false (λ weigh. weigh b) o (λ _. 0) z
 last_short {back = back} b same fewer h =
     carries_fewer fewer (λ _. 0) (λ w. omega arith)
     (carries_as same (λ weigh. weigh b) (both_of (weight_of back) (in_cache None)) (λ w. omega arith) (λ w. refl) h.carries)
 
 -- ---- a cache that is emptied
+
+pub closed_is : (c : CacheValue) → is_open c ≡ false → c ≡ None
+closed_is None e = refl
+closed_is (Some c) e = absurd cc
 
 structure_next : (c : CacheValue) → structure_of (without_next c) ≡ structure_of c
 structure_next None = refl

@@ -1,5 +1,5 @@
 -- Laws of a block of an arena that is released, and of a name that loses its block.
-use Rattle.std.proofs.Common.{◌≡◌, ℕ, true, false, List, [], ◌∷◌, Option, Some, None, ◌⊎◌, inl, inr, refl, sym, ap, ◌∙◌, subst, arith}
+use Rattle.std.proofs.Common.{◌≡◌, ℕ, true, false, List, [], ◌∷◌, Option, Some, None, inl, inr, refl, sym, ap, ◌∙◌, subst, arith}
 use Rattle.std.specs.Prelude.{Result, Ok, Err, IfOk, IfErr, IfSome, nat_le}
 use Rattle.chunk_tags.specs.Sizes.{fast_index_of}
 use Rattle.chunk_tags.specs.declared.block.Block.{Block}
@@ -12,7 +12,7 @@ use Rattle.arena_core.specs.declared.take.GiveShort.{GiveShort}
 use Rattle.arena_holds.specs.Blocks.{IsHeld}
 use Rattle.malloc_calls.specs.Names.{block_at, with_block, with_some, without_block}
 use Rattle.malloc_calls.specs.Calls.{past_cache, releasing, opening, with_cache}
-use Rattle.malloc_calls.specs.Frees.{free_call, free_of_block, free_to, without_name}
+use Rattle.malloc_calls.specs.Frees.{free_call, free_of_block, free_to, without_name, LosesBlock, HoldsOrLoses}
 use Rattle.malloc_calls.specs.declared.own.Own.{Own}
 use Rattle.malloc_calls.specs.declared.reply.Reply.{Reply}
 use Rattle.malloc_calls.specs.declared.reply.Reply.TheVariants.{Freed}
@@ -20,7 +20,7 @@ use Rattle.malloc_calls.specs.declared.reply.To.{To}
 use Rattle.malloc_calls.specs.declared.reply.To.TheVariants as sinks
 use Rattle.arena_holds.specs.Going as going
 use Rattle.arena_holds.specs.Going.{Does, Pushed, here, idled, pushed, freed}
-use Rattle.arena_holds.specs.Holding.{Gives, FreesMapped, PushesWithRoom}
+use Rattle.arena_holds.specs.Holding.{Gives, GivesUp, GivesShort, FreesMapped, PushesWithRoom}
 use Rattle.arena_holds.specs.Places.{PlaceWays, Setting, Standing, standing, both_of, Carries, weight_of, in_cache}
 use Rattle.malloc_calls.specs.Own.{in_own}
 use Rattle.arena_holds.specs.Returning.{IsUnseen}
@@ -53,11 +53,11 @@ released_past s t who o z a b back cache now left r refused same e d =
     let R : CacheValue → Block → Type 0 = λ c k. IfOk r (λ to. Releases s t who (past_cache t a k c) k c o to left z) in
     rw refused (subst (R cache) e (subst (λ c. R c back) same d))
 
-pub short_past : {P H D K A : Type 0} (s : Setting P H D K) (o z : Standing P K) (b back : Block) (cache now left : CacheValue) (r : Result A GiveShort) →
+pub short_past : {P H D K A : Type 0} (s : Setting P H D K) (t : Tunables) (who : Who) (a : ℕ) (o z : Standing P K) (b back : Block) (cache now left : CacheValue) (r : Result A GiveShort) →
     now ≡ cache → back ≡ b →
-    IfErr r (λ e. ReleasesShort s back now o e.back left z) → IfErr r (λ e. ReleasesShort s b cache o e.back left z)
-short_past s o z b back cache now left r same e d =
-    let R : CacheValue → Block → Type 0 = λ c k. IfErr r (λ x. ReleasesShort s k c o x.back left z) in
+    IfErr r (λ e. ReleasesShort s t who a back now o e.back left z) → IfErr r (λ e. ReleasesShort s t who a b cache o e.back left z)
+short_past s t who a o z b back cache now left r same e d =
+    let R : CacheValue → Block → Type 0 = λ c k. IfErr r (λ x. ReleasesShort s t who a k c o x.back left z) in
     subst (R cache) e (subst (λ c. R c back) same d)
 
 -- ---- past it
@@ -81,19 +81,20 @@ released_given {a = a} b cache same slow h = record {
   carries = carries_given same b (in_cache cache) h.carries;
 }
 
--- where memory is short for a hold the block is in nobody's hand, for a push it comes back
-pub short_given : {P H D K : Type 0} {s : Setting P H D K} {o z : Standing P K} (b : Block) (cache : CacheValue) → SameLaw s.ways →
-    Carries s.ways false (λ weigh. weigh b) o (λ weigh. 0) z → ReleasesShort s b cache o None cache z
-short_given b cache same c = record {
-  same = tt;
-  carries = carries_as same (both_of (λ weigh. weigh b) (in_cache cache)) (both_of (weight_of None) (in_cache cache)) (λ w. refl) (λ w. omega arith)
-      (carries_given same b (in_cache cache) c);
+-- where memory is short for a hold the block comes back or its arena has it, for a push it comes back
+pub short_given : {P H D K : Type 0} {s : Setting P H D K} {t : Tunables} {who : Who} {a : ℕ} {o z : Standing P K} {back : Option Block} (b : Block) (cache : CacheValue) → SameLaw s.ways →
+    GivesShort s t who a b o back z → ReleasesShort s t who a b cache o back cache z
+short_given b cache same h = record {
+  same = h.same;
+  gone = h.gone;
+  carries = carries_beside same (in_cache cache) h.carries;
 }
 
-pub short_pushed : {P H D K : Type 0} {s : Setting P H D K} (p q : P) (space : Space K) (b back : Block) (cache : CacheValue) → SameLaw s.ways → back ≡ b →
-    IsUnseen s.ways p (λ _. 0) (λ _. 0) q → ReleasesShort s b cache (standing p space) (Some back) cache (standing q space)
-short_pushed p q space b back cache same e u = rw e (record {
+pub short_pushed : {P H D K : Type 0} {s : Setting P H D K} (t : Tunables) (who : Who) (a : ℕ) (p q : P) (space : Space K) (b back : Block) (cache : CacheValue) → SameLaw s.ways → back ≡ b →
+    IsUnseen s.ways p (λ _. 0) (λ _. 0) q → ReleasesShort s t who a b cache (standing p space) (Some back) cache (standing q space)
+short_pushed t who a p q space b back cache same e u = rw e (record {
   same = refl;
+  gone = λ none. absurd cc;
   carries = carries_as same (both_of (λ weigh. weigh b) (in_cache cache)) (both_of (weight_of (Some b)) (in_cache cache)) (λ w. omega arith) (λ w. omega arith)
       (carries_beside same (both_of (λ weigh. weigh b) (in_cache cache)) (carries_unseen {given = λ _. 0} {got = λ _. 0} false refl (λ w. omega arith) u));
 })
@@ -134,10 +135,11 @@ pub back_held : (b : Block) (back : Option Block) → IsHeld b → IfSome back (
 back_held b None held same = tt
 back_held b (Some c) held same = subst IsHeld (sym same) held
 
-pub back_names : (name : ℕ) (b : Block) (back : Option Block) (names taken now : List (Option Block)) → block_at names name ≡ Some b → taken ≡ without_block name names →
-    IfSome back (λ c. c ≡ b) → now ≡ with_some name back taken → (now ≡ names) ⊎ (now ≡ without_block name names)
-back_names name b None names taken now at e same put = inr (put ∙ e)
-back_names name b (Some c) names taken now at e same put =
+pub back_names : {P H D K : Type 0} {s : Setting P H D K} {t : Tunables} {who : Who} {o z : Standing P K} (a name : ℕ) (b : Block) (back : Option Block) (names taken now : List (Option Block)) →
+    block_at names name ≡ Some b → taken ≡ without_block name names → IfSome back (λ c. c ≡ b) → (back ≡ None → GivesUp s t who a b o z) → now ≡ with_some name back taken →
+    HoldsOrLoses s t who name names now z
+back_names {o = o} a name b None names taken now at e same gone put = inr (record { a = a; block = b; before = o; at = at; gives = gone refl; gone = put ∙ e })
+back_names a name b (Some c) names taken now at e same gone put =
     inl (put ∙ (ap (λ (x : Block). with_block name x taken) same ∙ (ap (with_block name b) e ∙ put_back names name b at)))
 
 pub back_carries : {P H D K : Type 0} {ways : PlaceWays P H D} {o z : Standing P K} (name : ℕ) (b : Block) (own : Own) (left : CacheValue) (back : Option Block)

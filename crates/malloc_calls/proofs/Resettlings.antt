@@ -12,12 +12,12 @@ use Rattle.arena_core.specs.declared.journal.Act.TheVariants as acts
 use Rattle.arena_core.specs.declared.journal.Who.{Who}
 use Rattle.arena_holds.specs.Blocks.{IsHeld}
 use Rattle.malloc_calls.specs.Names.{block_at, with_block, without_block}
-use Rattle.arena_holds.specs.Calls.{Call, Done, then_call, hold_of, hold_end}
-use Rattle.malloc_calls.specs.Calls.{Supplied, origin_of, plain_supply, releasing, FitsName}
+use Rattle.arena_holds.specs.Calls.{Call, Done, then_call, hold_of, hold_end, taken_of}
+use Rattle.malloc_calls.specs.Calls.{Supplied, origin_of, plain_supply, releasing, FitsName, HoldsStill}
 use Rattle.chunk_tags.specs.Sizes.{padded_request}
-use Rattle.malloc_calls.specs.Frees.{IsFreed}
+use Rattle.malloc_calls.specs.Frees.{IsFreed, HoldsOrLoses}
 use Rattle.malloc_calls.specs.Reallocs.{realloc_call, Resettled, kept_block, got_block, refused_block, moved_from_arena, moved_from_mapping, after_resize, resize_in_arena, remapped, not_remapped, realloc_in_mapping, settled, IfAnswered}
-use Rattle.arena_holds.specs.Holding.{resized_to}
+use Rattle.arena_holds.specs.Holding.{resized_to, placed_block}
 use Rattle.malloc_calls.specs.declared.own.Own.{Own}
 use Rattle.malloc_calls.specs.declared.realloc.Reallocated.{Reallocated}
 use Rattle.malloc_calls.specs.declared.reply.Reply.{Reply}
@@ -81,13 +81,14 @@ moved_away {s = s} {t = t} {who = who} {nb = nb} {cache = cache} {now = now} {le
     }
 
 -- or memory was short for that: the new block is in hand
-pub moved_short : {P H D K : Type 0} {s : Setting P H D K} {t : Tunables} {who : Who} {nb : ℕ} {cache now left : CacheValue} {o p z : Standing P K}
+pub moved_short : {P H D K : Type 0} {s : Setting P H D K} {t : Tunables} {who : Who} {nb a : ℕ} {cache now left : CacheValue} {o p z : Standing P K}
     (c : Call Supplied) (b : Block) (got : Supply) (found : Option Supply) (back : Option Block) → found ≡ Some got → Supplies s t who c nb cache o found now p →
-    ReleasesShort s b now p back left z → SameLaw s.ways → FewerLaw s.ways → ResizesShort s b cache o got.block left z
+    ReleasesShort s t who a b now p back left z → SameLaw s.ways → FewerLaw s.ways → ResizesShort s b nb cache o got.block left z
 moved_short {s = s} {t = t} {who = who} {nb = nb} {cache = cache} {now = now} {left = left} {o = o} {p = p} c b got found back some supplied r same fewer =
     let h : Supplies s t who c nb cache o (Some got) now p = subst (λ x. Supplies s t who c nb cache o x now p) some supplied in
     record {
       held = h.held;
+      enough = inr h.fits;
       carries = carries_then
           (carries_as same (both_of (λ weigh. weigh b) (in_cache cache)) (both_of (both_of (λ weigh. weigh b) (in_cache now)) (λ weigh. weigh got.block)) (λ w. omega arith) (λ w. omega arith)
           (carries_beside same (λ weigh. weigh b) h.carries))
@@ -114,9 +115,9 @@ moved_out {s = s} {t = t} {who = who} {nb = nb} {cache = cache} {left = left} {o
     }
 
 -- memory was short before anything was done to the block
-pub short_before : {P H D K : Type 0} {s : Setting P H D K} {cache left : CacheValue} {o z : Standing P K} (b : Block) → SameLaw s.ways → IsHeld b →
-    Carries s.ways false (in_cache cache) o (in_cache left) z → ResizesShort s b cache o b left z
-short_before {cache = cache} {left = left} b same held c = record { held = held; carries = carries_hand same b cache left c }
+pub short_before : {P H D K : Type 0} {s : Setting P H D K} {nb : ℕ} {cache left : CacheValue} {o z : Standing P K} (b : Block) → SameLaw s.ways → IsHeld b →
+    Carries s.ways false (in_cache cache) o (in_cache left) z → ResizesShort s b nb cache o b left z
+short_before {cache = cache} {left = left} b same held c = record { held = held; enough = inl refl; carries = carries_hand same b cache left c }
 
 -- ---- a part behind another
 
@@ -134,10 +135,10 @@ settles_then {s = s} {p = p} nb b cache now left z c x f (Ok done) same d later 
 }
 settles_then nb b cache now left z c x f (Err e) same d later carries h = tt
 
-pub short_then : {P H D K A : Type 0} (s : Setting P H D K) {o p : Standing P K} (b : Block) (cache now left : CacheValue) (z : Standing P K) (r : Result A Block) → SameLaw s.ways →
-    Carries s.ways true (in_cache cache) o (in_cache now) p → IfErr r (λ back. ResizesShort s b now p back left z) → IfErr r (λ back. ResizesShort s b cache o back left z)
-short_then s b cache now left z (Ok x) same carries h = tt
-short_then s b cache now left z (Err e) same carries h = record { held = h.held; carries = carries_then (carries_hand same b cache now carries) h.carries }
+pub short_then : {P H D K A : Type 0} (s : Setting P H D K) {o p : Standing P K} (nb : ℕ) (b : Block) (cache now left : CacheValue) (z : Standing P K) (r : Result A Block) → SameLaw s.ways →
+    Carries s.ways true (in_cache cache) o (in_cache now) p → IfErr r (λ back. ResizesShort s b nb now p back left z) → IfErr r (λ back. ResizesShort s b nb cache o back left z)
+short_then s nb b cache now left z (Ok x) same carries h = tt
+short_then s nb b cache now left z (Err e) same carries h = record { held = h.held; enough = h.enough; carries = carries_then (carries_hand same b cache now carries) h.carries }
 
 -- ---- a block of an arena
 
@@ -191,14 +192,29 @@ resized_refused {s = s} {t = t} {who = who} {o = o} {p = p} {place = place} {now
     }
 resized_refused thread size nb a b c cache left z resized (Err e) is r h = tt
 
+-- a block whose resize was refused is the one that it was
+refused_same : (nb a : ℕ) (b c : Block) (ended : Ended) → sizes.Refused c ≡ resized_to a b nb ended → c ≡ b
+refused_same nb a b c ended e =
+    let placed : (d : Block) (v : Bool) → sizes.Refused c ≡ cond v (sizes.Kept d) (sizes.Moved d) → c ≡ b = λ d. elim [ true ↦ λ h. absurd cc | false ↦ λ h. absurd cc ] in
+    let cases : (o : Option Block) → sizes.Refused c ≡ elim o [ None ↦ sizes.Refused b | Some d ↦ placed_block b d ] → c ≡ b = elim [
+      | None ↦ λ h. cc
+      | Some d ↦ λ h. placed d _ h
+    ] in
+    cases (taken_of a (acts.Resize b.addr b.size nb) ended) e
+
 pub resized_short : {P H D K A : Type 0} {s : Setting P H D K} {t : Tunables} {who : Who} {o p : Standing P K} {place : ℕ} {now : CacheValue}
     (nb a : ℕ) (b c : Block) (cache left : CacheValue) (z : Standing P K) (resized : Resized) (r : Result A Block) → resized ≡ sizes.Refused c →
     Resizes s t who a b nb cache o place resized now p →
-    IfErr r (λ back. ResizesShort s c now p back left z) → IfErr r (λ back. ResizesShort s b cache o back left z)
+    IfErr r (λ back. ResizesShort s c nb now p back left z) → IfErr r (λ back. ResizesShort s b nb cache o back left z)
 resized_short nb a b c cache left z resized (Ok x) is r h = tt
 resized_short {s = s} {t = t} {who = who} {o = o} {p = p} {place = place} {now = now} nb a b c cache left z resized (Err e) is r h =
     let x : Resizes s t who a b nb cache o place (sizes.Refused c) now p = subst (λ x. Resizes s t who a b nb cache o place x now p) is r in
-    record { held = h.held; carries = carries_then x.carries h.carries }
+    let same : c ≡ b = refused_same nb a b c x.ended x.became in
+    record {
+      held = h.held;
+      enough = subst (λ (k : Block). (e ≡ k) ⊎ (need_of e.arena nb ≤ e.size)) same h.enough;
+      carries = carries_then x.carries h.carries;
+    }
 
 pub served_refused : {P H D K : Type 0} {s : Setting P H D K} {t u : Tunables} {who : Who} {o p : Standing P K} {place : ℕ} {now cache : CacheValue}
     (nb a : ℕ) (b c : Block) (resized : Resized) → resized ≡ sizes.Refused c → Resizes s t who a b nb cache o place resized now p → SameLaw s.ways →
@@ -286,11 +302,11 @@ served_unremapped {s = s} {t = t} {p = p} b c cache h same served =
     subst (λ (k : Block). IsServed s.ways t (both_of (λ weigh. weigh k) (in_cache cache)) p) (sym h.back) (served_after same served (unremapped same b c cache h))
 
 pub short_unremapped : {P H D K A : Type 0} {s : Setting P H D K} {nb : ℕ} {o p : Standing P K} (b c : Block) (cache left : CacheValue) (z : Standing P K) (r : Result A Block) →
-    RemapsMapped s b nb o (Err c) p → SameLaw s.ways → IfErr r (λ back. ResizesShort s c cache p back left z) → IfErr r (λ back. ResizesShort s b cache o back left z)
+    RemapsMapped s b nb o (Err c) p → SameLaw s.ways → IfErr r (λ back. ResizesShort s c nb cache p back left z) → IfErr r (λ back. ResizesShort s b nb cache o back left z)
 short_unremapped b c cache left z (Ok x) h same short = tt
-short_unremapped {s = s} {p = p} b c cache left z (Err e) h same short =
-    let y : ResizesShort s b cache p e left z = subst (λ (k : Block). ResizesShort s k cache p e left z) h.back short in
-    record { held = y.held; carries = carries_then (unremapped same b c cache h) y.carries }
+short_unremapped {s = s} {nb = nb} {p = p} b c cache left z (Err e) h same short =
+    let y : ResizesShort s b nb cache p e left z = subst (λ (k : Block). ResizesShort s k nb cache p e left z) h.back short in
+    record { held = y.held; enough = y.enough; carries = carries_then (unremapped same b c cache h) y.carries }
 
 -- what is said of the tunables of the places themselves
 pub served_own : {P H D K : Type 0} {ways : PlaceWays P H D} {t : Tunables} {hands : Hands} {o : Standing P K} → IsServed ways t hands o → IsServed ways (ways.tunables o.places) hands o
@@ -332,6 +348,20 @@ settled_does {s = s} {t = t} {who = who} {left = left} {o = o} {z = z} rules nam
     let d : Does s t who (rules b) o (done, left) z = subst (λ (x : Block). Does s t who (rules x) o (done, left) z) e h.does in
     rw (settled_names name done.block own.names taken names gone put) (does_last (settled name own) d)
 
+with_at : (name : ℕ) (b c : Block) (names : List (Option Block)) → block_at names name ≡ Some b → block_at (with_block name c names) name ≡ Some c
+with_at name b c [] at = absurd cc
+with_at zero b c (o ∷ os) at = refl
+with_at (suc name) b c (o ∷ os) at = with_at name b c os at
+
+-- after want of memory
+pub holds_still : (nb name : ℕ) (b c : Block) (names taken now : List (Option Block)) → block_at names name ≡ Some b → taken ≡ without_block name names → now ≡ with_block name c taken →
+    (c ≡ b) ⊎ (need_of c.arena nb ≤ c.size) → HoldsStill nb name names now
+holds_still nb name b c names taken now at gone put enough = record {
+  block = c;
+  at = ap (λ (xs : List (Option Block)). block_at xs name) (settled_names name c names taken now gone put) ∙ with_at name b c names at;
+  enough = elim enough [ inl same ↦ inl (at ∙ ap Some (sym same)) | inr large ↦ inr large ];
+}
+
 -- ---- realloc by its size
 
 freed_answered : (reply : Reply) (X : Type 0) → IsFreed reply → X → IfAnswered reply X
@@ -363,12 +393,12 @@ unnamed_others (suc name) (o ∷ os) zero other = refl
 unnamed_others (suc name) (o ∷ os) (suc n) other = unnamed_others name os n (λ e. other (ap suc e))
 
 -- the others' blocks stay where a name's block was freed, or memory was short for that
-pub freed_others : {A E : Type 0} (name : ℕ) (names now : List (Option Block)) (r : Result A E) → OnOk r (now ≡ without_block name names) →
-    OnErr r ((now ≡ names) ⊎ (now ≡ without_block name names)) → (n : ℕ) → (n ≡ name → ⊥) → block_at now n ≡ block_at names n
-freed_others name names now (Ok x) gone short n other = ap (λ (x : List (Option Block)). block_at x n) gone ∙ unnamed_others name names n other
-freed_others name names now (Err e) gone short n other = elim short [
+pub freed_others : {P H D K A E : Type 0} (s : Setting P H D K) (t : Tunables) (who : Who) (z : Standing P K) (name : ℕ) (names now : List (Option Block)) (r : Result A E) → OnOk r (now ≡ without_block name names) →
+    OnErr r (HoldsOrLoses s t who name names now z) → (n : ℕ) → (n ≡ name → ⊥) → block_at now n ≡ block_at names n
+freed_others s t who z name names now (Ok x) gone short n other = ap (λ (x : List (Option Block)). block_at x n) gone ∙ unnamed_others name names n other
+freed_others s t who z name names now (Err e) gone short n other = elim short [
   | inl same ↦ ap (λ (x : List (Option Block)). block_at x n) same
-  | inr lost ↦ ap (λ (x : List (Option Block)). block_at x n) lost ∙ unnamed_others name names n other
+  | inr lost ↦ ap (λ (x : List (Option Block)). block_at x n) lost.gone ∙ unnamed_others name names n other
 ]
 
 pub realloc_big : {P H D K : Type 0} (s : Setting P H D K) (t : Tunables) (who : Who) (thread name size : ℕ) (b : Block) (own : Own) (o : Standing P K) →

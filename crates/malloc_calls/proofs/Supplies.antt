@@ -1,12 +1,12 @@
 -- Laws of a block that is got for a request, and of a name that gets it.
 use Rattle.std.proofs.Common.{◌≡◌, ℕ, ◌+◌, ◌-◌, ◌^◌, ◌<◌, ◌≤◌, Bool, true, false, cond, List, Option, Some, None, length, refl, sym, ◌∙◌, subst, arith, ◌%◌, ◌/◌, ◌*◌, ◌&&◌}
 use Rattle.std.specs.Prelude.{Result, Ok, Err, IfOk, OnErr, IsSome, IfSome, option_map, nat_le, nat_lt}
-use Rattle.chunk_tags.specs.Sizes.{padded_request, chunk_size_of, IsRequestSize}
+use Rattle.chunk_tags.specs.Sizes.{padded_request, chunk_size_of, cache_index_of, IsRequestSize}
 use Rattle.chunk_tags.specs.declared.block.Block.{Block}
 use Rattle.chunk_tags.specs.declared.tunables.Tunables.{Tunables}
 use Rattle.address_space.specs.Ports.{Rose}
 use Rattle.address_space.specs.Spaces.{space_refusals}
-use Rattle.thread_cache.specs.Caches.{CacheValue}
+use Rattle.thread_cache.specs.Caches.{CacheValue, newest, is_open}
 use Rattle.arena_core.specs.Arenas.{need_of}
 use Rattle.arena_core.specs.declared.journal.Act.{Act}
 use Rattle.arena_core.specs.declared.journal.Act.TheVariants as acts
@@ -17,7 +17,7 @@ use Rattle.arena_rules.specs.Align.{IsAlignment}
 use Rattle.malloc_calls.specs.Mallocs.{is_memalign}
 use Rattle.arena_holds.specs.Blocks.{IsHeld}
 use Rattle.malloc_calls.specs.Names.{block_at}
-use Rattle.malloc_calls.specs.Own.{newest_of_size, without_newest_of}
+use Rattle.malloc_calls.specs.Own.{newest_of_size, without_newest_of, cached_for}
 use Rattle.arena_holds.specs.Calls.{Call, then_call}
 use Rattle.arena_holds.specs.Searching.{size_wanted, search}
 use Rattle.malloc_calls.specs.Calls.{Supplied, supplied_by, opening, origin_of, supply_of, from_arena, from_cache, named, reply_of, names_with, answer_with}
@@ -76,11 +76,11 @@ pub supplies_found : {P H D K : Type 0} {s : Setting P H D K} {t : Tunables} {wh
     Supplies s t who (from_arena t thread bytes again act cache) (size_wanted act) cache o got left z
 supplies_found thread bytes again place act cache block got e h = rw e (record {
   does = does_last supplied_by h.does;
-  held = held_found place block h.held;
-  fits = fits_found (size_wanted act) place block h.fits;
+  held = held_found place block h.gets.held;
+  fits = fits_found (size_wanted act) place block h.gets.fits;
   refused = λ none. h.refused (none_found place block none);
-  later = h.later;
-  carries = rw (block_found place block) h.carries;
+  later = h.gets.later;
+  carries = rw (block_found place block) h.gets.carries;
 })
 
 -- ---- a block of the cache
@@ -112,6 +112,17 @@ supplies_cached s t who thread bytes nb o cache left newest b same is some rest 
   later = omega arith;
   carries = carries_as same (in_cache cache) _ (λ w. refl) (λ w. in_cache-taken nb cache b (sym is ∙ some) w) (carries_here s.ways true (in_cache cache) o);
 })
+
+-- a cache that has one is open
+pub newest_open : (nb : ℕ) (cache : CacheValue) → IsSome (newest_of_size nb cache) → is_open cache ≡ true
+newest_open nb (Some c) some = refl
+newest_open nb None some =
+    let cases : (v : Bool) → IsSome (cond v (newest None (cache_index_of nb)) None) → is_open None ≡ true = elim [ true ↦ λ h. absurd cc | false ↦ λ h. absurd cc ] in
+    cases _ some
+
+-- the block that it has for a request is the newest of its size
+pub cached_newest : (size nb : ℕ) (cache : CacheValue) → padded_request size ≡ Some nb → IsSome (cached_for size cache) → IsSome (newest_of_size nb cache)
+cached_newest size nb cache padded some = rw padded at some
 
 -- ---- behind an opened cache
 

@@ -1,6 +1,6 @@
 -- The parts that calls of a thread share: glibc 2.31 malloc/malloc.c, tcache_init, _int_malloc and _int_memalign as their
 -- callers see them, and _int_free outside the arena's lock.
-use Rattle.std.specs.Prelude.{ℕ, ◌≤◌, ◌≡◌, nat_le, List, Option, Some, None, option_map, if◌then◌else◌}
+use Rattle.std.specs.Prelude.{ℕ, ◌≤◌, ◌≡◌, ◌⊎◌, nat_le, List, Option, Some, None, option_map, if◌then◌else◌}
 use Rattle.chunk_tags.specs.Sizes.{structure_size, fast_index_of}
 use Rattle.chunk_tags.specs.declared.block.Block.{Block}
 use Rattle.chunk_tags.specs.declared.tunables.Tunables.{Tunables}
@@ -114,3 +114,9 @@ releasing t a b cache = if takes cache b then Done (sinks.Cached, with_newest ca
 -- the block that a name has, if any, is large enough for a chunk of nb bytes: a mapped one has 8 more
 abbrev pub FitsName : ℕ → ℕ → List (Option Block) → Type 0
 FitsName nb name names = (b : Block) → block_at names name ≡ Some b → need_of b.arena nb ≤ b.size
+
+-- After want of memory: the name has the block that it had, or another that is so large.
+pub record HoldsStill (nb name : ℕ) (names now : List (Option Block)) : Type 0 where
+  pub block : Block
+  pub at : block_at now name ≡ Some block
+  pub enough : (block_at names name ≡ Some block) ⊎ (need_of block.arena nb ≤ block.size)

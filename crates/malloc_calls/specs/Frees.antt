@@ -1,8 +1,11 @@
 -- The call that takes a name's block: glibc 2.31 malloc/malloc.c, __libc_free.
-use Rattle.std.specs.Prelude.{ℕ, Option, Some, None}
+use Rattle.std.specs.Prelude.{◌≡◌, ◌⊎◌, ℕ, List, Option, Some, None}
 use Rattle.chunk_tags.specs.declared.block.Block.{Block}
 use Rattle.chunk_tags.specs.declared.tunables.Tunables.{Tunables}
+use Rattle.arena_core.specs.declared.journal.Who.{Who}
 use Rattle.arena_holds.specs.Calls.{Call, Done, Frees, then_call}
+use Rattle.arena_holds.specs.Holding.{GivesUp}
+use Rattle.arena_holds.specs.Places.{Setting, Standing}
 use Rattle.malloc_calls.specs.Calls.{opening, releasing, with_cache}
 use Rattle.malloc_calls.specs.Names.{block_at, without_block}
 use Rattle.malloc_calls.specs.declared.own.Own.{Own}
@@ -35,3 +38,18 @@ abbrev pub IsFreed : Reply → Type 0
 IsFreed (Freed to) = Unit {0}
 IsFreed NotYours = Unit {0}
 IsFreed reply = ⊥
+
+-- Memory was short behind the entry of the hold in which a name's block was given to its arena: the arena has the block, and
+-- the name holds nothing. Before that hold something else may have been done.
+pub record LosesBlock {P H D K : Type 0} (s : Setting P H D K) (t : Tunables) (who : Who) (name : ℕ) (names now : List (Option Block))
+    (new : Standing P K) : Type 0 where
+  pub a : ℕ
+  pub block : Block
+  pub before : Standing P K
+  pub at : block_at names name ≡ Some block
+  pub gives : GivesUp s t who a block before new
+  pub gone : now ≡ without_block name names
+
+-- after want of memory the name holds its block, or the arena has that
+abbrev pub HoldsOrLoses : {P H D K : Type 0} → Setting P H D K → Tunables → Who → ℕ → List (Option Block) → List (Option Block) → Standing P K → Type 0
+HoldsOrLoses s t who name names now new = (now ≡ names) ⊎ LosesBlock s t who name names now new

@@ -1,12 +1,11 @@
 -- The calls that give a name a block: glibc 2.31 malloc/malloc.c, __libc_malloc, __libc_calloc and __posix_memalign. That a
 -- refused size or alignment changes nothing, not even the cache, is this project's own.
-use Rattle.std.specs.Prelude.{◌≡◌, ℕ, ◌*◌, ◌%◌, Bool, ◌&&◌, nat_eq, nat_le, List, Option, Some, None, if◌then◌else◌}
+use Rattle.std.specs.Prelude.{◌≡◌, ℕ, ◌+◌, ◌*◌, ◌%◌, Bool, ◌&&◌, nat_eq, nat_le, List, Option, Some, None, if◌then◌else◌}
 use Rattle.std.specs.Int.{is_power_of_two}
 use Rattle.chunk_tags.specs.Pages.{user_address}
 use Rattle.chunk_tags.specs.Sizes.{padded_request}
 use Rattle.chunk_tags.specs.declared.block.Block.{Block}
 use Rattle.chunk_tags.specs.declared.tunables.Tunables.{Tunables}
-use Rattle.arena_rules.specs.Align.{request_with_lead}
 use Rattle.arena_core.specs.Replay.{has_lead_in_range}
 use Rattle.arena_core.specs.declared.journal.Act.TheVariants.{Align}
 use Rattle.arena_holds.specs.Calls.{Call, Done}
@@ -48,7 +47,7 @@ abbrev pub aligned_malloc : Tunables → ℕ → ℕ → ℕ → ℕ → ℕ →
 aligned_malloc t thread name align size nb own =
     if nat_le align 16 then padded_malloc t thread name size (Some nb) own
     else (if has_lead_in_range align nb
-    then named name own (from_arena t thread (request_with_lead align size) size (Align align nb) own.cache)
+    then named name own (from_arena t thread (size + align + 32) size (Align align nb) own.cache)
     else refuse whys.Big own)
 
 abbrev pub padded_memalign : Tunables → ℕ → ℕ → ℕ → ℕ → Option ℕ → Own → Call (Reply × Own)

@@ -1,6 +1,6 @@
 -- The call that gives a name's block another size: glibc 2.31 malloc/malloc.c, __libc_realloc. That a refused size changes
 -- nothing is this project's own.
-use Rattle.std.specs.Prelude.{ℕ, ◌-◌, nat_eq, nat_le, Option, Some, None, if◌then◌else◌}
+use Rattle.std.specs.Prelude.{ℕ, ◌-◌, ◌||◌, Bool, nat_eq, nat_le, Option, Some, None, if◌then◌else◌}
 use Rattle.chunk_tags.specs.Sizes.{padded_request}
 use Rattle.chunk_tags.specs.declared.block.Block.{Block}
 use Rattle.chunk_tags.specs.declared.tunables.Tunables.{Tunables}
@@ -124,3 +124,7 @@ realloc_call t thread name size own = realloc_of_name t thread name size (block_
 abbrev pub IfAnswered : Reply → Type 0 → Type 0
 IfAnswered (Null why) X = Unit {0}
 IfAnswered reply X = X
+
+-- whether a mapped block has what a request needs without a search: its mapping has the length, or it has 8 bytes more
+abbrev pub has_what_it_needs : ℕ → Block → Bool
+has_what_it_needs nb b = nat_eq (remap_length b nb) (mapping_bytes b) || nat_le nb (b.size - 8)

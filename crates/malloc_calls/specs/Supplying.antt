@@ -11,6 +11,7 @@ use Rattle.arena_holds.specs.Blocks.{IsHeld}
 use Rattle.arena_holds.specs.Calls.{Call}
 use Rattle.malloc_calls.specs.Calls.{Supplied}
 use Rattle.arena_holds.specs.Going.{Does}
+use Rattle.arena_holds.specs.Holding.{GivesUp}
 use Rattle.arena_holds.specs.Places.{Setting, Standing, Carries, both_of, weight_of, in_cache}
 use Rattle.malloc_calls.specs.declared.reply.To.{To}
 use Rattle.malloc_calls.specs.declared.supplying.Supply.{Supply}
@@ -35,9 +36,10 @@ pub record Releases {P H D K : Type 0} (s : Setting P H D K) (t : Tunables) (who
   pub does : Does s t who rules old (to, left) new
   pub carries : Carries s.ways true (both_of (λ weigh. weigh b) (in_cache cache)) old (in_cache left) new
 
--- Memory was short there: the block comes back, or is in nobody's hand.
-pub record ReleasesShort {P H D K : Type 0} (s : Setting P H D K) (b : Block) (cache : CacheValue)
+-- Memory was short there: the block comes back, or its arena has it.
+pub record ReleasesShort {P H D K : Type 0} (s : Setting P H D K) (t : Tunables) (who : Who) (a : ℕ) (b : Block) (cache : CacheValue)
     (old : Standing P K) (back : Option Block) (left : CacheValue) (new : Standing P K) : Type 0 where
   pub same : IfSome back (λ c. c ≡ b)
+  pub gone : back ≡ None → GivesUp s t who a b old new
   pub carries : Carries s.ways false (both_of (λ weigh. weigh b) (in_cache cache)) old
       (both_of (weight_of back) (in_cache left)) new

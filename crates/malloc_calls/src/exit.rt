@@ -1,6 +1,6 @@
 //! The end of a thread.
 
-ghost use Rattle.std.specs.Prelude.{◌≡◌, None, IfOk, OnOk, is_ok};
+ghost use Rattle.std.specs.Prelude.{◌≡◌, true, None, Ok, IfOk, OnOk, is_ok};
 ghost use Rattle.chunk_tags.specs.Tunables.{IsTuned};
 ghost use Rattle.consolidate_trim.specs.Outside.{means};
 ghost use Rattle.arena_holds.specs.Blocks.{IsHeld};
@@ -21,7 +21,7 @@ use chunk_tags::{Block, NoMemory, Tunables};
 use std::alloc::Global;
 
 /// Releases a block with the cache closed: a chunk of an arena goes into its fast bin or to its arena, a mapped one is freed
-/// with its mapping. After `NoMemory` no other block of the thread was lost.
+/// with its mapping. After `NoMemory` it is in nobody's hand; no other block is claimed, and what others have stays given out.
 fn release_last<P: Places, K: Kernel>(
     alloc: Global,
     p: &mut P,
@@ -53,7 +53,8 @@ fn release_last<P: Places, K: Kernel>(
 }
 
 /// Closes a cache, and releases what it had: its lists ascending, each newest first, then the chunk of its structure (glibc's
-/// `tcache_thread_shutdown`). After `NoMemory` no block of the thread was lost but one that was to be released.
+/// `tcache_thread_shutdown`). After `NoMemory` no block is claimed, and what others have stays given out; it never comes where
+/// the cache is closed.
 fn close_cache<P: Places, K: Kernel>(
     cache: &mut OwnCache,
     alloc: Global,
@@ -71,7 +72,11 @@ fn close_cache<P: Places, K: Kernel>(
     ensures carries { Carries P.ways (is_ok result) (in_cache cache.old) (standing p.old space.old)
         (in_cache cache.new) (standing p.new space.new) }
     ensures closed { OnOk result (cache.new ≡ None) }
+    ensures closed_before { cache.old ≡ None → is_ok result ≡ true }
 {
+    if !cache.is_open() {
+        return Ok(());
+    }
     while let Some(block) = cache.drain() {
         release_last(alloc, p, who, block, space, t)?;
     }
@@ -82,7 +87,7 @@ fn close_cache<P: Places, K: Kernel>(
 }
 
 /// The end of a thread (in glibc's `__malloc_arena_thread_freeres`): what its cache has is released with the cache closed, and
-/// the thread leaves its arena. Its named blocks stay. After `NoMemory` it hasn't left, and what its cache still has stays there.
+/// the thread leaves its arena. Its named blocks stay. `NoMemory` never comes where the cache is closed.
 pub fn exit<P: Places, K: Kernel>(
     own: &mut Own,
     alloc: Global,
@@ -102,6 +107,7 @@ pub fn exit<P: Places, K: Kernel>(
     ensures carries { Carries P.ways (is_ok result) (in_own own.old) (standing p.old space.old)
         (in_own own.new) (standing p.new space.new) }
     ensures names { own.new.names ≡ own.old.names }
+    ensures closed_before { own.old.cache ≡ None → result ≡ Ok Ended }
 {
     close_cache(&mut own.cache, alloc, p, who, space, t)?;
     p.leave(who.thread);

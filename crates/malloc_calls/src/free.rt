@@ -1,17 +1,19 @@
 //! free.
 
-ghost use Rattle.std.specs.Prelude.{◌≡◌, ◌⊎◌, ◌<◌, Some, None, Ok, IsSome, IfSome, IfOk, OnOk, OnErr, is_ok, length};
+ghost use Rattle.std.specs.Prelude.{◌≡◌, ℕ, ◌<◌, true, nat_le, Some, None, Ok, IsSome, IfSome, IfOk, OnOk, OnErr, is_ok, length};
 ghost use Rattle.chunk_tags.specs.Tunables.{IsTuned};
 ghost use Rattle.consolidate_trim.specs.Outside.{means};
 ghost use Rattle.arena_holds.specs.Blocks.{IsHeld};
 ghost use Rattle.malloc_calls.specs.Names.{block_at, with_some, without_block};
-ghost use Rattle.malloc_calls.specs.Frees.{free_call, free_to, IsFreed};
+ghost use Rattle.malloc_calls.specs.Frees.{free_call, free_to, IsFreed, HoldsOrLoses};
+ghost use Rattle.malloc_calls.specs.declared.cached.CachedFree.TheVariants.{Done};
+ghost use Rattle.thread_cache.specs.Caches.{takes, is_open};
 ghost use Rattle.chunk_tags.specs.declared.block.Block.{Block as Piece};
 ghost use Rattle.malloc_calls.specs.declared.reply.Reply.TheVariants.{Freed, NotYours};
-ghost use Rattle.malloc_calls.specs.declared.reply.To.TheVariants.{Unmapped};
+ghost use Rattle.malloc_calls.specs.declared.reply.To.TheVariants.{Cached, Unmapped};
 ghost use Rattle.arena_holds.specs.Going.{Does};
 ghost use Rattle.arena_holds.specs.Places.{setting, IsServed, Carries, standing};
-ghost use Rattle.malloc_calls.specs.Own.{in_own};
+ghost use Rattle.malloc_calls.specs.Own.{in_own, cached_end};
 
 use crate::names::Names;
 use crate::opening::open_cache;
@@ -36,7 +38,7 @@ fn put_back(names: &mut Names, name: u32, back: Option<Block>)
     }
 }
 
-/// Releases a name's block, which is of an arena. Where memory is short the name holds it again, or nothing.
+/// Releases a name's block, which is of an arena. Where memory is short the name holds it again, or the arena has it.
 fn free_chunk<P: Places, K: Kernel>(
     own: &mut Own,
     alloc: Global,
@@ -58,9 +60,14 @@ fn free_chunk<P: Places, K: Kernel>(
     ensures carries { Carries P.ways (is_ok result) (in_own own.old) (standing p.old space.old)
         (in_own own.new) (standing p.new space.new) }
     ensures names { OnErr result
-        ((own.new.names ≡ own.old.names) ⊎ (own.new.names ≡ without_block name own.old.names)) }
+        (HoldsOrLoses (setting P.ways (means P.Hold.fast P.Hold.dials K.port) P.Dial.dials) t.now
+        who.now name own.old.names own.new.names (standing p.new space.new)) }
     ensures taken { OnOk result (own.new.names ≡ without_block name own.old.names) }
     ensures freed { IfOk result IsFreed }
+    ensures cached { (b : Piece) → block_at own.old.names name ≡ Some b
+        → takes own.old.cache b ≡ true → result ≡ Ok (Freed Cached) }
+    ensures fast { (b : Piece) → block_at own.old.names name ≡ Some b
+        → nat_le b.size t.now.max_fast ≡ true → P.ways.room p.old a → is_ok result ≡ true }
 {
     let block = own.names.take(name).unwrap();
     match release(&mut own.cache, alloc, p, who, a, block, space, t) {
@@ -73,7 +80,8 @@ fn free_chunk<P: Places, K: Kernel>(
 }
 
 /// free of a name's block (glibc's `__libc_free`). `NotYours` exactly where the name holds nothing. After `NoMemory` the name
-/// holds its block, or nothing where the block was given up; it never comes for a mapped block or a name that holds nothing.
+/// holds its block, or nothing where its arena has that; it never comes for a mapped block, one that the cache takes, or a name
+/// that holds nothing.
 pub fn free<P: Places, K: Kernel>(
     own: &mut Own,
     alloc: Global,
@@ -95,9 +103,15 @@ pub fn free<P: Places, K: Kernel>(
     ensures carries { Carries P.ways (is_ok result) (in_own own.old) (standing p.old space.old)
         (in_own own.new) (standing p.new space.new) }
     ensures names { OnErr result
-        ((own.new.names ≡ own.old.names) ⊎ (own.new.names ≡ without_block name own.old.names)) }
+        (HoldsOrLoses (setting P.ways (means P.Hold.fast P.Hold.dials K.port) P.Dial.dials) t.now
+        who.now name own.old.names own.new.names (standing p.new space.new)) }
     ensures taken { OnOk result (own.new.names ≡ without_block name own.old.names) }
     ensures freed { IfOk result IsFreed }
+    ensures cached { cached_end own.old (block_at own.old.names name) ≡ Done
+        → result ≡ Ok (Freed Cached) }
+    ensures fast { (b : Piece) → (a : ℕ) → block_at own.old.names name ≡ Some b → b.arena ≡ Some a
+        → is_open own.old.cache ≡ true → nat_le b.size t.now.max_fast ≡ true
+        → P.ways.room p.old a → is_ok result ≡ true }
 {
     let Some(named) = own.names.get(name) else {
         return Ok(Reply::NotYours);

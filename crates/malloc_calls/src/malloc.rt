@@ -15,7 +15,7 @@ ghost use Rattle.malloc_calls.specs.declared.reply.Reply.TheVariants.{Null};
 ghost use Rattle.malloc_calls.specs.declared.reply.Why.TheVariants.{Big, Align, Refused};
 ghost use Rattle.arena_holds.specs.Going.{Does};
 ghost use Rattle.arena_holds.specs.Places.{setting, IsServed, Carries, standing};
-ghost use Rattle.malloc_calls.specs.Own.{in_own};
+ghost use Rattle.malloc_calls.specs.Own.{in_own, cached_for};
 
 use crate::names::Names;
 use crate::own::Own;
@@ -74,7 +74,7 @@ pub fn answer(names: &mut Names, name: u32, got: Option<Supply>) -> Reply
 }
 
 /// malloc of a size, under a name that holds nothing (glibc's `__libc_malloc`). After `NoMemory` the names hold what they held;
-/// it never comes where the size is too big.
+/// it never comes where the size is too big, or the cache has a chunk for it.
 pub fn malloc<P: Places, K: Kernel>(
     own: &mut Own,
     alloc: Global,
@@ -100,6 +100,7 @@ pub fn malloc<P: Places, K: Kernel>(
     ensures carries { Carries P.ways (is_ok result) (in_own own.old) (standing p.old space.old)
         (in_own own.new) (standing p.new space.new) }
     ensures names { OnErr result (own.new.names ≡ own.old.names) }
+    ensures cached { IsSome (cached_for size own.old.cache) → is_ok result ≡ true }
 {
     let Some(nb) = request_size(size) else {
         return Ok(Reply::Null(Why::Big));
@@ -146,7 +147,7 @@ pub fn calloc<P: Places, K: Kernel>(
 
 /// posix_memalign of a size, under a name that holds nothing (glibc's `__posix_memalign`): from an alignment of 32 on the user
 /// address of the block is a multiple of it. After `NoMemory` the names hold what they held; it never comes where the size or
-/// the alignment is refused.
+/// the alignment is refused, or where the cache has a chunk for the size and the alignment is at most 16.
 pub fn posix_memalign<P: Places, K: Kernel>(
     own: &mut Own,
     alloc: Global,
@@ -178,6 +179,7 @@ pub fn posix_memalign<P: Places, K: Kernel>(
     ensures carries { Carries P.ways (is_ok result) (in_own own.old) (standing p.old space.old)
         (in_own own.new) (standing p.new space.new) }
     ensures names { OnErr result (own.new.names ≡ own.old.names) }
+    ensures cached { align ≤ 16 → IsSome (cached_for size own.old.cache) → is_ok result ≡ true }
 {
     let Some(nb) = request_size(size) else {
         return Ok(Reply::Null(Why::Big));

@@ -1,6 +1,7 @@
 //! A thread's cache is opened.
 
-ghost use Rattle.std.specs.Prelude.{◌≤◌, OnOk, is_ok};
+ghost use Rattle.std.specs.Prelude.{◌≡◌, ◌≤◌, true, OnOk, is_ok};
+ghost use Rattle.thread_cache.specs.Caches.{is_open};
 ghost use Rattle.address_space.specs.Spaces.{space_refusals};
 ghost use Rattle.chunk_tags.specs.Tunables.{IsTuned};
 ghost use Rattle.consolidate_trim.specs.Outside.{means};
@@ -20,7 +21,8 @@ use thread_cache::STRUCTURE_SIZE;
 const STRUCTURE_BYTES: u64 = 640;
 
 /// Opens a cache where it is closed, in a chunk of an arena; where that is refused it stays closed (glibc's `tcache_init`). After
-/// `NoMemory` a chunk that was found for the structure is in nobody's hand.
+/// `NoMemory` a chunk that was found for the structure is in nobody's hand; it never comes where the cache is open, and then
+/// nothing changes.
 pub fn open_cache<P: Places, K: Kernel>(
     cache: &mut OwnCache,
     alloc: Global,
@@ -39,6 +41,9 @@ pub fn open_cache<P: Places, K: Kernel>(
         (space_refusals K.port space.old ≤ space_refusals K.port space.new) }
     ensures carries { Carries P.ways (is_ok result) (in_cache cache.old) (standing p.old space.old)
         (in_cache cache.new) (standing p.new space.new) }
+    ensures open { is_open cache.old ≡ true → is_ok result ≡ true }
+    ensures cache { is_open cache.old ≡ true → cache.new ≡ cache.old }
+    ensures places { is_open cache.old ≡ true → p.new ≡ p.old }
 {
     if cache.is_open() {
         return Ok(());

@@ -176,7 +176,7 @@ impl OwnCache {
             self.old (standing p.old space.old) r.hold r.resized self.new
             (standing p.new space.new)) }
         ensures short { IfErr result (λ back.
-            ResizesShort (setting P.ways (means P.Hold.fast P.Hold.dials K.port) P.Dial.dials) b
+            ResizesShort (setting P.ways (means P.Hold.fast P.Hold.dials K.port) P.Dial.dials) b nb
             self.old (standing p.old space.old) back self.new (standing p.new space.new)) }
     {
         resize_held(alloc, p, a, who, b, nb, &mut self.cache, space, t)

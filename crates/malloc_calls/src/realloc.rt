@@ -1,6 +1,6 @@
 //! realloc.
 
-ghost use Rattle.std.specs.Prelude.{◌≡◌, ℕ, ◌^◌, ◌≤◌, Some, None, Ok, IsSome, IfOk, IfErr, OnErr, is_ok};
+ghost use Rattle.std.specs.Prelude.{◌≡◌, ℕ, ◌^◌, ◌≤◌, ◌-◌, true, nat_le, Some, None, Ok, IsSome, IfOk, IfErr, OnErr, is_ok};
 ghost use Rattle.chunk_tags.specs.Sizes.{IsRequestSize, chunk_size_of, padded_request};
 ghost use Rattle.chunk_tags.specs.Tunables.{IsTuned};
 ghost use Rattle.address_space.specs.Ports.{Rose};
@@ -10,11 +10,13 @@ ghost use Rattle.consolidate_trim.specs.Outside.{means};
 ghost use Rattle.arena_holds.specs.Blocks.{IsHeld};
 ghost use Rattle.malloc_calls.specs.Names.{block_at};
 ghost use Rattle.arena_holds.specs.Calls.{Done, then_call};
-ghost use Rattle.malloc_calls.specs.Calls.{plain_supply, FitsName};
-ghost use Rattle.malloc_calls.specs.Reallocs.{realloc_call, realloc_in, resize_in_arena, realloc_in_arena, realloc_in_mapping, moved_from_arena, moved_from_mapping, not_remapped, remapped, kept_block, got_block, refused_block, settled, IfAnswered};
+ghost use Rattle.malloc_calls.specs.Calls.{plain_supply, FitsName, HoldsStill};
+ghost use Rattle.malloc_calls.specs.Frees.{HoldsOrLoses};
+ghost use Rattle.malloc_calls.specs.Reallocs.{realloc_call, realloc_in, resize_in_arena, realloc_in_arena, realloc_in_mapping, moved_from_arena, moved_from_mapping, not_remapped, remapped, kept_block, got_block, refused_block, settled, IfAnswered, has_what_it_needs};
 ghost use Rattle.malloc_calls.specs.Resettling.{Resettles};
 ghost use Rattle.arena_holds.specs.Holding.{ResizesShort};
-ghost use Rattle.malloc_calls.specs.declared.reply.Reply.TheVariants.{NotYours, Null};
+ghost use Rattle.malloc_calls.specs.declared.reply.Reply.TheVariants.{NotYours, Null, Freed};
+ghost use Rattle.malloc_calls.specs.declared.reply.To.TheVariants.{Unmapped};
 ghost use Rattle.malloc_calls.specs.declared.reply.Why.TheVariants.{Big, Refused};
 ghost use Rattle.arena_holds.specs.Going.{Does};
 ghost use Rattle.arena_holds.specs.Places.{setting, IsServed, Carries, standing, both_of, in_cache};
@@ -103,7 +105,7 @@ fn move_from_arena<P: Places, K: Kernel>(
         cache.old (standing p.old space.old) done cache.new (standing p.new space.new)) }
     ensures short { IfErr result (λ back.
         ResizesShort (setting P.ways (means P.Hold.fast P.Hold.dials K.port) P.Dial.dials) block
-        cache.old (standing p.old space.old) back cache.new (standing p.new space.new)) }
+        nb cache.old (standing p.old space.old) back cache.new (standing p.new space.new)) }
 {
     let found = match plain_supply(cache, alloc, p, who, size, nb, space, t) {
         Ok(found) => found,
@@ -145,7 +147,7 @@ fn move_from_mapping<P: Places, K: Kernel>(
         cache.old (standing p.old space.old) done cache.new (standing p.new space.new)) }
     ensures short { IfErr result (λ back.
         ResizesShort (setting P.ways (means P.Hold.fast P.Hold.dials K.port) P.Dial.dials) block
-        cache.old (standing p.old space.old) back cache.new (standing p.new space.new)) }
+        nb cache.old (standing p.old space.old) back cache.new (standing p.new space.new)) }
 {
     let found = match plain_supply(cache, alloc, p, who, size, nb, space, t) {
         Ok(found) => found,
@@ -161,7 +163,7 @@ fn move_from_mapping<P: Places, K: Kernel>(
 }
 
 /// A block of an arena gets `nb` bytes under the lock of its arena, or malloc's block in its place. Where memory is short the
-/// block comes back where it is then, or the one that was got for it.
+/// block comes back where it is then, or the one that was got for it: as it was, or large enough.
 fn resize_in_arena<P: Places, K: Kernel>(
     cache: &mut OwnCache,
     alloc: Global,
@@ -188,7 +190,7 @@ fn resize_in_arena<P: Places, K: Kernel>(
         cache.old (standing p.old space.old) done cache.new (standing p.new space.new)) }
     ensures short { IfErr result (λ back.
         ResizesShort (setting P.ways (means P.Hold.fast P.Hold.dials K.port) P.Dial.dials) block
-        cache.old (standing p.old space.old) back cache.new (standing p.new space.new)) }
+        nb cache.old (standing p.old space.old) back cache.new (standing p.new space.new)) }
 {
     let HeldResize { hold, resized } = cache.resize(alloc, p, a, who, block, nb, space, t)?;
     match resized {
@@ -227,7 +229,7 @@ fn realloc_in_arena<P: Places, K: Kernel>(
         cache.old (standing p.old space.old) done cache.new (standing p.new space.new)) }
     ensures short { IfErr result (λ back.
         ResizesShort (setting P.ways (means P.Hold.fast P.Hold.dials K.port) P.Dial.dials) block
-        cache.old (standing p.old space.old) back cache.new (standing p.new space.new)) }
+        nb cache.old (standing p.old space.old) back cache.new (standing p.new space.new)) }
 {
     match open_cache(cache, alloc, p, who, space, t) {
         Ok(()) => resize_in_arena(cache, alloc, p, who, a, block, size, nb, space, t),
@@ -273,7 +275,8 @@ fn realloc_in_mapping<P: Places, K: Kernel>(
         cache.old (standing p.old space.old) done cache.new (standing p.new space.new)) }
     ensures short { IfErr result (λ back.
         ResizesShort (setting P.ways (means P.Hold.fast P.Hold.dials K.port) P.Dial.dials) block
-        cache.old (standing p.old space.old) back cache.new (standing p.new space.new)) }
+        nb cache.old (standing p.old space.old) back cache.new (standing p.new space.new)) }
+    ensures mapped { has_what_it_needs nb block ≡ true → is_ok result ≡ true }
 {
     if has_length(&block, nb) {
         return Ok(kept_block(Origin::Mapped, block));
@@ -312,7 +315,8 @@ fn keep_or_move<P: Places, K: Kernel>(
         cache.old (standing p.old space.old) done cache.new (standing p.new space.new)) }
     ensures short { IfErr result (λ back.
         ResizesShort (setting P.ways (means P.Hold.fast P.Hold.dials K.port) P.Dial.dials) block
-        cache.old (standing p.old space.old) back cache.new (standing p.new space.new)) }
+        nb cache.old (standing p.old space.old) back cache.new (standing p.new space.new)) }
+    ensures room { nat_le nb (block.size - 8) ≡ true → is_ok result ≡ true }
 {
     if has_room(&block, nb) {
         Ok(kept_block(Origin::Mapped, block))
@@ -346,7 +350,8 @@ fn realloc_block<P: Places, K: Kernel>(
         cache.old (standing p.old space.old) done cache.new (standing p.new space.new)) }
     ensures short { IfErr result (λ back.
         ResizesShort (setting P.ways (means P.Hold.fast P.Hold.dials K.port) P.Dial.dials) block
-        cache.old (standing p.old space.old) back cache.new (standing p.new space.new)) }
+        nb cache.old (standing p.old space.old) back cache.new (standing p.new space.new)) }
+    ensures mapped { block.arena ≡ None → has_what_it_needs nb block ≡ true → is_ok result ≡ true }
 {
     match block.arena {
         None => realloc_in_mapping(cache, alloc, p, who, block, size, nb, space, t),
@@ -383,7 +388,9 @@ fn realloc_name<P: Places, K: Kernel>(
         (in_own own.new) (standing p.new space.new) }
     ensures others { (n : ℕ) → (n ≡ name → ⊥)
         → block_at own.new.names n ≡ block_at own.old.names n }
-    ensures back { OnErr result (IsSome (block_at own.new.names name)) }
+    ensures back { OnErr result (HoldsStill nb name own.old.names own.new.names) }
+    ensures mapped { (b : Piece) → block_at own.old.names name ≡ Some b → b.arena ≡ None
+        → has_what_it_needs nb b ≡ true → is_ok result ≡ true }
 {
     let block = own.names.take(name).unwrap();
     match realloc_block(&mut own.cache, alloc, p, who, block, size, nb, space, t) {
@@ -399,8 +406,9 @@ fn realloc_name<P: Places, K: Kernel>(
 }
 
 /// realloc of a name's block (glibc's `__libc_realloc`); to 0 bytes it is freed. `NotYours` exactly where the name holds
-/// nothing. After `NoMemory` the name holds its block, or the one that was got for it, or nothing where it was freed; it never
-/// comes where the size is too big.
+/// nothing. After `NoMemory` the name holds the block that it had, or another that is large enough, or, at 0 bytes, nothing
+/// where the arena has its block; it never comes where the size is too big, nor for a mapped block that is freed or has what it
+/// needs.
 pub fn realloc<P: Places, K: Kernel>(
     own: &mut Own,
     alloc: Global,
@@ -428,7 +436,15 @@ pub fn realloc<P: Places, K: Kernel>(
         (in_own own.new) (standing p.new space.new) }
     ensures others { (n : ℕ) → (n ≡ name → ⊥)
         → block_at own.new.names n ≡ block_at own.old.names n }
-    ensures back { (size ≡ 0 → ⊥) → OnErr result (IsSome (block_at own.new.names name)) }
+    ensures back { (size ≡ 0 → ⊥)
+        → OnErr result (HoldsStill (chunk_size_of size) name own.old.names own.new.names) }
+    ensures lost { size ≡ 0 → OnErr result
+        (HoldsOrLoses (setting P.ways (means P.Hold.fast P.Hold.dials K.port) P.Dial.dials) t.now
+        who.now name own.old.names own.new.names (standing p.new space.new)) }
+    ensures unmapped { size ≡ 0 → (b : Piece) → block_at own.old.names name ≡ Some b
+        → b.arena ≡ None → result ≡ Ok (Freed Unmapped) }
+    ensures mapped { (b : Piece) → block_at own.old.names name ≡ Some b → b.arena ≡ None
+        → has_what_it_needs (chunk_size_of size) b ≡ true → is_ok result ≡ true }
 {
     let Some(_named) = own.names.get(name) else {
         return Ok(Reply::NotYours);

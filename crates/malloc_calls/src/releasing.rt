@@ -1,15 +1,16 @@
 //! A block of an arena is released, outside the arena's lock as far as the cache and the fast bins take it.
 
-ghost use Rattle.std.specs.Prelude.{◌≡◌, ◌≤◌, false, nat_le, Some, IsTrue, IfOk, IfErr, OnOk, OnErr};
+ghost use Rattle.std.specs.Prelude.{◌≡◌, ◌≤◌, true, false, nat_le, Some, Ok, IsTrue, IfOk, IfErr, OnOk, OnErr, is_ok};
 ghost use Rattle.chunk_tags.specs.Tunables.{IsTuned};
 ghost use Rattle.consolidate_trim.specs.Outside.{means};
-ghost use Rattle.thread_cache.specs.Caches.{CacheValue};
+ghost use Rattle.thread_cache.specs.Caches.{CacheValue, takes};
 ghost use Rattle.malloc_calls.specs.Calls.{past_cache, releasing};
 ghost use Rattle.arena_holds.specs.Holding.{PushesWithRoom};
 ghost use Rattle.arena_holds.specs.Blocks.{IsHeld};
 ghost use Rattle.arena_holds.specs.Places.{setting, IsServed, standing, both_of, in_cache};
 ghost use Rattle.arena_holds.specs.Returning.{IsUnseen};
 ghost use Rattle.malloc_calls.specs.Supplying.{Releases, ReleasesShort};
+ghost use Rattle.malloc_calls.specs.declared.reply.To.TheVariants.{Cached};
 
 use crate::own_cache::OwnCache;
 use crate::reply::To;
@@ -37,6 +38,7 @@ fn push_fast<P: Places>(p: &mut P, a: u8, block: Block) -> Result<(), Block>
     ensures gone { OnOk result (IsUnseen P.ways p.old (λ weigh. weigh block) (λ _. 0) p.new) }
     ensures back { IfErr result (λ b. b ≡ block) }
     ensures kept { OnErr result (IsUnseen P.ways p.old (λ _. 0) (λ _. 0) p.new) }
+    ensures full { OnErr result (P.ways.room p.old a → ⊥) }
 {
     match p.make_room(a) {
         Ok(()) => {
@@ -48,7 +50,7 @@ fn push_fast<P: Places>(p: &mut P, a: u8, block: Block) -> Result<(), Block>
 }
 
 /// A chunk that the cache doesn't take goes into its fast bin where it is fast, else to its arena. Where there is no room for
-/// a push it comes back.
+/// a push, or for the hold's entry, it comes back; where memory is short behind the entry the arena has it.
 pub fn release_past_cache<P: Places, K: Kernel>(
     alloc: Global,
     p: &mut P,
@@ -67,8 +69,10 @@ pub fn release_past_cache<P: Places, K: Kernel>(
         (past_cache t.now a block cache) block cache (standing p.old space.old) to cache
         (standing p.new space.new)) }
     ensures short { (cache : CacheValue) → IfErr result (λ e.
-        ReleasesShort (setting P.ways (means P.Hold.fast P.Hold.dials K.port) P.Dial.dials) block
-        cache (standing p.old space.old) e.back cache (standing p.new space.new)) }
+        ReleasesShort (setting P.ways (means P.Hold.fast P.Hold.dials K.port) P.Dial.dials) t.now
+        who.now a block cache (standing p.old space.old) e.back cache (standing p.new space.new)) }
+    ensures fast { nat_le block.size t.now.max_fast ≡ true → P.ways.room p.old a
+        → is_ok result ≡ true }
 {
     if is_fast(block.size, t) {
         let bin = fast_index(block.size);
@@ -79,13 +83,13 @@ pub fn release_past_cache<P: Places, K: Kernel>(
     } else {
         match give_held(alloc, p, a, who, block, space, t) {
             Ok(hold) => Ok(To::Binned { a, hold }),
-            Err(NoMemory) => Err(GiveShort { back: None }),
+            Err(short) => Err(short),
         }
     }
 }
 
 /// Releases a chunk of an arena: into the cache where that takes it, else past it (glibc's `_int_free`). Where memory is short
-/// it comes back, or is in nobody's hand.
+/// it comes back, or its arena has it.
 pub fn release<P: Places, K: Kernel>(
     cache: &mut OwnCache,
     alloc: Global,
@@ -106,8 +110,12 @@ pub fn release<P: Places, K: Kernel>(
         (releasing t.now a block cache.old) block cache.old (standing p.old space.old) to cache.new
         (standing p.new space.new)) }
     ensures short { IfErr result (λ e.
-        ReleasesShort (setting P.ways (means P.Hold.fast P.Hold.dials K.port) P.Dial.dials) block
-        cache.old (standing p.old space.old) e.back cache.new (standing p.new space.new)) }
+        ReleasesShort (setting P.ways (means P.Hold.fast P.Hold.dials K.port) P.Dial.dials) t.now
+        who.now a block cache.old (standing p.old space.old) e.back
+        cache.new (standing p.new space.new)) }
+    ensures cached { takes cache.old block ≡ true → result ≡ Ok Cached }
+    ensures fast { nat_le block.size t.now.max_fast ≡ true → P.ways.room p.old a
+        → is_ok result ≡ true }
 {
     match cache.put(block) {
         Ok(()) => Ok(To::Cached),

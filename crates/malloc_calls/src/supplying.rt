@@ -1,6 +1,6 @@
 //! A block is got for a request: from the cache, or from an arena.
 
-ghost use Rattle.std.specs.Prelude.{◌≡◌, ◌^◌, ◌≤◌, false, IfSome, IfOk, OnErr, option_map};
+ghost use Rattle.std.specs.Prelude.{◌≡◌, ◌^◌, ◌≤◌, true, false, IfSome, IsSome, IfOk, OnErr, option_map, is_ok};
 ghost use Rattle.chunk_tags.specs.Sizes.{IsRequestSize};
 ghost use Rattle.chunk_tags.specs.Tunables.{IsTuned};
 ghost use Rattle.consolidate_trim.specs.Outside.{means};
@@ -51,8 +51,8 @@ fn found(search: Search) -> Option<Supply>
     }
 }
 
-/// A block from an arena, which is chosen for so many bytes, at a second try for as many as `again`. After `NoMemory` no block
-/// of the thread was lost.
+/// A block from an arena, which is chosen for so many bytes, at a second try for as many as `again`. After `NoMemory` no other
+/// block is claimed, and what others have stays given out.
 pub fn supply_from_arena<P: Places, K: Kernel>(
     cache: &mut OwnCache,
     alloc: Global,
@@ -82,7 +82,7 @@ pub fn supply_from_arena<P: Places, K: Kernel>(
     Ok(found(search))
 }
 
-/// The newest chunk of its list in the cache, else a block from an arena.
+/// The newest chunk of its list in the cache, else a block from an arena. `NoMemory` never comes where the list has one.
 fn supply_open<P: Places, K: Kernel>(
     cache: &mut OwnCache,
     alloc: Global,
@@ -104,6 +104,7 @@ fn supply_open<P: Places, K: Kernel>(
     ensures short { OnErr result
         (Carries P.ways false (in_cache cache.old) (standing p.old space.old)
         (in_cache cache.new) (standing p.new space.new)) }
+    ensures cached { IsSome (newest_of_size nb cache.old) → is_ok result ≡ true }
 {
     match take_newest(cache, nb) {
         None => {
@@ -118,7 +119,8 @@ fn supply_open<P: Places, K: Kernel>(
 }
 
 /// A block for a request of so many bytes, whose chunk has `nb`: from the cache, which is opened where it is closed, or from
-/// an arena (glibc's `__libc_malloc`). After `NoMemory` no block of the thread was lost.
+/// an arena (glibc's `__libc_malloc`). `NoMemory` never comes where the cache has one; after it no other block is claimed, and
+/// what others have stays given out.
 pub fn plain_supply<P: Places, K: Kernel>(
     cache: &mut OwnCache,
     alloc: Global,
@@ -140,13 +142,14 @@ pub fn plain_supply<P: Places, K: Kernel>(
     ensures short { OnErr result
         (Carries P.ways false (in_cache cache.old) (standing p.old space.old)
         (in_cache cache.new) (standing p.new space.new)) }
+    ensures cached { IsSome (newest_of_size nb cache.old) → is_ok result ≡ true }
 {
     open_cache(cache, alloc, p, who, space, t)?;
     supply_open(cache, alloc, p, who, bytes, nb, space, t)
 }
 
 /// A block for a request of so many bytes, whose chunk has `nb`: from an arena, past the cache, which is opened where it is
-/// closed (glibc's `__libc_calloc`). After `NoMemory` no block of the thread was lost.
+/// closed (glibc's `__libc_calloc`). After `NoMemory` no other block is claimed, and what others have stays given out.
 pub fn fresh_supply<P: Places, K: Kernel>(
     cache: &mut OwnCache,
     alloc: Global,

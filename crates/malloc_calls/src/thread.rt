@@ -1,6 +1,6 @@
 //! A thread, and its calls.
 
-ghost use Rattle.std.specs.Prelude.{◌≡◌, ℕ, true, false, ◌*◌, ◌-◌, ◌^◌, ◌<◌, ◌≤◌, ◌⊎◌, IsSome, None, Some, Ok, IsTrue, IfSome, IfOk, OnOk, OnErr, is_ok, option_copied, length};
+ghost use Rattle.std.specs.Prelude.{◌≡◌, ℕ, true, false, ◌*◌, ◌-◌, ◌^◌, ◌<◌, ◌≤◌, nat_le, IsSome, None, Some, Ok, IsTrue, IfSome, IfOk, OnOk, OnErr, is_ok, option_copied, length};
 ghost use Rattle.std.specs.Option.{option_map};
 ghost use Rattle.chunk_tags.specs.Sizes.{chunk_size_of, padded_request};
 ghost use Rattle.chunk_tags.specs.declared.block.Block.{Block as Piece};
@@ -8,14 +8,16 @@ ghost use Rattle.chunk_tags.specs.Tunables.{IsTuned};
 ghost use Rattle.address_space.specs.Ports.{Rose};
 ghost use Rattle.address_space.specs.Spaces.{space_refusals, map_place};
 ghost use Rattle.consolidate_trim.specs.Outside.{means};
-ghost use Rattle.malloc_calls.specs.Calls.{FitsName};
+ghost use Rattle.malloc_calls.specs.Calls.{FitsName, HoldsStill};
+ghost use Rattle.thread_cache.specs.Caches.{is_open};
 ghost use Rattle.malloc_calls.specs.Mallocs.{malloc_call, calloc_call, posix_memalign_call, is_memalign, IsAlignedName};
 ghost use Rattle.arena_core.specs.Replay.{has_lead_in_range};
-ghost use Rattle.malloc_calls.specs.Frees.{free_call};
+ghost use Rattle.malloc_calls.specs.Frees.{free_call, HoldsOrLoses};
 ghost use Rattle.malloc_calls.specs.Exits.{exit_call};
-ghost use Rattle.malloc_calls.specs.Reallocs.{realloc_call, IfAnswered};
+ghost use Rattle.malloc_calls.specs.Reallocs.{realloc_call, IfAnswered, has_what_it_needs};
 ghost use Rattle.malloc_calls.specs.declared.reply.Reply.TheVariants.{Freed, NotYours, Null, Ended};
-ghost use Rattle.malloc_calls.specs.declared.reply.To.TheVariants.{Unmapped};
+ghost use Rattle.malloc_calls.specs.declared.reply.To.TheVariants.{Cached, Unmapped};
+ghost use Rattle.malloc_calls.specs.declared.cached.CachedFree.TheVariants.{Done};
 ghost use Rattle.malloc_calls.specs.declared.reply.Why.TheVariants.{Big, Align, Refused};
 ghost use Rattle.arena_holds.specs.Going.{Does};
 ghost use Rattle.arena_holds.specs.Places.{setting, IsServed, Carries, standing};
@@ -150,7 +152,7 @@ impl<K: Kernel> Thread<K> {
     }
 
     /// malloc of a size, under a name that holds nothing, in a line of the trace (glibc's `__libc_malloc`). After `NoMemory`
-    /// the names hold what they held; it never comes where the size is too big.
+    /// the names hold what they held; it never comes where the size is too big, or the cache has a chunk for it.
     pub fn malloc<P: Places>(
         &mut self,
         alloc: Global,
@@ -183,6 +185,7 @@ impl<K: Kernel> Thread<K> {
             (in_own (own_of self.new)) (standing p.new (space_of self.new)) }
         ensures names { OnErr result (names_of self.new ≡ names_of self.old) }
         ensures number { number_of self.new ≡ number_of self.old }
+        ensures cached { IsSome (cached_for size (own_of self.old).cache) → is_ok result ≡ true }
     {
         let who = self.who(line);
         malloc(
@@ -251,7 +254,8 @@ impl<K: Kernel> Thread<K> {
 
     /// posix_memalign of a size, under a name that holds nothing, in a line of the trace (glibc's `__posix_memalign`): from an
     /// alignment of 32 on the user address of the block is a multiple of it. After `NoMemory` the names hold what they held; it
-    /// never comes where the size or the alignment is refused.
+    /// never comes where the size or the alignment is refused, or where the cache has a chunk for the size and the alignment is
+    /// at most 16.
     pub fn posix_memalign<P: Places>(
         &mut self,
         alloc: Global,
@@ -291,6 +295,8 @@ impl<K: Kernel> Thread<K> {
             (in_own (own_of self.new)) (standing p.new (space_of self.new)) }
         ensures names { OnErr result (names_of self.new ≡ names_of self.old) }
         ensures number { number_of self.new ≡ number_of self.old }
+        ensures cached { align ≤ 16 → IsSome (cached_for size (own_of self.old).cache)
+            → is_ok result ≡ true }
     {
         let who = self.who(line);
         posix_memalign(
@@ -307,8 +313,9 @@ impl<K: Kernel> Thread<K> {
     }
 
     /// realloc of a name's block, in a line of the trace (glibc's `__libc_realloc`); to 0 bytes it is freed. `NotYours` exactly
-    /// where the name holds nothing. After `NoMemory` the name holds its block, or the one that was got for it, or nothing where
-    /// it was freed; it never comes where the size is too big.
+    /// where the name holds nothing. After `NoMemory` the name holds the block that it had, or another that is large enough, or,
+    /// at 0 bytes, nothing where the arena has its block; it never comes where the size is too big, nor for a mapped block that
+    /// is freed or has what it needs.
     pub fn realloc<P: Places>(
         &mut self,
         alloc: Global,
@@ -342,8 +349,17 @@ impl<K: Kernel> Thread<K> {
             (in_own (own_of self.new)) (standing p.new (space_of self.new)) }
         ensures others { (n : ℕ) → (n ≡ name → ⊥)
             → block_at (names_of self.new) n ≡ block_at (names_of self.old) n }
-        ensures back { (size ≡ 0 → ⊥)
-            → OnErr result (IsSome (block_at (names_of self.new) name)) }
+        ensures back { (size ≡ 0 → ⊥) → OnErr result
+            (HoldsStill (chunk_size_of size) name (names_of self.old) (names_of self.new)) }
+        ensures lost { size ≡ 0 → OnErr result
+            (HoldsOrLoses (setting P.ways (means P.Hold.fast P.Hold.dials K.port) P.Dial.dials)
+            t.now (who_of line self.old) name (names_of self.old) (names_of self.new)
+            (standing p.new (space_of self.new))) }
+        ensures unmapped { size ≡ 0 → (b : Piece) → block_at (names_of self.old) name ≡ Some b
+            → b.arena ≡ None → result ≡ Ok (Freed Unmapped) }
+        ensures mapped { (b : Piece) → block_at (names_of self.old) name ≡ Some b
+            → b.arena ≡ None → has_what_it_needs (chunk_size_of size) b ≡ true
+            → is_ok result ≡ true }
         ensures number { number_of self.new ≡ number_of self.old }
     {
         let who = self.who(line);
@@ -360,8 +376,8 @@ impl<K: Kernel> Thread<K> {
     }
 
     /// free of a name's block, in a line of the trace (glibc's `__libc_free`). `NotYours` exactly where the name holds nothing.
-    /// After `NoMemory` the name holds its block, or nothing where the block was given up; it never comes for a mapped block or
-    /// a name that holds nothing.
+    /// After `NoMemory` the name holds its block, or nothing where its arena has that; it never comes for a mapped block, one that
+    /// the cache takes, or a name that holds nothing.
     pub fn free<P: Places>(
         &mut self,
         alloc: Global,
@@ -384,8 +400,15 @@ impl<K: Kernel> Thread<K> {
         ensures carries { Carries P.ways (is_ok result)
             (in_own (own_of self.old)) (standing p.old (space_of self.old))
             (in_own (own_of self.new)) (standing p.new (space_of self.new)) }
-        ensures names { OnErr result ((names_of self.new ≡ names_of self.old)
-            ⊎ (names_of self.new ≡ without_block name (names_of self.old))) }
+        ensures names { OnErr result
+            (HoldsOrLoses (setting P.ways (means P.Hold.fast P.Hold.dials K.port) P.Dial.dials)
+            t.now (who_of line self.old) name (names_of self.old) (names_of self.new)
+            (standing p.new (space_of self.new))) }
+        ensures cached { cached_end (own_of self.old) (block_at (names_of self.old) name) ≡ Done
+            → result ≡ Ok (Freed Cached) }
+        ensures fast { (b : Piece) → (a : ℕ) → block_at (names_of self.old) name ≡ Some b
+            → b.arena ≡ Some a → is_open (own_of self.old).cache ≡ true
+            → nat_le b.size t.now.max_fast ≡ true → P.ways.room p.old a → is_ok result ≡ true }
         ensures number { number_of self.new ≡ number_of self.old }
     {
         let who = self.who(line);
@@ -393,8 +416,7 @@ impl<K: Kernel> Thread<K> {
     }
 
     /// The end of a thread, in a line of the trace (glibc's `__malloc_arena_thread_freeres`): its cache is closed, and what it
-    /// had is released; then the thread leaves its arena. Its named blocks stay. After `NoMemory` it hasn't left, and what its
-    /// cache still has stays there.
+    /// had is released; then the thread leaves its arena. Its named blocks stay. `NoMemory` never comes where the cache is closed.
     pub fn exit<P: Places>(
         &mut self,
         alloc: Global,
@@ -416,6 +438,7 @@ impl<K: Kernel> Thread<K> {
             (in_own (own_of self.old)) (standing p.old (space_of self.old))
             (in_own (own_of self.new)) (standing p.new (space_of self.new)) }
         ensures names { names_of self.new ≡ names_of self.old }
+        ensures closed_before { (own_of self.old).cache ≡ None → result ≡ Ok Ended }
         ensures number { number_of self.new ≡ number_of self.old }
     {
         let who = self.who(line);

@@ -1,7 +1,8 @@
 use Rattle.std.proofs.Common.{false, sym, ap, ◌∙◌, arith}
 use Rattle.thread_cache.specs.Caches.{structure_of}
-use Rattle.arena_holds.proofs.Carrying.{carries_err, served_after, served_fewer}
-use Rattle.malloc_calls.proofs.Exits.{weigh_drained, weigh_last, empties_next, drained_carries, closed_none, closed_last, closed_none_carries, closed_last_carries}
+use Rattle.arena_holds.proofs.Carrying.{carries_err, carries_here, served_after, served_fewer}
+use Rattle.arena_holds.proofs.Going.{does_here}
+use Rattle.malloc_calls.proofs.Exits.{closed_is, weigh_drained, weigh_last, empties_next, drained_carries, closed_none, closed_last, closed_none_carries, closed_last_carries}
 use Rattle.malloc_calls.proofs.exit.close_cache.Goals as goal
 
 pub release_last-requires-clause-served : goal.release_last-requires-clause-served
@@ -48,3 +49,12 @@ returns-in-Some-close-clause-carries g c =
     rw c.close.ensures.closed
     (closed_last_carries _ c.in-Some-close.structure g.met.P.Places.laws.same c.loop-block.invariant c.in_default.ensures.empty
     (sym (c.in-Some-close.ensures.structure ∙ ap structure_of c.in_default.ensures.unchanged)) c.release_last-in-Some-close.ensures.carries)
+
+pub returns-then-not-is_open-clause-does : goal.returns-then-not-is_open-clause-does
+returns-then-not-is_open-clause-does g c = rw (closed_is c.args.cache.now (sym c.is_open.ensures ∙ c.if-not-is_open.true)) (does_here _ _)
+
+pub returns-then-not-is_open-clause-carries : goal.returns-then-not-is_open-clause-carries
+returns-then-not-is_open-clause-carries g c = carries_here g.P.Places.ways _ _ _
+
+pub returns-then-not-is_open-clause-closed : goal.returns-then-not-is_open-clause-closed
+returns-then-not-is_open-clause-closed g c = closed_is c.args.cache.now (sym c.is_open.ensures ∙ c.if-not-is_open.true)

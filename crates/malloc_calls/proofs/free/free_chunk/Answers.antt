@@ -37,5 +37,5 @@ returns-in-Err-clause-carries g c =
 pub returns-in-Err-clause-names : goal.returns-in-Err-clause-names
 returns-in-Err-clause-names g c =
     let at : block_at c.args.own.now.names c.args.name ≡ Some c.unwrap-block.result = cc in
-    back_names c.args.name c.unwrap-block.result c.in-Err.short.back c.args.own.now.names c.take.new.self c.put_back.new.names at c.take.ensures.rest
-    c.in-Err.ensures.short.same c.put_back.ensures
+    back_names c.args.a c.args.name c.unwrap-block.result c.in-Err.short.back c.args.own.now.names c.take.new.self c.put_back.new.names at c.take.ensures.rest
+    c.in-Err.ensures.short.same c.in-Err.ensures.short.gone c.put_back.ensures

@@ -12,7 +12,7 @@ pub returns-then-is_open-clause-carries : goal.returns-then-is_open-clause-carri
 returns-then-is_open-clause-carries g c = carries_here g.P.Places.ways _ _ _
 
 pub open-requires-clause-held : goal.open-requires-clause-held
-open-requires-clause-held g c = rw c.in-Some.is at c.in_ok-block.ensures.finds.held
+open-requires-clause-held g c = rw c.in-Some.is at c.in_ok-block.ensures.finds.gets.held
 
 pub returns-in-None-clause-does : goal.returns-in-None-clause-does
 returns-in-None-clause-does g c =
@@ -22,7 +22,7 @@ returns-in-None-clause-does g c =
 pub returns-in-None-clause-carries : goal.returns-in-None-clause-carries
 returns-in-None-clause-carries g c =
     carries_as g.met.P.Places.laws.same (in_cache c.args.cache.now) (in_cache c.search.new.self) (λ w. refl) (λ w. omega arith)
-    (rw c.in-None.is at c.in_ok-block.ensures.finds.carries)
+    (rw c.in-None.is at c.in_ok-block.ensures.finds.gets.carries)
 
 pub returns-in-Some-clause-does : goal.returns-in-Some-clause-does
 returns-in-Some-clause-does g c =
@@ -33,5 +33,5 @@ returns-in-Some-clause-does g c =
 pub returns-in-Some-clause-carries : goal.returns-in-Some-clause-carries
 returns-in-Some-clause-carries g c =
     opened_carries c.in-Some.structure c.args.t.now.tcache_count c.args.t.now.tcache_bins c.args.cache.now c.search.new.self c.open.new.self c.open.result
-    g.met.P.Places.laws.same g.met.P.Places.laws.fewer (c.in_ok-block.ensures.finds.opens ∙ (sym c.is_open.ensures ∙ c.if-is_open.false)) c.open.ensures.ok
-    c.open.ensures.unchanged (rw c.in-Some.is at c.in_ok-block.ensures.finds.carries)
+    g.met.P.Places.laws.same g.met.P.Places.laws.fewer (c.in_ok-block.ensures.finds.gets.opens ∙ (sym c.is_open.ensures ∙ c.if-is_open.false)) c.open.ensures.ok
+    c.open.ensures.unchanged (rw c.in-Some.is at c.in_ok-block.ensures.finds.gets.carries)

@@ -16,7 +16,7 @@ returns-then-size-eq0-clause-refused g c = freed_never _ c.free.result c.free.en
 
 pub returns-then-size-eq0-clause-others : goal.returns-then-size-eq0-clause-others
 returns-then-size-eq0-clause-others g c =
-    freed_others c.args.name c.args.own.now.names c.free.new.own.names c.free.result c.free.ensures.taken c.free.ensures.names
+    freed_others _ c.args.t.now c.args.who.now _ c.args.name c.args.own.now.names c.free.new.own.names c.free.result c.free.ensures.taken c.free.ensures.names
 
 pub returns-in-None-clause-does : goal.returns-in-None-clause-does
 returns-in-None-clause-does g c =

@@ -22,7 +22,7 @@ returns-in-Ok-clause-resettles g c =
 
 pub returns-in-Ok-clause-short : goal.returns-in-Ok-clause-short
 returns-in-Ok-clause-short g c =
-    short_then _ c.args.block c.args.cache.now c.open_cache.new.cache c.resize_in_arena.new.cache _ c.resize_in_arena.result g.met.P.Places.laws.same
+    short_then _ c.args.nb c.args.block c.args.cache.now c.open_cache.new.cache c.resize_in_arena.new.cache _ c.resize_in_arena.result g.met.P.Places.laws.same
     c.in-Ok.ensures.carries c.resize_in_arena.ensures.short
 
 pub returns-in-Err-clause-short : goal.returns-in-Err-clause-short

@@ -4,7 +4,7 @@ use Rattle.arena_holds.specs.Places.{both_of, in_cache}
 use Rattle.malloc_calls.specs.Reallocs.{realloc_in}
 use Rattle.malloc_calls.proofs.Calling.{own_unnamed, carries_renamed}
 use Rattle.arena_holds.proofs.Carrying.{served_fewer}
-use Rattle.malloc_calls.proofs.Resettlings.{settled_does}
+use Rattle.malloc_calls.proofs.Resettlings.{settled_does, holds_still}
 use Rattle.malloc_calls.proofs.realloc.realloc_name.Goals as goal
 
 pub realloc_block-requires-clause-served : goal.realloc_block-requires-clause-served
@@ -31,3 +31,9 @@ returns-in-Err-clause-carries g c =
     let at : block_at c.args.own.now.names c.args.name ≡ Some c.unwrap-block.result = cc in
     carries_renamed g.met.P.Places.laws.same c.args.name c.unwrap-block.result c.in-Err.block c.args.own.now c.realloc_block.new.cache c.take.new.self c.put-in-Err.new.self
     at c.take.ensures.rest c.put-in-Err.ensures c.in-Err.ensures.short.carries
+
+pub returns-in-Err-clause-back : goal.returns-in-Err-clause-back
+returns-in-Err-clause-back g c =
+    let at : block_at c.args.own.now.names c.args.name ≡ Some c.unwrap-block.result = cc in
+    holds_still c.args.nb c.args.name c.unwrap-block.result c.in-Err.block c.args.own.now.names c.take.new.self c.put-in-Err.new.self at c.take.ensures.rest c.put-in-Err.ensures
+    c.in-Err.ensures.short.enough

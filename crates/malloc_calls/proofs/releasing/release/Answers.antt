@@ -19,5 +19,5 @@ returns-in-Err-clause-releases g c =
 
 pub returns-in-Err-clause-short : goal.returns-in-Err-clause-short
 returns-in-Err-clause-short g c =
-    short_past _ _ _ c.args.block c.in-Err.back c.args.cache.now c.put.new.self c.put.new.self c.release_past_cache.result
+    short_past _ c.args.t.now c.args.who.now c.args.a _ _ c.args.block c.in-Err.back c.args.cache.now c.put.new.self c.put.new.self c.release_past_cache.result
     c.in-Err.ensures.unchanged c.in-Err.ensures.err (c.release_past_cache.ensures.short c.put.new.self)

@@ -16,7 +16,7 @@ returns-in-Ok-clause-releases g c = λ cache.
 
 pub returns-in-Err-clause-short : goal.returns-in-Err-clause-short
 returns-in-Err-clause-short g c = λ cache.
-    short_pushed c.args.p.now c.push_fast.new.p c.args.space.now c.args.block c.in-Err.back cache g.met.P.Places.laws.same c.in-Err.ensures.back c.in-Err.ensures.kept
+    short_pushed c.args.t.now c.args.who.now c.args.a c.args.p.now c.push_fast.new.p c.args.space.now c.args.block c.in-Err.back cache g.met.P.Places.laws.same c.in-Err.ensures.back c.in-Err.ensures.kept
 
 pub returns-in-Ok-give_held-clause-releases : goal.returns-in-Ok-give_held-clause-releases
 returns-in-Ok-give_held-clause-releases g c = λ cache.

@@ -9,4 +9,4 @@ returns-clause-supplies g c =
 
 pub returns-clause-aligned : goal.returns-clause-aligned
 returns-clause-aligned g c =
-    rw c.found.ensures (aligned_found c.in_ok-search.search.hold c.in_ok-search.search.block (IsAligned c.args.act.now) c.in_ok-search.ensures.finds.aligned)
+    rw c.found.ensures (aligned_found c.in_ok-search.search.hold c.in_ok-search.search.block (IsAligned c.args.act.now) c.in_ok-search.ensures.finds.gets.aligned)
