@@ -1,4 +1,5 @@
 pub mod CountLaws
 pub mod Digits
 pub mod ListOrder
+pub mod Rooms
 pub mod Sums

@@ -1,27 +1,14 @@
 -- A chunk is either idle or in use, and the bytes in use are within those from the system.
 use Rattle.std.proofs.Common.{◌≡◌, ℕ, ◌+◌, ◌<◌, ◌≤◌, List, length, get_or, take, refl, ap, arith}
-use Rattle.std.specs.Prelude.{not}
 use Rattle.std.proofs.lemmas.List.Filters.{sum_by-filter_both}
 use Rattle.std.proofs.lemmas.List.Sums.{sum_by-le-sum_by, sum_by-take-le, sum_by_more_le}
-use Rattle.stats_text.specs.declared.views.Place.{Place}
-use Rattle.stats_text.specs.declared.views.Place.TheVariants.{Live, Cache, Structure, Tray, Fast, Bin, Top, Fence}
 use Rattle.stats_text.specs.declared.views.TileView.{TileView}
 use Rattle.stats_text.specs.Views.{Arena}
 use Rattle.stats_text.specs.Totals.{is_idle_place, is_in_use_place, tile_bytes_of, idle_bytes_of, in_use_bytes_of, in_use_of, used_bytes_of, system_bytes_of}
 
-in_use_is_not_idle : (p : Place) → is_in_use_place p ≡ not (is_idle_place p)
-in_use_is_not_idle (Live thread name) = refl
-in_use_is_not_idle (Cache thread) = refl
-in_use_is_not_idle (Structure thread) = refl
-in_use_is_not_idle (Tray tray) = refl
-in_use_is_not_idle (Fast bin) = refl
-in_use_is_not_idle (Bin bin) = refl
-in_use_is_not_idle Top = refl
-in_use_is_not_idle Fence = refl
-
 pub idle_and_in_use : (tiles : List TileView) → idle_bytes_of tiles + in_use_bytes_of tiles ≡ tile_bytes_of tiles
 unfolding tile_bytes_of idle_bytes_of in_use_bytes_of
-idle_and_in_use tiles = sum_by-filter_both (λ t. is_idle_place t.place) (λ t. is_in_use_place t.place) (λ t. in_use_is_not_idle t.place) (λ t. t.size) tiles
+idle_and_in_use tiles = sum_by-filter_both (λ t. is_idle_place t.place) (λ t. is_in_use_place t.place) (λ t. refl) (λ t. t.size) tiles
 
 in_use_within : (a : Arena) → in_use_of a ≤ a.system
 unfolding in_use_of

@@ -1,3 +1,4 @@
+pub mod Appends
 pub mod Views
 pub mod Words
 pub mod Records

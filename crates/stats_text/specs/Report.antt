@@ -58,11 +58,15 @@ bin_line name bin = if length bin.1 == 0 then [] else name ++ numbered_list bin.
 unfoldable pub bin_lines : List ℕ → List (ℕ × List ℕ) → List ℕ
 bin_lines name bins = flat_map (bin_line name) bins
 
--- an arena's own line
-unfoldable pub arena_line : Arena → List ℕ
-arena_line a = codes "arena " ++ decimal a.number
+-- the number of an arena, its bytes from the system, and the most that these were
+unfoldable pub arena_extent : Arena → List ℕ
+arena_extent a = codes "arena " ++ decimal a.number
     ++ codes " system " ++ decimal a.system
     ++ codes " max " ++ decimal a.max
+
+-- an arena's own line
+unfoldable pub arena_line : Arena → List ℕ
+arena_line a = arena_extent a
     ++ codes " list " ++ decimal a.list
     ++ codes " last " ++ address_or_dash a.last ++ codes "\n"
 
@@ -115,12 +119,14 @@ dials_line d = codes "dials threshold " ++ decimal d.mmap_threshold
     ++ codes " mapped " ++ decimal d.mapped
     ++ codes " bytes " ++ decimal d.bytes ++ codes "\n"
 
+-- the threads, the book of arenas and the dials
+unfoldable pub state_lines : Shown → List ℕ
+state_lines s = thread_lines s.threads ++ book_line s.free s.next s.limit ++ dials_line s.dials
+
 -- all that stands between the records and the statistics: the arenas, the mapped chunks, the caches, the threads,
 -- the book of arenas and the dials
 unfoldable pub places_of : Shown → List ℕ
 places_of s = arena_sections s.arenas
     ++ codes "mapped\n" ++ mapped_lines s.mapped
     ++ cache_lines s.caches
-    ++ thread_lines s.threads
-    ++ book_line s.free s.next s.limit
-    ++ dials_line s.dials
+    ++ state_lines s

@@ -1,5 +1,5 @@
 -- The bytes in use and the text of malloc_stats(3): glibc 2.31 malloc/malloc.c, __malloc_stats, with numbers of 64 bits (own).
-use Rattle.std.specs.Prelude.{ℕ, ◌+◌, ◌-◌, ◌^◌, ◌<◌, ◌≤◌, nat_lt, Bool, true, false, if◌then◌else◌, List, [], ◌∷◌, ◌++◌, filter, sum_by, All, codes, decimal}
+use Rattle.std.specs.Prelude.{ℕ, ◌+◌, ◌-◌, ◌^◌, ◌<◌, ◌≤◌, nat_lt, Bool, true, false, not, if◌then◌else◌, List, [], ◌∷◌, ◌++◌, filter, sum_by, All, codes, decimal}
 use Rattle.std.specs.List.{flat_map}
 use Rattle.stats_text.specs.declared.views.Place.{Place}
 use Rattle.stats_text.specs.declared.views.Place.TheVariants.{Live, Cache, Structure, Tray, Fast, Bin, Top, Fence}
@@ -19,16 +19,9 @@ is_idle_place (Bin bin) = true
 is_idle_place Top = true
 is_idle_place Fence = false
 
--- live, cached, structure and tray chunks and fences are in use
+-- all others are: live, cached, structure and tray chunks and fences
 abbrev pub is_in_use_place : Place → Bool
-is_in_use_place (Live thread name) = true
-is_in_use_place (Cache thread) = true
-is_in_use_place (Structure thread) = true
-is_in_use_place (Tray tray) = true
-is_in_use_place (Fast bin) = false
-is_in_use_place (Bin bin) = false
-is_in_use_place Top = false
-is_in_use_place Fence = true
+is_in_use_place place = not (is_idle_place place)
 
 -- the sizes of chunks together
 unfoldable pub tile_bytes_of : List TileView → ℕ

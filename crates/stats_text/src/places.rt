@@ -1,8 +1,9 @@
 //! The lines of a report that say where each chunk is.
 
-ghost use Rattle.std.specs.Prelude.{◌≡◌, ◌++◌, OnOk};
+ghost use Rattle.std.specs.Prelude.{◌≡◌, ◌++◌, codes, OnOk, OnErr};
 ghost use Rattle.stats_text.specs.Views.{lists_of};
-ghost use Rattle.stats_text.specs.Report.{address_or_dash, place_text, tile_line, tile_lines, mapped_line, mapped_lines, numbered_list, bin_line, bin_lines, arena_line, arena_section, arena_sections, cache_line, cache_lines};
+ghost use Rattle.stats_text.specs.Report.{address_or_dash, place_text, tile_line, tile_lines, mapped_line, mapped_lines, numbered_list, bin_line, bin_lines, arena_extent, arena_line, arena_section, arena_sections, cache_line, cache_lines};
+ghost use Rattle.stats_text.specs.Appends.{LacksRoom, KeepsText};
 
 use crate::views::{ArenaView, CacheView, Place, TileView};
 use crate::words::{
@@ -13,7 +14,9 @@ use chunk_tags::{Addr, NoMemory};
 /// Appends a chunk's user address, or a dash where there is none.
 #[tactic(auto, unfolding(crate::specs::Report::address_or_dash))]
 fn push_address_or_dash(out: &mut Vec<u8>, at: Option<Addr>) -> Result<(), NoMemory>
-    ensures { OnOk result (out.new.items ≡ out.old.items ++ address_or_dash at) }
+    ensures ok { OnOk result (out.new.items ≡ out.old.items ++ address_or_dash at) }
+    ensures full { OnErr result (LacksRoom out.old (address_or_dash at)) }
+    ensures kept { KeepsText out.old out.new }
 {
     match at {
         None => push_text(out, b"-"),
@@ -24,7 +27,9 @@ fn push_address_or_dash(out: &mut Vec<u8>, at: Option<Addr>) -> Result<(), NoMem
 /// Appends where a chunk is.
 #[tactic(auto, unfolding(crate::specs::Report::place_text))]
 fn push_place(out: &mut Vec<u8>, place: Place) -> Result<(), NoMemory>
-    ensures { OnOk result (out.new.items ≡ out.old.items ++ place_text place) }
+    ensures ok { OnOk result (out.new.items ≡ out.old.items ++ place_text place) }
+    ensures full { OnErr result (LacksRoom out.old (place_text place)) }
+    ensures kept { KeepsText out.old out.new }
 {
     match place {
         Place::Live { thread, name } => {
@@ -44,7 +49,9 @@ fn push_place(out: &mut Vec<u8>, place: Place) -> Result<(), NoMemory>
 /// Appends the line of an arena's chunk.
 #[tactic(auto, unfolding(crate::specs::Report::tile_line))]
 fn push_tile(out: &mut Vec<u8>, tile: &TileView) -> Result<(), NoMemory>
-    ensures { OnOk result (out.new.items ≡ out.old.items ++ tile_line tile.now) }
+    ensures ok { OnOk result (out.new.items ≡ out.old.items ++ tile_line tile.now) }
+    ensures full { OnErr result (LacksRoom out.old (tile_line tile.now)) }
+    ensures kept { KeepsText out.old out.new }
 {
     push_block(out, tile.addr, tile.size)?;
     push_text(out, b" ")?;
@@ -55,7 +62,9 @@ fn push_tile(out: &mut Vec<u8>, tile: &TileView) -> Result<(), NoMemory>
 /// Appends the lines of an arena's chunks.
 #[tactic(auto, unfolding(crate::specs::Report::tile_lines))]
 fn push_tiles(out: &mut Vec<u8>, tiles: &[TileView]) -> Result<(), NoMemory>
-    ensures { OnOk result (out.new.items ≡ out.old.items ++ tile_lines tiles.now) }
+    ensures ok { OnOk result (out.new.items ≡ out.old.items ++ tile_lines tiles.now) }
+    ensures full { OnErr result (LacksRoom out.old (tile_lines tiles.now)) }
+    ensures kept { KeepsText out.old out.new }
 {
     for tile in tiles {
         push_tile(out, tile)?;
@@ -66,7 +75,9 @@ fn push_tiles(out: &mut Vec<u8>, tiles: &[TileView]) -> Result<(), NoMemory>
 /// Appends the line of a mapped chunk.
 #[tactic(auto, unfolding(crate::specs::Report::mapped_line))]
 fn push_mapped(out: &mut Vec<u8>, tile: &TileView) -> Result<(), NoMemory>
-    ensures { OnOk result (out.new.items ≡ out.old.items ++ mapped_line tile.now) }
+    ensures ok { OnOk result (out.new.items ≡ out.old.items ++ mapped_line tile.now) }
+    ensures full { OnErr result (LacksRoom out.old (mapped_line tile.now)) }
+    ensures kept { KeepsText out.old out.new }
 {
     push_block(out, tile.addr, tile.size)?;
     push_numbered(out, b" lead ", tile.lead)?;
@@ -78,7 +89,9 @@ fn push_mapped(out: &mut Vec<u8>, tile: &TileView) -> Result<(), NoMemory>
 /// Appends the lines of mapped chunks.
 #[tactic(auto, unfolding(crate::specs::Report::mapped_lines))]
 pub(crate) fn push_mapped_chunks(out: &mut Vec<u8>, tiles: &[TileView]) -> Result<(), NoMemory>
-    ensures { OnOk result (out.new.items ≡ out.old.items ++ mapped_lines tiles.now) }
+    ensures ok { OnOk result (out.new.items ≡ out.old.items ++ mapped_lines tiles.now) }
+    ensures full { OnErr result (LacksRoom out.old (mapped_lines tiles.now)) }
+    ensures kept { KeepsText out.old out.new }
 {
     for tile in tiles {
         push_mapped(out, tile)?;
@@ -89,7 +102,9 @@ pub(crate) fn push_mapped_chunks(out: &mut Vec<u8>, tiles: &[TileView]) -> Resul
 /// Appends the number and the chunks of a list.
 #[tactic(auto, unfolding(crate::specs::Report::numbered_list))]
 fn push_list(out: &mut Vec<u8>, number: u8, ats: &[Addr]) -> Result<(), NoMemory>
-    ensures { OnOk result (out.new.items ≡ out.old.items ++ numbered_list number ats.now) }
+    ensures ok { OnOk result (out.new.items ≡ out.old.items ++ numbered_list number ats.now) }
+    ensures full { OnErr result (LacksRoom out.old (numbered_list number ats.now)) }
+    ensures kept { KeepsText out.old out.new }
 {
     push_number(out, u64::from(number))?;
     push_text(out, b":")?;
@@ -100,7 +115,11 @@ fn push_list(out: &mut Vec<u8>, number: u8, ats: &[Addr]) -> Result<(), NoMemory
 /// Appends the line of a bin that isn't empty.
 #[tactic(auto, unfolding(crate::specs::Report::bin_line))]
 fn push_bin(out: &mut Vec<u8>, name: &[u8], bin: &(u8, Vec<Addr>)) -> Result<(), NoMemory>
-    ensures { OnOk result (out.new.items ≡ out.old.items ++ bin_line name.now (bin.now.0, bin.now.1.items)) }
+    ensures ok { OnOk result (out.new.items ≡
+        out.old.items ++ bin_line name.now (bin.now.0, bin.now.1.items)) }
+    ensures full { OnErr result
+        (LacksRoom out.old (bin_line name.now (bin.now.0, bin.now.1.items))) }
+    ensures kept { KeepsText out.old out.new }
 {
     if bin.1.is_empty() {
         return Ok(());
@@ -112,7 +131,10 @@ fn push_bin(out: &mut Vec<u8>, name: &[u8], bin: &(u8, Vec<Addr>)) -> Result<(),
 /// Appends the lines of the bins that aren't empty.
 #[tactic(auto, unfolding(crate::specs::Report::bin_lines))]
 fn push_bins(out: &mut Vec<u8>, name: &[u8], bins: &[(u8, Vec<Addr>)]) -> Result<(), NoMemory>
-    ensures { OnOk result (out.new.items ≡ out.old.items ++ bin_lines name.now (lists_of bins.now)) }
+    ensures ok { OnOk result (out.new.items ≡
+        out.old.items ++ bin_lines name.now (lists_of bins.now)) }
+    ensures full { OnErr result (LacksRoom out.old (bin_lines name.now (lists_of bins.now))) }
+    ensures kept { KeepsText out.old out.new }
 {
     for bin in bins {
         push_bin(out, name, bin)?;
@@ -120,24 +142,49 @@ fn push_bins(out: &mut Vec<u8>, name: &[u8], bins: &[(u8, Vec<Addr>)]) -> Result
     Ok(())
 }
 
-/// Appends an arena's own line.
-#[tactic(auto, unfolding(crate::specs::Report::arena_line))]
-fn push_arena_line(out: &mut Vec<u8>, a: &ArenaView) -> Result<(), NoMemory>
-    ensures { OnOk result (out.new.items ≡ out.old.items ++ arena_line a.now) }
+/// Appends the last remainder, to the end of an arena's line.
+fn push_last(out: &mut Vec<u8>, last: Option<Addr>) -> Result<(), NoMemory>
+    ensures ok { OnOk result (out.new.items ≡
+        out.old.items ++ (codes " last " ++ address_or_dash last ++ codes "\n")) }
+    ensures full { OnErr result
+        (LacksRoom out.old (codes " last " ++ address_or_dash last ++ codes "\n")) }
+    ensures kept { KeepsText out.old out.new }
+{
+    push_text(out, b" last ")?;
+    push_address_or_dash(out, last)?;
+    push_text(out, b"\n")
+}
+
+/// Appends the beginning of an arena's line: its number, its bytes, and the most that these were.
+#[tactic(auto, unfolding(crate::specs::Report::arena_extent))]
+fn push_extent(out: &mut Vec<u8>, a: &ArenaView) -> Result<(), NoMemory>
+    ensures ok { OnOk result (out.new.items ≡ out.old.items ++ arena_extent a.now) }
+    ensures full { OnErr result (LacksRoom out.old (arena_extent a.now)) }
+    ensures kept { KeepsText out.old out.new }
 {
     push_numbered(out, b"arena ", u64::from(a.number))?;
     push_numbered(out, b" system ", a.system)?;
-    push_numbered(out, b" max ", a.max)?;
+    push_numbered(out, b" max ", a.max)
+}
+
+/// Appends an arena's own line.
+#[tactic(auto, unfolding(crate::specs::Report::arena_line))]
+fn push_arena_line(out: &mut Vec<u8>, a: &ArenaView) -> Result<(), NoMemory>
+    ensures ok { OnOk result (out.new.items ≡ out.old.items ++ arena_line a.now) }
+    ensures full { OnErr result (LacksRoom out.old (arena_line a.now)) }
+    ensures kept { KeepsText out.old out.new }
+{
+    push_extent(out, a)?;
     push_numbered(out, b" list ", u64::from(a.list))?;
-    push_text(out, b" last ")?;
-    push_address_or_dash(out, a.last)?;
-    push_text(out, b"\n")
+    push_last(out, a.last)
 }
 
 /// Appends an arena: its line, its chunks and its bins.
 #[tactic(auto, unfolding(crate::specs::Report::arena_section))]
 fn push_arena(out: &mut Vec<u8>, a: &ArenaView) -> Result<(), NoMemory>
-    ensures { OnOk result (out.new.items ≡ out.old.items ++ arena_section a.now) }
+    ensures ok { OnOk result (out.new.items ≡ out.old.items ++ arena_section a.now) }
+    ensures full { OnErr result (LacksRoom out.old (arena_section a.now)) }
+    ensures kept { KeepsText out.old out.new }
 {
     push_arena_line(out, a)?;
     push_tiles(out, &a.tiles)?;
@@ -148,7 +195,9 @@ fn push_arena(out: &mut Vec<u8>, a: &ArenaView) -> Result<(), NoMemory>
 /// Appends the arenas.
 #[tactic(auto, unfolding(crate::specs::Report::arena_sections))]
 pub(crate) fn push_arenas(out: &mut Vec<u8>, arenas: &[ArenaView]) -> Result<(), NoMemory>
-    ensures { OnOk result (out.new.items ≡ out.old.items ++ arena_sections arenas.now) }
+    ensures ok { OnOk result (out.new.items ≡ out.old.items ++ arena_sections arenas.now) }
+    ensures full { OnErr result (LacksRoom out.old (arena_sections arenas.now)) }
+    ensures kept { KeepsText out.old out.new }
 {
     for arena in arenas {
         push_arena(out, arena)?;
@@ -159,7 +208,9 @@ pub(crate) fn push_arenas(out: &mut Vec<u8>, arenas: &[ArenaView]) -> Result<(),
 /// Appends the line of a cache's list that isn't empty.
 #[tactic(auto, unfolding(crate::specs::Report::cache_line))]
 fn push_cache(out: &mut Vec<u8>, cache: &CacheView) -> Result<(), NoMemory>
-    ensures { OnOk result (out.new.items ≡ out.old.items ++ cache_line cache.now) }
+    ensures ok { OnOk result (out.new.items ≡ out.old.items ++ cache_line cache.now) }
+    ensures full { OnErr result (LacksRoom out.old (cache_line cache.now)) }
+    ensures kept { KeepsText out.old out.new }
 {
     if cache.addrs.is_empty() {
         return Ok(());
@@ -172,7 +223,9 @@ fn push_cache(out: &mut Vec<u8>, cache: &CacheView) -> Result<(), NoMemory>
 /// Appends the lines of the caches' lists that aren't empty.
 #[tactic(auto, unfolding(crate::specs::Report::cache_lines))]
 pub(crate) fn push_caches(out: &mut Vec<u8>, caches: &[CacheView]) -> Result<(), NoMemory>
-    ensures { OnOk result (out.new.items ≡ out.old.items ++ cache_lines caches.now) }
+    ensures ok { OnOk result (out.new.items ≡ out.old.items ++ cache_lines caches.now) }
+    ensures full { OnErr result (LacksRoom out.old (cache_lines caches.now)) }
+    ensures kept { KeepsText out.old out.new }
 {
     for cache in caches {
         push_cache(out, cache)?;

@@ -1,8 +1,9 @@
 //! The record lines: a line of the trace with its answer.
 
-ghost use Rattle.std.specs.Prelude.{◌≡◌, ◌+◌, ◌≤◌, ◌++◌, codes, drop, length, OnOk, IfOk};
+ghost use Rattle.std.specs.Prelude.{◌≡◌, ◌+◌, ◌≤◌, ◌++◌, codes, drop, length, OnOk, OnErr, IfOk};
 ghost use Rattle.stats_text.specs.Words.{block_text};
 ghost use Rattle.stats_text.specs.Records.{hold_text, source_text, sink_text, kept_hold, null_word_of, missed_word_of, freed_text, answer_text, record_text};
+ghost use Rattle.stats_text.specs.Appends.{LacksRoom, KeepsText};
 
 use crate::words::{push_text, put_block, put_number, put_text};
 use chunk_tags::{Addr, NoMemory, Size};
@@ -214,7 +215,8 @@ fn put_from(
     requires { (94 ≤ end) × (end ≤ length text.old) × (length word.now ≤ 7) }
     ensures start { (result ≤ end) × (end ≤ result + 94) }
     ensures length { length text.new ≡ length text.old }
-    ensures written { drop result text.new ≡ (block_text block.0 block.1 ++ word.now ++ source_text from threads) ++ drop end text.old }
+    ensures written { drop result text.new ≡
+        (block_text block.0 block.1 ++ word.now ++ source_text from threads) ++ drop end text.old }
 {
     let end = put_source(text, end, from, threads);
     let end = put_text(text, end, word);
@@ -265,7 +267,8 @@ fn put_tail(text: &mut [u8], said: Outcome, threads: bool) -> usize
     requires { 99 ≤ length text.old }
     ensures below { result ≤ length text.old }
     ensures length { length text.new ≡ length text.old }
-    ensures written { drop result text.new ≡ codes " -> " ++ answer_text said threads ++ codes "\n" }
+    ensures written { drop result text.new ≡
+        codes " -> " ++ answer_text said threads ++ codes "\n" }
 {
     let end = text.len();
     let end = put_text(text, end, b"\n");
@@ -282,8 +285,10 @@ pub fn append_record(
     said: &Outcome,
     threads: bool,
 ) -> Result<(), NoMemory>
-    ensures { OnOk result (out.new.items ≡
+    ensures ok { OnOk result (out.new.items ≡
         out.old.items ++ record_text line.now said.now threads) }
+    ensures full { OnErr result (LacksRoom out.old (record_text line.now said.now threads)) }
+    ensures kept { KeepsText out.old out.new }
 {
     let mut text = [0u8; 99];
     let start = put_tail(&mut text, *said, threads);

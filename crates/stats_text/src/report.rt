@@ -1,7 +1,8 @@
 //! The report's sections between the records and the statistics.
 
-ghost use Rattle.std.specs.Prelude.{◌≡◌, ◌++◌, OnOk, IfOk};
-ghost use Rattle.stats_text.specs.Report.{number_or_dash, numbers_or_dash, comma_numbers, thread_line, thread_lines, book_line, dials_line, places_of};
+ghost use Rattle.std.specs.Prelude.{◌≡◌, ◌++◌, OnOk, OnErr, IfOk};
+ghost use Rattle.stats_text.specs.Report.{number_or_dash, numbers_or_dash, comma_numbers, thread_line, thread_lines, book_line, dials_line, state_lines, places_of};
+ghost use Rattle.stats_text.specs.Appends.{LacksRoom, KeepsText};
 
 use crate::places::{push_arenas, push_caches, push_mapped_chunks};
 use crate::views::{DialState, Snapshot};
@@ -12,7 +13,9 @@ use std::alloc::Global;
 /// Appends a number, or a dash where there is none.
 #[tactic(auto, unfolding(crate::specs::Report::number_or_dash))]
 fn push_number_or_dash(out: &mut Vec<u8>, n: Option<u8>) -> Result<(), NoMemory>
-    ensures { OnOk result (out.new.items ≡ out.old.items ++ number_or_dash n) }
+    ensures ok { OnOk result (out.new.items ≡ out.old.items ++ number_or_dash n) }
+    ensures full { OnErr result (LacksRoom out.old (number_or_dash n)) }
+    ensures kept { KeepsText out.old out.new }
 {
     match n {
         None => push_text(out, b"-"),
@@ -23,7 +26,9 @@ fn push_number_or_dash(out: &mut Vec<u8>, n: Option<u8>) -> Result<(), NoMemory>
 /// Appends numbers, each behind a comma.
 #[tactic(auto, unfolding(crate::specs::Report::comma_numbers))]
 fn push_comma_numbers(out: &mut Vec<u8>, ns: &[u8]) -> Result<(), NoMemory>
-    ensures { OnOk result (out.new.items ≡ out.old.items ++ comma_numbers ns.now) }
+    ensures ok { OnOk result (out.new.items ≡ out.old.items ++ comma_numbers ns.now) }
+    ensures full { OnErr result (LacksRoom out.old (comma_numbers ns.now)) }
+    ensures kept { KeepsText out.old out.new }
 {
     for n in ns {
         push_numbered(out, b",", u64::from(*n))?;
@@ -34,7 +39,9 @@ fn push_comma_numbers(out: &mut Vec<u8>, ns: &[u8]) -> Result<(), NoMemory>
 /// Appends numbers with commas between, or a dash where there are none.
 #[tactic(auto, unfolding(crate::specs::Report::numbers_or_dash))]
 fn push_numbers_or_dash(out: &mut Vec<u8>, ns: &[u8]) -> Result<(), NoMemory>
-    ensures { OnOk result (out.new.items ≡ out.old.items ++ numbers_or_dash ns.now) }
+    ensures ok { OnOk result (out.new.items ≡ out.old.items ++ numbers_or_dash ns.now) }
+    ensures full { OnErr result (LacksRoom out.old (numbers_or_dash ns.now)) }
+    ensures kept { KeepsText out.old out.new }
 {
     match ns {
         [] => push_text(out, b"-"),
@@ -48,7 +55,9 @@ fn push_numbers_or_dash(out: &mut Vec<u8>, ns: &[u8]) -> Result<(), NoMemory>
 /// Appends the line of a thread.
 #[tactic(auto, unfolding(crate::specs::Report::thread_line))]
 fn push_thread(out: &mut Vec<u8>, thread: (u8, Option<u8>)) -> Result<(), NoMemory>
-    ensures { OnOk result (out.new.items ≡ out.old.items ++ thread_line thread) }
+    ensures ok { OnOk result (out.new.items ≡ out.old.items ++ thread_line thread) }
+    ensures full { OnErr result (LacksRoom out.old (thread_line thread)) }
+    ensures kept { KeepsText out.old out.new }
 {
     push_numbered(out, b"thread ", u64::from(thread.0))?;
     push_text(out, b" arena ")?;
@@ -59,7 +68,9 @@ fn push_thread(out: &mut Vec<u8>, thread: (u8, Option<u8>)) -> Result<(), NoMemo
 /// Appends the lines of the threads.
 #[tactic(auto, unfolding(crate::specs::Report::thread_lines))]
 fn push_threads(out: &mut Vec<u8>, threads: &[(u8, Option<u8>)]) -> Result<(), NoMemory>
-    ensures { OnOk result (out.new.items ≡ out.old.items ++ thread_lines threads.now) }
+    ensures ok { OnOk result (out.new.items ≡ out.old.items ++ thread_lines threads.now) }
+    ensures full { OnErr result (LacksRoom out.old (thread_lines threads.now)) }
+    ensures kept { KeepsText out.old out.new }
 {
     for thread in threads {
         push_thread(out, *thread)?;
@@ -70,7 +81,9 @@ fn push_threads(out: &mut Vec<u8>, threads: &[(u8, Option<u8>)]) -> Result<(), N
 /// Appends the line of the book of arenas.
 #[tactic(auto, unfolding(crate::specs::Report::book_line))]
 fn push_book(out: &mut Vec<u8>, free: &[u8], next: Option<u8>, limit: u32) -> Result<(), NoMemory>
-    ensures { OnOk result (out.new.items ≡ out.old.items ++ book_line free.now next limit) }
+    ensures ok { OnOk result (out.new.items ≡ out.old.items ++ book_line free.now next limit) }
+    ensures full { OnErr result (LacksRoom out.old (book_line free.now next limit)) }
+    ensures kept { KeepsText out.old out.new }
 {
     push_text(out, b"book free ")?;
     push_numbers_or_dash(out, free)?;
@@ -83,7 +96,9 @@ fn push_book(out: &mut Vec<u8>, free: &[u8], next: Option<u8>, limit: u32) -> Re
 /// Appends the line of the dials.
 #[tactic(auto, unfolding(crate::specs::Report::dials_line))]
 fn push_dials(out: &mut Vec<u8>, dials: &DialState) -> Result<(), NoMemory>
-    ensures { OnOk result (out.new.items ≡ out.old.items ++ dials_line dials.now) }
+    ensures ok { OnOk result (out.new.items ≡ out.old.items ++ dials_line dials.now) }
+    ensures full { OnErr result (LacksRoom out.old (dials_line dials.now)) }
+    ensures kept { KeepsText out.old out.new }
 {
     push_numbered(out, b"dials threshold ", dials.mmap_threshold)?;
     push_numbered(out, b" trim ", dials.trim_threshold)?;
@@ -92,18 +107,30 @@ fn push_dials(out: &mut Vec<u8>, dials: &DialState) -> Result<(), NoMemory>
     push_text(out, b"\n")
 }
 
+/// Appends the threads, the book of arenas and the dials.
+#[tactic(auto, unfolding(crate::specs::Report::state_lines))]
+fn push_state(out: &mut Vec<u8>, s: &Snapshot) -> Result<(), NoMemory>
+    ensures ok { OnOk result (out.new.items ≡ out.old.items ++ state_lines s.now) }
+    ensures full { OnErr result (LacksRoom out.old (state_lines s.now)) }
+    ensures kept { KeepsText out.old out.new }
+{
+    push_threads(out, &s.threads)?;
+    push_book(out, &s.free, s.next, s.limit)?;
+    push_dials(out, &s.dials)
+}
+
 /// Appends the places of all chunks, the threads, the book of arenas and the dials.
 #[tactic(auto, unfolding(crate::specs::Report::places_of))]
 pub fn append_places(out: &mut Vec<u8>, s: &Snapshot) -> Result<(), NoMemory>
-    ensures { OnOk result (out.new.items ≡ out.old.items ++ places_of s.now) }
+    ensures ok { OnOk result (out.new.items ≡ out.old.items ++ places_of s.now) }
+    ensures full { OnErr result (LacksRoom out.old (places_of s.now)) }
+    ensures kept { KeepsText out.old out.new }
 {
     push_arenas(out, &s.arenas)?;
     push_text(out, b"mapped\n")?;
     push_mapped_chunks(out, &s.mapped)?;
     push_caches(out, &s.caches)?;
-    push_threads(out, &s.threads)?;
-    push_book(out, &s.free, s.next, s.limit)?;
-    push_dials(out, &s.dials)
+    push_state(out, s)
 }
 
 /// The places of all chunks, the threads, the book of arenas and the dials.

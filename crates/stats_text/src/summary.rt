@@ -1,8 +1,9 @@
 //! The summary of a run, which stands in place of its report.
 
-ghost use Rattle.std.specs.Prelude.{◌≡◌, ◌++◌, [], OnOk};
+ghost use Rattle.std.specs.Prelude.{◌≡◌, ◌++◌, [], OnOk, OnErr};
 ghost use Rattle.stats_text.specs.Totals.{HasTotals};
 ghost use Rattle.stats_text.specs.Summary.{HasRoom, counts_of, counts_with, count_line, count_lines, summary_of};
+ghost use Rattle.stats_text.specs.Appends.{LacksRoom, KeepsText};
 
 use crate::records::Outcome;
 use crate::totals::append_totals;
@@ -71,7 +72,9 @@ pub fn count_outcomes(outcomes: &[Outcome]) -> Counts
 /// Appends a line with a count.
 #[tactic(auto, unfolding(crate::specs::Summary::count_line))]
 fn push_count(out: &mut Vec<u8>, word: &[u8], n: u64) -> Result<(), NoMemory>
-    ensures { OnOk result (out.new.items ≡ out.old.items ++ count_line word.now n) }
+    ensures ok { OnOk result (out.new.items ≡ out.old.items ++ count_line word.now n) }
+    ensures full { OnErr result (LacksRoom out.old (count_line word.now n)) }
+    ensures kept { KeepsText out.old out.new }
 {
     push_numbered(out, word, n)?;
     push_text(out, b"\n")
@@ -80,7 +83,9 @@ fn push_count(out: &mut Vec<u8>, word: &[u8], n: u64) -> Result<(), NoMemory>
 /// Appends the lines with the counts.
 #[tactic(auto, unfolding(crate::specs::Summary::count_lines))]
 fn push_counts(out: &mut Vec<u8>, counts: &Counts) -> Result<(), NoMemory>
-    ensures { OnOk result (out.new.items ≡ out.old.items ++ count_lines counts.now) }
+    ensures ok { OnOk result (out.new.items ≡ out.old.items ++ count_lines counts.now) }
+    ensures full { OnErr result (LacksRoom out.old (count_lines counts.now)) }
+    ensures kept { KeepsText out.old out.new }
 {
     push_count(out, b"lines ", counts.lines)?;
     push_count(out, b"got ", counts.got)?;
@@ -93,7 +98,9 @@ fn push_counts(out: &mut Vec<u8>, counts: &Counts) -> Result<(), NoMemory>
 #[tactic(auto, unfolding(crate::specs::Summary::summary_of))]
 pub fn append_summary(out: &mut Vec<u8>, counts: &Counts, s: &Snapshot) -> Result<(), NoMemory>
     requires { HasTotals s.now }
-    ensures { OnOk result (out.new.items ≡ out.old.items ++ summary_of counts.now s.now) }
+    ensures ok { OnOk result (out.new.items ≡ out.old.items ++ summary_of counts.now s.now) }
+    ensures full { OnErr result (LacksRoom out.old (summary_of counts.now s.now)) }
+    ensures kept { KeepsText out.old out.new }
 {
     push_text(out, b"ptmsummary 1\n")?;
     push_counts(out, counts)?;

@@ -1,7 +1,8 @@
 //! The bytes in use, and the text of malloc_stats(3).
 
-ghost use Rattle.std.specs.Prelude.{◌≡◌, ◌≤◌, ◌<◌, ◌+◌, ◌^◌, ◌++◌, ◌==◌, All, filter, ℕ, IsPermutation, OnOk, IfOk};
+ghost use Rattle.std.specs.Prelude.{◌≡◌, ◌≤◌, ◌<◌, ◌+◌, ◌^◌, ◌++◌, ◌==◌, All, filter, ℕ, IsPermutation, OnOk, OnErr, IfOk};
 ghost use Rattle.stats_text.specs.Totals.{HasTotals, AreWithinSystem, is_idle_place, in_use_of, idle_bytes_of, in_use_bytes_of, tile_bytes_of, system_bytes_of, used_bytes_of, total_line, bytes_lines, arena_totals, all_arena_totals, in_list_order, mapped_maxima, totals_lines, totals_of, statistics_of};
+ghost use Rattle.stats_text.specs.Appends.{LacksRoom, KeepsText};
 
 use crate::views::{ArenaView, DialState, Place, Snapshot, TileView};
 use crate::words::{push_numbered, push_right, push_text};
@@ -68,7 +69,9 @@ fn used_bytes(arenas: &[ArenaView]) -> u64
 /// Appends a line with a number at its right.
 #[tactic(auto, unfolding(crate::specs::Totals::total_line))]
 fn push_total(out: &mut Vec<u8>, name: &[u8], n: u64) -> Result<(), NoMemory>
-    ensures { OnOk result (out.new.items ≡ out.old.items ++ total_line name.now n) }
+    ensures ok { OnOk result (out.new.items ≡ out.old.items ++ total_line name.now n) }
+    ensures full { OnErr result (LacksRoom out.old (total_line name.now n)) }
+    ensures kept { KeepsText out.old out.new }
 {
     push_text(out, name)?;
     push_right(out, n)?;
@@ -78,7 +81,9 @@ fn push_total(out: &mut Vec<u8>, name: &[u8], n: u64) -> Result<(), NoMemory>
 /// Appends the lines of the bytes from the system and of those in use.
 #[tactic(auto, unfolding(crate::specs::Totals::bytes_lines))]
 fn push_bytes(out: &mut Vec<u8>, system: u64, used: u64) -> Result<(), NoMemory>
-    ensures { OnOk result (out.new.items ≡ out.old.items ++ bytes_lines system used) }
+    ensures ok { OnOk result (out.new.items ≡ out.old.items ++ bytes_lines system used) }
+    ensures full { OnErr result (LacksRoom out.old (bytes_lines system used)) }
+    ensures kept { KeepsText out.old out.new }
 {
     push_total(out, b"system bytes     = ", system)?;
     push_total(out, b"in use bytes     = ", used)
@@ -88,7 +93,9 @@ fn push_bytes(out: &mut Vec<u8>, system: u64, used: u64) -> Result<(), NoMemory>
 #[tactic(auto, unfolding(crate::specs::Totals::arena_totals))]
 fn push_arena_totals(out: &mut Vec<u8>, a: &ArenaView) -> Result<(), NoMemory>
     requires { idle_bytes_of a.now.tiles ≤ a.now.system }
-    ensures { OnOk result (out.new.items ≡ out.old.items ++ arena_totals a.now) }
+    ensures ok { OnOk result (out.new.items ≡ out.old.items ++ arena_totals a.now) }
+    ensures full { OnErr result (LacksRoom out.old (arena_totals a.now)) }
+    ensures kept { KeepsText out.old out.new }
 {
     push_numbered(out, b"Arena ", u64::from(a.list))?;
     push_text(out, b":\n")?;
@@ -99,8 +106,11 @@ fn push_arena_totals(out: &mut Vec<u8>, a: &ArenaView) -> Result<(), NoMemory>
 #[tactic(auto, unfolding(crate::specs::Totals::all_arena_totals))]
 fn push_arena_at(out: &mut Vec<u8>, arenas: &[ArenaView], place: usize) -> Result<(), NoMemory>
     requires { AreWithinSystem arenas.now }
-    ensures { OnOk result (out.new.items ≡
+    ensures ok { OnOk result (out.new.items ≡
         out.old.items ++ all_arena_totals (filter (λ a. a.list == place) arenas.now)) }
+    ensures full { OnErr result (LacksRoom out.old
+        (all_arena_totals (filter (λ a. a.list == place) arenas.now))) }
+    ensures kept { KeepsText out.old out.new }
 {
     for arena in arenas {
         if usize::from(arena.list) == place {
@@ -126,8 +136,10 @@ fn place_count(arenas: &[ArenaView]) -> usize
 #[tactic(auto, using(crate::proofs::ListOrder::all_places))]
 fn push_in_list_order(out: &mut Vec<u8>, arenas: &[ArenaView]) -> Result<(), NoMemory>
     requires { AreWithinSystem arenas.now }
-    ensures { OnOk result (out.new.items ≡
+    ensures ok { OnOk result (out.new.items ≡
         out.old.items ++ all_arena_totals (in_list_order arenas.now)) }
+    ensures full { OnErr result (LacksRoom out.old (all_arena_totals (in_list_order arenas.now))) }
+    ensures kept { KeepsText out.old out.new }
 {
     for place in 0..place_count(arenas) {
         push_arena_at(out, arenas, place)?;
@@ -138,7 +150,9 @@ fn push_in_list_order(out: &mut Vec<u8>, arenas: &[ArenaView]) -> Result<(), NoM
 /// Appends the lines of the most chunks and bytes that were mapped.
 #[tactic(auto, unfolding(crate::specs::Totals::mapped_maxima))]
 fn push_mapped_maxima(out: &mut Vec<u8>, dials: &DialState) -> Result<(), NoMemory>
-    ensures { OnOk result (out.new.items ≡ out.old.items ++ mapped_maxima dials.now) }
+    ensures ok { OnOk result (out.new.items ≡ out.old.items ++ mapped_maxima dials.now) }
+    ensures full { OnErr result (LacksRoom out.old (mapped_maxima dials.now)) }
+    ensures kept { KeepsText out.old out.new }
 {
     push_total(out, b"max mmap regions = ", dials.max_mapped)?;
     push_total(out, b"max mmap bytes   = ", dials.max_bytes)
@@ -147,7 +161,9 @@ fn push_mapped_maxima(out: &mut Vec<u8>, dials: &DialState) -> Result<(), NoMemo
 /// Appends the totals, and the most chunks and bytes that were mapped.
 #[tactic(auto, unfolding(crate::specs::Totals::totals_lines))]
 fn push_totals(out: &mut Vec<u8>, system: u64, used: u64, dials: &DialState) -> Result<(), NoMemory>
-    ensures { OnOk result (out.new.items ≡ out.old.items ++ totals_lines system used dials.now) }
+    ensures ok { OnOk result (out.new.items ≡ out.old.items ++ totals_lines system used dials.now) }
+    ensures full { OnErr result (LacksRoom out.old (totals_lines system used dials.now)) }
+    ensures kept { KeepsText out.old out.new }
 {
     push_text(out, b"Total (incl. mmap):\n")?;
     push_bytes(out, system, used)?;
@@ -158,7 +174,9 @@ fn push_totals(out: &mut Vec<u8>, system: u64, used: u64, dials: &DialState) -> 
 #[tactic(auto, unfolding(crate::specs::Totals::totals_of))]
 pub fn append_totals(out: &mut Vec<u8>, s: &Snapshot) -> Result<(), NoMemory>
     requires { HasTotals s.now }
-    ensures { OnOk result (out.new.items ≡ out.old.items ++ totals_of s.now) }
+    ensures ok { OnOk result (out.new.items ≡ out.old.items ++ totals_of s.now) }
+    ensures full { OnErr result (LacksRoom out.old (totals_of s.now)) }
+    ensures kept { KeepsText out.old out.new }
 {
     let system = system_bytes(&s.arenas) + s.dials.bytes;
     let used = used_bytes(&s.arenas) + s.dials.bytes;
@@ -169,7 +187,9 @@ pub fn append_totals(out: &mut Vec<u8>, s: &Snapshot) -> Result<(), NoMemory>
 #[tactic(auto, using(crate::proofs::ListOrder::none_left_out), unfolding(crate::specs::Totals::statistics_of))]
 pub fn append_stats(out: &mut Vec<u8>, s: &Snapshot) -> Result<(), NoMemory>
     requires { HasTotals s.now }
-    ensures text { OnOk result (out.new.items ≡ out.old.items ++ statistics_of s.now) }
+    ensures ok { OnOk result (out.new.items ≡ out.old.items ++ statistics_of s.now) }
+    ensures full { OnErr result (LacksRoom out.old (statistics_of s.now)) }
+    ensures kept { KeepsText out.old out.new }
     // None is left out, wherever the arenas stand.
     ensures each { IsPermutation s.now.arenas (in_list_order s.now.arenas) }
 {

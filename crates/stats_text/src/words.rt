@@ -1,8 +1,9 @@
 //! The words of a report's lines: texts, numbers and addresses.
 
-ghost use Rattle.std.specs.Prelude.{◌≡◌, ◌+◌, ◌-◌, ◌<◌, ◌≤◌, ◌∷◌, ◌++◌, drop, length, OnOk, false, decimal};
+ghost use Rattle.std.specs.Prelude.{◌≡◌, ◌+◌, ◌-◌, ◌<◌, ◌≤◌, ◌∷◌, ◌++◌, drop, length, codes, OnOk, OnErr, false, decimal};
 ghost use Rattle.std.specs.Fmt.{digit_glyph};
 ghost use Rattle.stats_text.specs.Words.{hex_digits, address, addresses, block_text, blanks, in_ten_places};
+ghost use Rattle.stats_text.specs.Appends.{LacksRoom, KeepsText};
 
 use chunk_tags::{Addr, NoMemory, Size};
 use itoa::{Buffer, write_digits};
@@ -15,7 +16,9 @@ const BLANKS: &[u8] = b"          ";
 
 /// Appends a text.
 pub(crate) fn push_text(out: &mut Vec<u8>, text: &[u8]) -> Result<(), NoMemory>
-    ensures { OnOk result (out.new.items ≡ out.old.items ++ text.now) }
+    ensures ok { OnOk result (out.new.items ≡ out.old.items ++ text.now) }
+    ensures full { OnErr result (LacksRoom out.old text.now) }
+    ensures kept { KeepsText out.old out.new }
 {
     out.extend_from_slice(text)?;
     Ok(())
@@ -23,7 +26,9 @@ pub(crate) fn push_text(out: &mut Vec<u8>, text: &[u8]) -> Result<(), NoMemory>
 
 /// Appends a number.
 pub(crate) fn push_number(out: &mut Vec<u8>, n: u64) -> Result<(), NoMemory>
-    ensures { OnOk result (out.new.items ≡ out.old.items ++ decimal n) }
+    ensures ok { OnOk result (out.new.items ≡ out.old.items ++ decimal n) }
+    ensures full { OnErr result (LacksRoom out.old (decimal n)) }
+    ensures kept { KeepsText out.old out.new }
 {
     let mut buffer = Buffer::new();
     push_text(out, buffer.format(n).as_bytes())
@@ -31,7 +36,9 @@ pub(crate) fn push_number(out: &mut Vec<u8>, n: u64) -> Result<(), NoMemory>
 
 /// Appends a word and a number.
 pub(crate) fn push_numbered(out: &mut Vec<u8>, word: &[u8], n: u64) -> Result<(), NoMemory>
-    ensures { OnOk result (out.new.items ≡ out.old.items ++ (word.now ++ decimal n)) }
+    ensures ok { OnOk result (out.new.items ≡ out.old.items ++ (word.now ++ decimal n)) }
+    ensures full { OnErr result (LacksRoom out.old (word.now ++ decimal n)) }
+    ensures kept { KeepsText out.old out.new }
 {
     push_text(out, word)?;
     push_number(out, n)
@@ -47,7 +54,9 @@ fn blanks_before(digits: usize) -> &'static [u8]
 /// Appends a number at the right of ten places.
 #[tactic(auto, unfolding(crate::specs::Words::in_ten_places))]
 pub(crate) fn push_right(out: &mut Vec<u8>, n: u64) -> Result<(), NoMemory>
-    ensures { OnOk result (out.new.items ≡ out.old.items ++ in_ten_places n) }
+    ensures ok { OnOk result (out.new.items ≡ out.old.items ++ in_ten_places n) }
+    ensures full { OnErr result (LacksRoom out.old (in_ten_places n)) }
+    ensures kept { KeepsText out.old out.new }
 {
     let mut buffer = Buffer::new();
     let digits = buffer.format(n).as_bytes();
@@ -143,7 +152,9 @@ pub(crate) fn put_block(text: &mut [u8], end: usize, addr: Addr, size: Size) -> 
 
 /// Appends the user address of the chunk at `at`.
 pub(crate) fn push_address(out: &mut Vec<u8>, at: Addr) -> Result<(), NoMemory>
-    ensures { OnOk result (out.new.items ≡ out.old.items ++ address at) }
+    ensures ok { OnOk result (out.new.items ≡ out.old.items ++ address at) }
+    ensures full { OnErr result (LacksRoom out.old (address at)) }
+    ensures kept { KeepsText out.old out.new }
 {
     let mut text = [0u8; 14];
     put_address(&mut text, 14, at);
@@ -152,21 +163,34 @@ pub(crate) fn push_address(out: &mut Vec<u8>, at: Addr) -> Result<(), NoMemory>
 
 /// Appends a block: its user address and its size. The bytes are made in a small array and appended at once.
 pub(crate) fn push_block(out: &mut Vec<u8>, addr: Addr, size: Size) -> Result<(), NoMemory>
-    ensures { OnOk result (out.new.items ≡ out.old.items ++ block_text addr size) }
+    ensures ok { OnOk result (out.new.items ≡ out.old.items ++ block_text addr size) }
+    ensures full { OnErr result (LacksRoom out.old (block_text addr size)) }
+    ensures kept { KeepsText out.old out.new }
 {
     let mut text = [0u8; 35];
     let start = put_block(&mut text, 35, addr, size);
     push_text(out, &text[start..])
 }
 
+/// Appends a space and the user address of the chunk at `at`.
+fn push_spaced(out: &mut Vec<u8>, at: Addr) -> Result<(), NoMemory>
+    ensures ok { OnOk result (out.new.items ≡ out.old.items ++ (codes " " ++ address at)) }
+    ensures full { OnErr result (LacksRoom out.old (codes " " ++ address at)) }
+    ensures kept { KeepsText out.old out.new }
+{
+    push_text(out, b" ")?;
+    push_address(out, at)
+}
+
 /// Appends user addresses, each behind a space.
 #[tactic(auto, unfolding(crate::specs::Words::addresses))]
 pub(crate) fn push_addresses(out: &mut Vec<u8>, ats: &[Addr]) -> Result<(), NoMemory>
-    ensures { OnOk result (out.new.items ≡ out.old.items ++ addresses ats.now) }
+    ensures ok { OnOk result (out.new.items ≡ out.old.items ++ addresses ats.now) }
+    ensures full { OnErr result (LacksRoom out.old (addresses ats.now)) }
+    ensures kept { KeepsText out.old out.new }
 {
     for at in ats {
-        push_text(out, b" ")?;
-        push_address(out, *at)?;
+        push_spaced(out, *at)?;
     }
     Ok(())
 }
