@@ -1,7 +1,6 @@
 -- Laws of the parts of a call: opening the cache, and a block beside the others of a thread.
 use Rattle.std.proofs.Common.{◌≡◌, ℕ, ◌<◌, Bool, true, false, List, Option, Some, None, length, refl, arith}
 use Rattle.std.specs.Prelude.{Result, Ok, Err, OnOk, OnErr, is_ok}
-use Rattle.std.proofs.lemmas.List.{length-set}
 use Rattle.chunk_tags.specs.Sizes.{structure_size}
 use Rattle.chunk_tags.specs.declared.block.Block.{Block}
 use Rattle.chunk_tags.specs.declared.tunables.Tunables.{Tunables}
@@ -14,13 +13,13 @@ use Rattle.arena_holds.specs.Holding.{Finds}
 use Rattle.arena_holds.specs.Places.{PlaceWays, Setting, Standing, Carries, Hands, both_of, weight_of, in_cache}
 use Rattle.arena_holds.specs.Searching.{search}
 use Rattle.malloc_calls.specs.Calls.{opening, cache_with_structure, structure_bytes}
-use Rattle.malloc_calls.specs.Names.{block_at, with_block, without_block}
+use Rattle.malloc_calls.specs.Names.{NameTable, has_place, block_at, with_block, without_block}
 use Rattle.malloc_calls.specs.Own.{in_names, in_own}
 use Rattle.malloc_calls.specs.declared.own.Own.{Own}
 use Rattle.arena_holds.proofs.Going.{does_here, does_last}
 use Rattle.arena_holds.proofs.Carrying.{SameLaw, FewerLaw, carries_as, carries_beside, carries_fewer, carries_short}
-use Rattle.malloc_calls.proofs.Put.{without_none}
-use Rattle.malloc_calls.proofs.Weights.{below, in_names-with, in_names-without, in_cache-opened, in_cache-closed}
+use Rattle.malloc_calls.proofs.Tables.{without_none, place_of, place_kept}
+use Rattle.malloc_calls.proofs.Weights.{in_names-with, in_names-without, in_cache-opened, in_cache-closed}
 
 -- ---- opening
 
@@ -53,7 +52,7 @@ opened_carries structure count bins cache left now (Err x) same fewer closed e s
 
 -- the thread's named blocks stay given out while its cache changes
 pub carries_cache : {P H D K : Type 0} {ways : PlaceWays P H D} {well : Bool} {o z : Standing P K} → SameLaw ways →
-    (cache left : CacheValue) (names : List (Option Block)) → Carries ways well (in_cache cache) o (in_cache left) z →
+    (cache left : CacheValue) (names : NameTable) → Carries ways well (in_cache cache) o (in_cache left) z →
     Carries ways well (in_own (record { cache = cache; names = names })) o (in_own (record { cache = left; names = names })) z
 carries_cache same cache left names c =
     carries_as same (in_own (record { cache = cache; names = names })) (in_own (record { cache = left; names = names })) (λ w. omega arith) (λ w. omega arith)
@@ -74,19 +73,19 @@ carries_given same b hands c =
     carries_as same (both_of (λ weigh. weigh b) hands) hands (λ w. refl) (λ w. omega arith) (carries_beside same hands c)
 
 -- a block that left its name, beside the others
-pub own_unnamed : (own : Own) (name : ℕ) (b : Block) (cache : CacheValue) (left : List (Option Block)) → block_at own.names name ≡ Some b →
+pub own_unnamed : (own : Own) (name : ℕ) (b : Block) (cache : CacheValue) (left : NameTable) → block_at own.names name ≡ Some b →
     cache ≡ own.cache → left ≡ without_block name own.names → (weigh : Block → ℕ) →
     in_own own weigh ≡ both_of (λ w. w b) (in_own (record { cache = cache; names = left })) weigh
 own_unnamed own name b cache left at same e weigh = rw (same, e) (omega (arith, in_names-without name b own.names at weigh))
 
 -- the name has another block then, or none
 pub carries_renamed : {P H D K : Type 0} {ways : PlaceWays P H D} {well : Bool} {o z : Standing P K} → SameLaw ways →
-    (name : ℕ) (b c : Block) (own : Own) (left : CacheValue) (taken names : List (Option Block)) →
+    (name : ℕ) (b c : Block) (own : Own) (left : CacheValue) (taken names : NameTable) →
     block_at own.names name ≡ Some b → taken ≡ without_block name own.names → names ≡ with_block name c taken →
     Carries ways well (both_of (λ weigh. weigh b) (in_cache own.cache)) o (both_of (λ weigh. weigh c) (in_cache left)) z →
     Carries ways well (in_own own) o (in_own (record { cache = left; names = names })) z
 carries_renamed same name b c own left taken names at gone put h =
-    let room : name < length taken = rw gone (omega (arith, length-set own.names name None, below own.names name b at)) in
+    let room : has_place taken name ≡ true = rw gone (place_kept name None own.names (place_of own.names name b at)) in
     let empty : block_at taken name ≡ None = rw gone (without_none name own.names) in
     carries_as same (in_own own) (in_own (record { cache = left; names = names }))
     (λ w. omega (arith, own_unnamed own name b own.cache taken at refl gone w))
@@ -94,7 +93,7 @@ carries_renamed same name b c own left taken names at gone put h =
     (carries_beside same (in_names taken) h)
 
 pub carries_unnamed : {P H D K : Type 0} {ways : PlaceWays P H D} {well : Bool} {o z : Standing P K} → SameLaw ways →
-    (name : ℕ) (b : Block) (own : Own) (left : CacheValue) (taken : List (Option Block)) → block_at own.names name ≡ Some b → taken ≡ without_block name own.names →
+    (name : ℕ) (b : Block) (own : Own) (left : CacheValue) (taken : NameTable) → block_at own.names name ≡ Some b → taken ≡ without_block name own.names →
     Carries ways well (both_of (λ weigh. weigh b) (in_cache own.cache)) o (in_cache left) z →
     Carries ways well (in_own own) o (in_own (record { cache = left; names = taken })) z
 carries_unnamed same name b own left taken at gone h =

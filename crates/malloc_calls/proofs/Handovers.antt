@@ -1,5 +1,5 @@
 -- Laws of a block that goes to a tray, or comes from one.
-use Rattle.std.proofs.Common.{◌≡◌, ℕ, ◌+◌, ◌<◌, List, [], ◌∷◌, Option, Some, None, length, refl, ap, ◌∙◌, arith}
+use Rattle.std.proofs.Common.{◌≡◌, ℕ, ◌+◌, ◌<◌, List, [], ◌∷◌, true, Option, Some, None, refl, ap, ◌∙◌, arith}
 use Rattle.std.specs.Prelude.{Ok, Err}
 use Rattle.chunk_tags.specs.declared.block.Block.{Block}
 use Rattle.chunk_tags.specs.declared.tunables.Tunables.{Tunables}
@@ -9,14 +9,14 @@ use Rattle.arena_holds.specs.Going as going
 use Rattle.arena_holds.specs.Going.{Does, here}
 use Rattle.arena_holds.specs.Places.{PlaceWays, Setting, standing, Hands, both_of}
 use Rattle.arena_holds.specs.Returning.{IsUnseen, IsPosted, IsTaken}
-use Rattle.malloc_calls.specs.Names.{block_at, with_block, without_block}
+use Rattle.malloc_calls.specs.Names.{NameTable, has_place, block_at, with_block, without_block}
 use Rattle.malloc_calls.specs.Own.{in_own}
 use Rattle.malloc_calls.specs.Trays.{post_call, take_call}
 use Rattle.malloc_calls.specs.declared.own.Own.{Own}
 use Rattle.malloc_calls.specs.declared.reply.Reply.TheVariants.{Posted, Taken, Missed}
 use Rattle.arena_holds.proofs.Carrying.{SameLaw}
 use Rattle.malloc_calls.proofs.Calling.{own_unnamed}
-use Rattle.malloc_calls.proofs.Put.{put_back}
+use Rattle.malloc_calls.proofs.Tables.{put_back}
 use Rattle.malloc_calls.proofs.Weights.{in_names-with}
 
 -- beside others
@@ -34,7 +34,7 @@ unseen_beside {p = p} {q = q} {given = given} {got = got} same others given' got
 }
 
 -- what a name has when its block came back
-pub kept_names : (name : ℕ) (b back : Block) (names taken now : List (Option Block)) → block_at names name ≡ Some b → taken ≡ without_block name names →
+pub kept_names : (name : ℕ) (b back : Block) (names taken now : NameTable) → block_at names name ≡ Some b → taken ≡ without_block name names →
     back ≡ b → now ≡ with_block name back taken → now ≡ names
 kept_names name b back names taken now at gone same put =
     put ∙ (ap (λ (x : Block). with_block name x taken) same ∙ (ap (with_block name b) gone ∙ put_back names name b at))
@@ -42,14 +42,14 @@ kept_names name b back names taken now at gone same put =
 -- ---- a block is posted
 
 pub post_does : {P H D K : Type 0} {s : Setting P H D K} {p q : P} (t : Tunables) (who : Who) (space : Space K) (name tray : ℕ) (b : Block) (own : Own)
-    (names : List (Option Block)) → block_at own.names name ≡ Some b → names ≡ without_block name own.names → IsPosted s.ways tray p b None q →
+    (names : NameTable) → block_at own.names name ≡ Some b → names ≡ without_block name own.names → IsPosted s.ways tray p b None q →
     Does s t who (post_call name tray own) (standing p space) (Posted, record { cache = own.cache; names = names }) (standing q space)
 post_does t who space name tray b own names at gone h = rw (at, gone) (record {
   told = going.Posted None ∷ [];
   goes = going.posted (record { posted = h.posted; space = refl }) here;
 })
 
-pub post_unseen : {P H D : Type 0} {ways : PlaceWays P H D} {p q : P} (name tray : ℕ) (b : Block) (own : Own) (names : List (Option Block)) → SameLaw ways →
+pub post_unseen : {P H D : Type 0} {ways : PlaceWays P H D} {p q : P} (name tray : ℕ) (b : Block) (own : Own) (names : NameTable) → SameLaw ways →
     block_at own.names name ≡ Some b → names ≡ without_block name own.names → IsPosted ways tray p b None q →
     IsUnseen ways p (in_own own) (in_own (record { cache = own.cache; names = names })) q
 post_unseen name tray b own names same at gone h =
@@ -58,14 +58,14 @@ post_unseen name tray b own names same at gone h =
 
 -- the tray wasn't empty: the name has its block again
 pub full_does : {P H D K : Type 0} {s : Setting P H D K} {p q : P} (t : Tunables) (who : Who) (space : Space K) (name tray seen : ℕ) (b : Block) (own : Own)
-    (names : List (Option Block)) → block_at own.names name ≡ Some b → names ≡ own.names → IsPosted s.ways tray p b (Some seen) q →
+    (names : NameTable) → block_at own.names name ≡ Some b → names ≡ own.names → IsPosted s.ways tray p b (Some seen) q →
     Does s t who (post_call name tray own) (standing p space) (Missed seen, record { cache = own.cache; names = names }) (standing q space)
 full_does t who space name tray seen b own names at same h = rw (at, same) (record {
   told = going.Posted (Some seen) ∷ [];
   goes = going.posted (record { posted = h.posted; space = refl }) here;
 })
 
-pub full_unseen : {P H D : Type 0} {ways : PlaceWays P H D} {p q : P} (name tray seen : ℕ) (b : Block) (own : Own) (taken names : List (Option Block)) → SameLaw ways →
+pub full_unseen : {P H D : Type 0} {ways : PlaceWays P H D} {p q : P} (name tray seen : ℕ) (b : Block) (own : Own) (taken names : NameTable) → SameLaw ways →
     block_at own.names name ≡ Some b → taken ≡ without_block name own.names → names ≡ own.names → IsPosted ways tray p b (Some seen) q →
     IsUnseen ways p (in_own own) (in_own (record { cache = own.cache; names = names })) q
 full_unseen name tray seen b own taken names same at gone put h =
@@ -76,15 +76,15 @@ full_unseen name tray seen b own taken names same at gone put h =
 -- ---- a block is taken
 
 pub take_does : {P H D K : Type 0} {s : Setting P H D K} {p q : P} (t : Tunables) (who : Who) (space : Space K) (name tray : ℕ) (b : Block) (own : Own)
-    (names : List (Option Block)) → names ≡ with_block name b own.names → IsTaken s.ways tray p (Ok b) q →
+    (names : NameTable) → names ≡ with_block name b own.names → IsTaken s.ways tray p (Ok b) q →
     Does s t who (take_call name tray own) (standing p space) (Taken b.addr b.size, record { cache = own.cache; names = names }) (standing q space)
 take_does t who space name tray b own names put h = rw put (record {
   told = going.Taken (Ok b) ∷ [];
   goes = going.taken (record { took = h.took; space = refl }) here;
 })
 
-pub take_unseen : {P H D : Type 0} {ways : PlaceWays P H D} {p q : P} (name tray : ℕ) (b : Block) (own : Own) (names : List (Option Block)) → SameLaw ways →
-    name < length own.names → block_at own.names name ≡ None → names ≡ with_block name b own.names → IsTaken ways tray p (Ok b) q →
+pub take_unseen : {P H D : Type 0} {ways : PlaceWays P H D} {p q : P} (name tray : ℕ) (b : Block) (own : Own) (names : NameTable) → SameLaw ways →
+    has_place own.names name ≡ true → block_at own.names name ≡ None → names ≡ with_block name b own.names → IsTaken ways tray p (Ok b) q →
     IsUnseen ways p (in_own own) (in_own (record { cache = own.cache; names = names })) q
 take_unseen name tray b own names same room empty put h =
     unseen_beside same (in_own own) (in_own own) (in_own (record { cache = own.cache; names = names })) (λ w. omega arith)

@@ -1,4 +1,5 @@
-pub mod Put
+pub mod Keyed
+pub mod Tables
 pub mod Weights
 pub mod Calling
 pub mod Supplies

@@ -10,7 +10,7 @@ use Rattle.thread_cache.specs.Held.{IsSound}
 use Rattle.arena_core.specs.declared.journal.Who.{Who}
 use Rattle.arena_core.specs.declared.take.GiveShort.{GiveShort}
 use Rattle.arena_holds.specs.Blocks.{IsHeld}
-use Rattle.malloc_calls.specs.Names.{block_at, with_block, with_some, without_block}
+use Rattle.malloc_calls.specs.Names.{NameTable, block_at, with_block, with_some, without_block}
 use Rattle.malloc_calls.specs.Calls.{past_cache, releasing, opening, with_cache}
 use Rattle.malloc_calls.specs.Frees.{free_call, free_of_block, free_to, without_name, LosesBlock, HoldsOrLoses}
 use Rattle.malloc_calls.specs.declared.own.Own.{Own}
@@ -28,7 +28,7 @@ use Rattle.malloc_calls.specs.Supplying.{Releases, ReleasesShort}
 use Rattle.arena_holds.proofs.Going.{does_here, does_last, does_then}
 use Rattle.malloc_calls.proofs.Calling.{carries_given, carries_renamed, carries_unnamed}
 use Rattle.arena_holds.proofs.Carrying.{SameLaw, carries_here, carries_as, carries_beside, carries_unseen}
-use Rattle.malloc_calls.proofs.Put.{put_back}
+use Rattle.malloc_calls.proofs.Tables.{put_back}
 use Rattle.malloc_calls.proofs.Weights.{in_cache-put}
 
 -- ---- into the cache
@@ -101,7 +101,7 @@ short_pushed t who a p q space b back cache same e u = rw e (record {
 
 -- ---- free
 
-pub freed_to : {P H D K : Type 0} {s : Setting P H D K} {t : Tunables} {who : Who} {o z : Standing P K} (a name : ℕ) (b c : Block) (own : Own) (names : List (Option Block))
+pub freed_to : {P H D K : Type 0} {s : Setting P H D K} {t : Tunables} {who : Who} {o z : Standing P K} (a name : ℕ) (b c : Block) (own : Own) (names : NameTable)
     (to : To) (left : CacheValue) → c ≡ b → names ≡ without_block name own.names → Releases s t who (releasing t a c own.cache) c own.cache o to left z →
     Does s t who (free_to t a name b own) o (Freed to, record { cache = left; names = names }) z
 freed_to {s = s} {t = t} {who = who} {o = o} {z = z} a name b c own names to left e named h =
@@ -119,7 +119,7 @@ free_does s t who o p z thread a name b own cache (Ok reply) after at arena d e 
     rw at (subst P (sym arena) (does_then (λ c. free_to t a name b (with_cache c own)) d (e b at)))
 free_does s t who o p z thread a name b own cache (Err x) after at arena d e = tt
 
-pub free_unmaps : {P H D K : Type 0} {s : Setting P H D K} {t : Tunables} (who : Who) {o z : Standing P K} (thread name : ℕ) (b : Block) (own : Own) (names : List (Option Block)) →
+pub free_unmaps : {P H D K : Type 0} {s : Setting P H D K} {t : Tunables} (who : Who) {o z : Standing P K} (thread name : ℕ) (b : Block) (own : Own) (names : NameTable) →
     block_at own.names name ≡ Some b → b.arena ≡ None → names ≡ without_block name own.names → FreesMapped s t b o z →
     Does s t who (free_call t thread name own) o (Freed sinks.Unmapped, record own { names = names }) z
 free_unmaps {s = s} {t = t} who {o = o} {z = z} thread name b own names at arena named h =
@@ -135,7 +135,7 @@ pub back_held : (b : Block) (back : Option Block) → IsHeld b → IfSome back (
 back_held b None held same = tt
 back_held b (Some c) held same = subst IsHeld (sym same) held
 
-pub back_names : {P H D K : Type 0} {s : Setting P H D K} {t : Tunables} {who : Who} {o z : Standing P K} (a name : ℕ) (b : Block) (back : Option Block) (names taken now : List (Option Block)) →
+pub back_names : {P H D K : Type 0} {s : Setting P H D K} {t : Tunables} {who : Who} {o z : Standing P K} (a name : ℕ) (b : Block) (back : Option Block) (names taken now : NameTable) →
     block_at names name ≡ Some b → taken ≡ without_block name names → IfSome back (λ c. c ≡ b) → (back ≡ None → GivesUp s t who a b o z) → now ≡ with_some name back taken →
     HoldsOrLoses s t who name names now z
 back_names {o = o} a name b None names taken now at e same gone put = inr (record { a = a; block = b; before = o; at = at; gives = gone refl; gone = put ∙ e })
@@ -143,7 +143,7 @@ back_names a name b (Some c) names taken now at e same gone put =
     inl (put ∙ (ap (λ (x : Block). with_block name x taken) same ∙ (ap (with_block name b) e ∙ put_back names name b at)))
 
 pub back_carries : {P H D K : Type 0} {ways : PlaceWays P H D} {o z : Standing P K} (name : ℕ) (b : Block) (own : Own) (left : CacheValue) (back : Option Block)
-    (taken names : List (Option Block)) → SameLaw ways → block_at own.names name ≡ Some b → taken ≡ without_block name own.names → names ≡ with_some name back taken →
+    (taken names : NameTable) → SameLaw ways → block_at own.names name ≡ Some b → taken ≡ without_block name own.names → names ≡ with_some name back taken →
     Carries ways false (both_of (λ weigh. weigh b) (in_cache own.cache)) o (both_of (weight_of back) (in_cache left)) z →
     Carries ways false (in_own own) o (in_own (record { cache = left; names = names })) z
 back_carries name b own left None taken names same at gone put h =

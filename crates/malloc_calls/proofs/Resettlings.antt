@@ -11,7 +11,7 @@ use Rattle.arena_core.specs.Arenas.{need_of}
 use Rattle.arena_core.specs.declared.journal.Act.TheVariants as acts
 use Rattle.arena_core.specs.declared.journal.Who.{Who}
 use Rattle.arena_holds.specs.Blocks.{IsHeld}
-use Rattle.malloc_calls.specs.Names.{block_at, with_block, without_block}
+use Rattle.malloc_calls.specs.Names.{block_at, with_block, without_block, NameTable}
 use Rattle.arena_holds.specs.Calls.{Call, Done, then_call, hold_of, hold_end, taken_of}
 use Rattle.malloc_calls.specs.Calls.{Supplied, origin_of, plain_supply, releasing, FitsName, HoldsStill}
 use Rattle.chunk_tags.specs.Sizes.{padded_request}
@@ -42,7 +42,7 @@ use Rattle.malloc_calls.specs.Supplying.{Supplies, Releases, ReleasesShort, bloc
 use Rattle.malloc_calls.proofs.Calling.{carries_hand}
 use Rattle.arena_holds.proofs.Carrying.{SameLaw, FewerLaw, carries_here, carries_as, carries_then, carries_beside, carries_fewer, served_after, served_fewer}
 use Rattle.arena_holds.proofs.Going.{does_here, does_last, does_then}
-use Rattle.malloc_calls.proofs.Put.{without_none}
+use Rattle.malloc_calls.proofs.Tables.{at_other, set_twice, without_none, at_same, place_of}
 use Rattle.malloc_calls.proofs.Supplies.{rose_later}
 
 -- ---- malloc in the place of a resize
@@ -332,35 +332,47 @@ served_got {cache = cache} {left = left} {got = got} b same fewer h served =
 -- ---- a name has it
 
 -- the name has the block that is in hand then
-pub settled_names : (name : ℕ) (b : Block) (names taken now : List (Option Block)) → taken ≡ without_block name names → now ≡ with_block name b taken → now ≡ with_block name b names
-settled_names name b names taken now e put = put ∙ (ap (with_block name b) e ∙ set_twice name b names)
-  where
-    set_twice : (name : ℕ) (b : Block) (names : List (Option Block)) → with_block name b (without_block name names) ≡ with_block name b names
-    set_twice name b [] = refl
-    set_twice zero b (o ∷ os) = refl
-    set_twice (suc name) b (o ∷ os) = ap (λ (xs : List (Option Block)). o ∷ xs) (set_twice name b os)
+pub settled_names : (name : ℕ) (b : Block) (names taken now : NameTable) → taken ≡ without_block name names → now ≡ with_block name b taken → now ≡ with_block name b names
+settled_names name b names taken now e put = put ∙ (ap (with_block name b) e ∙ set_twice name None (Some b) names)
 
 pub settled_does : {P H D K : Type 0} {s : Setting P H D K} {t : Tunables} {who : Who} {nb : ℕ} {left : CacheValue} {o z : Standing P K}
-    (rules : Block → Call Resettled) (name : ℕ) (b c : Block) (own : Own) (done : Reallocated) (taken names : List (Option Block)) → c ≡ b → taken ≡ without_block name own.names →
+    (rules : Block → Call Resettled) (name : ℕ) (b c : Block) (own : Own) (done : Reallocated) (taken names : NameTable) → c ≡ b → taken ≡ without_block name own.names →
     names ≡ with_block name done.block taken → Resettles s t who (rules c) nb c own.cache o done left z →
     Does s t who (then_call (rules b) (λ r. Done (settled name own r))) o (done.reply, record { cache = left; names = names }) z
 settled_does {s = s} {t = t} {who = who} {left = left} {o = o} {z = z} rules name b c own done taken names e gone put h =
     let d : Does s t who (rules b) o (done, left) z = subst (λ (x : Block). Does s t who (rules x) o (done, left) z) e h.does in
     rw (settled_names name done.block own.names taken names gone put) (does_last (settled name own) d)
 
-with_at : (name : ℕ) (b c : Block) (names : List (Option Block)) → block_at names name ≡ Some b → block_at (with_block name c names) name ≡ Some c
-with_at name b c [] at = absurd cc
-with_at zero b c (o ∷ os) at = refl
-with_at (suc name) b c (o ∷ os) at = with_at name b c os at
-
 -- after want of memory
-pub holds_still : (nb name : ℕ) (b c : Block) (names taken now : List (Option Block)) → block_at names name ≡ Some b → taken ≡ without_block name names → now ≡ with_block name c taken →
+pub holds_still : (nb name : ℕ) (b c : Block) (names taken now : NameTable) → block_at names name ≡ Some b → taken ≡ without_block name names → now ≡ with_block name c taken →
     (c ≡ b) ⊎ (need_of c.arena nb ≤ c.size) → HoldsStill nb name names now
 holds_still nb name b c names taken now at gone put enough = record {
   block = c;
-  at = ap (λ (xs : List (Option Block)). block_at xs name) (settled_names name c names taken now gone put) ∙ with_at name b c names at;
+  at = ap (λ (xs : NameTable). block_at xs name) (settled_names name c names taken now gone put) ∙ at_same name (Some c) names (place_of names name b at);
   enough = elim enough [ inl same ↦ inl (at ∙ ap Some (sym same)) | inr large ↦ inr large ];
 }
+
+answered_more : (reply : Reply) (X Y : Type 0) → (X → Y) → IfAnswered reply X → IfAnswered reply Y
+answered_more (Freed to) X Y f x = f x
+answered_more NotYours X Y f x = f x
+answered_more (Got addr size from) X Y f x = f x
+answered_more (Kept addr size from) X Y f x = f x
+answered_more (Null why) X Y f x = tt
+answered_more Posted X Y f x = f x
+answered_more (Taken addr size) X Y f x = f x
+answered_more (Missed seen) X Y f x = f x
+answered_more replies.Ended X Y f x = f x
+
+pub settled_fits : (reply : Reply) (nb name : ℕ) (b c : Block) (names taken now : NameTable) → block_at names name ≡ Some b → taken ≡ without_block name names → now ≡ with_block name c taken →
+    IfAnswered reply (need_of c.arena nb ≤ c.size) → IfAnswered reply (FitsName nb name now)
+settled_fits reply nb name b c names taken now at gone put h =
+    answered_more reply (need_of c.arena nb ≤ c.size) (FitsName nb name now)
+    (λ le d is.
+    let put_there : now ≡ with_block name c names = settled_names name c names taken now gone put in
+    let here : Some c ≡ Some d = sym (at_same name (Some c) names (place_of names name b at)) ∙ (ap (λ (x : NameTable). block_at x name) (sym put_there) ∙ is) in
+    let same : c ≡ d = cc in
+    subst (λ (x : Block). need_of x.arena nb ≤ x.size) same le)
+    h
 
 -- ---- realloc by its size
 
@@ -379,26 +391,22 @@ pub freed_never : {E : Type 0} (R : Type 0) (r : Result Reply E) → IfOk r IsFr
 freed_never R (Ok reply) h = λ e. let no : IsFreed (Null Refused) = subst IsFreed e h in absurd no
 freed_never R (Err e) h = tt
 
-pub freed_fits : {E : Type 0} (nb name : ℕ) (names now : List (Option Block)) (r : Result Reply E) → IfOk r IsFreed → OnOk r (now ≡ without_block name names) →
+pub freed_fits : {E : Type 0} (nb name : ℕ) (names now : NameTable) (r : Result Reply E) → IfOk r IsFreed → OnOk r (now ≡ without_block name names) →
     IfOk r (λ reply. IfAnswered reply (FitsName nb name now))
 freed_fits nb name names now (Ok reply) h gone =
-    freed_answered reply (FitsName nb name now) h (λ b is. let no : None ≡ Some b = sym (without_none name names) ∙ (ap (λ (x : List (Option Block)). block_at x name) (sym gone) ∙ is) in absurd cc)
+    freed_answered reply (FitsName nb name now) h (λ b is. let no : None ≡ Some b = sym (without_none name names) ∙ (ap (λ (x : NameTable). block_at x name) (sym gone) ∙ is) in absurd cc)
 freed_fits nb name names now (Err e) h gone = tt
 
-pub unnamed_others : (name : ℕ) (names : List (Option Block)) (n : ℕ) → (n ≡ name → ⊥) → block_at (without_block name names) n ≡ block_at names n
-unnamed_others name [] n other = refl
-unnamed_others zero (o ∷ os) zero other = absurd (other refl)
-unnamed_others zero (o ∷ os) (suc n) other = refl
-unnamed_others (suc name) (o ∷ os) zero other = refl
-unnamed_others (suc name) (o ∷ os) (suc n) other = unnamed_others name os n (λ e. other (ap suc e))
+pub unnamed_others : (name : ℕ) (names : NameTable) (n : ℕ) → (n ≡ name → ⊥) → block_at (without_block name names) n ≡ block_at names n
+unnamed_others name names n other = at_other name n None names other
 
 -- the others' blocks stay where a name's block was freed, or memory was short for that
-pub freed_others : {P H D K A E : Type 0} (s : Setting P H D K) (t : Tunables) (who : Who) (z : Standing P K) (name : ℕ) (names now : List (Option Block)) (r : Result A E) → OnOk r (now ≡ without_block name names) →
+pub freed_others : {P H D K A E : Type 0} (s : Setting P H D K) (t : Tunables) (who : Who) (z : Standing P K) (name : ℕ) (names now : NameTable) (r : Result A E) → OnOk r (now ≡ without_block name names) →
     OnErr r (HoldsOrLoses s t who name names now z) → (n : ℕ) → (n ≡ name → ⊥) → block_at now n ≡ block_at names n
-freed_others s t who z name names now (Ok x) gone short n other = ap (λ (x : List (Option Block)). block_at x n) gone ∙ unnamed_others name names n other
+freed_others s t who z name names now (Ok x) gone short n other = ap (λ (x : NameTable). block_at x n) gone ∙ unnamed_others name names n other
 freed_others s t who z name names now (Err e) gone short n other = elim short [
-  | inl same ↦ ap (λ (x : List (Option Block)). block_at x n) same
-  | inr lost ↦ ap (λ (x : List (Option Block)). block_at x n) lost.gone ∙ unnamed_others name names n other
+  | inl same ↦ ap (λ (x : NameTable). block_at x n) same
+  | inr lost ↦ ap (λ (x : NameTable). block_at x n) lost.gone ∙ unnamed_others name names n other
 ]
 
 pub realloc_big : {P H D K : Type 0} (s : Setting P H D K) (t : Tunables) (who : Who) (thread name size : ℕ) (b : Block) (own : Own) (o : Standing P K) →

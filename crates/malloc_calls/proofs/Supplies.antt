@@ -1,5 +1,6 @@
 -- Laws of a block that is got for a request, and of a name that gets it.
-use Rattle.std.proofs.Common.{◌≡◌, ℕ, ◌+◌, ◌-◌, ◌^◌, ◌<◌, ◌≤◌, Bool, true, false, cond, List, Option, Some, None, length, refl, sym, ◌∙◌, subst, arith, ◌%◌, ◌/◌, ◌*◌, ◌&&◌}
+use Rattle.malloc_calls.proofs.Tables.{at_same}
+use Rattle.std.proofs.Common.{◌≡◌, ℕ, ◌+◌, ◌-◌, ◌^◌, ◌<◌, ◌≤◌, Bool, true, false, cond, List, Option, Some, None, length, refl, sym, ◌∙◌, subst, arith, ◌%◌, ◌/◌, ◌*◌, ◌&&◌, ap, inl, inr}
 use Rattle.std.specs.Prelude.{Result, Ok, Err, IfOk, OnErr, IsSome, IfSome, option_map, nat_le, nat_lt}
 use Rattle.chunk_tags.specs.Sizes.{padded_request, chunk_size_of, cache_index_of, IsRequestSize}
 use Rattle.chunk_tags.specs.declared.block.Block.{Block}
@@ -11,16 +12,16 @@ use Rattle.arena_core.specs.Arenas.{need_of}
 use Rattle.arena_core.specs.declared.journal.Act.{Act}
 use Rattle.arena_core.specs.declared.journal.Act.TheVariants as acts
 use Rattle.arena_core.specs.declared.journal.Who.{Who}
-use Rattle.std.proofs.lemmas.Bool.{eqb-true, leb-false, ltb-false}
+use Rattle.std.proofs.lemmas.Bool.{eqb-true, leb-false, ltb-false, cases_Bool}
 use Rattle.std.specs.Int.{is_power_of_two}
 use Rattle.arena_rules.specs.Align.{IsAlignment}
 use Rattle.malloc_calls.specs.Mallocs.{is_memalign}
 use Rattle.arena_holds.specs.Blocks.{IsHeld}
-use Rattle.malloc_calls.specs.Names.{block_at}
+use Rattle.malloc_calls.specs.Names.{block_at, NameTable, has_place}
 use Rattle.malloc_calls.specs.Own.{newest_of_size, without_newest_of, cached_for}
 use Rattle.arena_holds.specs.Calls.{Call, then_call}
 use Rattle.arena_holds.specs.Searching.{size_wanted, search}
-use Rattle.malloc_calls.specs.Calls.{Supplied, supplied_by, opening, origin_of, supply_of, from_arena, from_cache, named, reply_of, names_with, answer_with}
+use Rattle.malloc_calls.specs.Calls.{Supplied, supplied_by, opening, origin_of, supply_of, from_arena, from_cache, named, reply_of, names_with, answer_with, FitsName}
 use Rattle.malloc_calls.specs.declared.reply.Reply.{Reply}
 use Rattle.malloc_calls.specs.declared.reply.Origin.TheVariants.{Cached}
 use Rattle.malloc_calls.specs.declared.own.Own.{Own}
@@ -152,19 +153,19 @@ short_opened got z (Err e) c d = carries_then c d
 
 -- ---- a name gets it
 
-named_weight : (name : ℕ) (got : Option Supply) (names : List (Option Block)) (weigh : Block → ℕ) → name < length names → block_at names name ≡ None →
+named_weight : (name : ℕ) (got : Option Supply) (names : NameTable) (weigh : Block → ℕ) → has_place names name ≡ true → block_at names name ≡ None →
     in_names (names_with name got names) weigh ≡ weight_of (block_of got) weigh + in_names names weigh
 named_weight name None names weigh below empty = omega arith
 named_weight name (Some g) names weigh below empty = in_names-with name g.block names weigh below empty
 
 pub named_does : {P H D K : Type 0} {s : Setting P H D K} {t : Tunables} {who : Who} {nb : ℕ} {c : Call Supplied} {left : CacheValue} {o z : Standing P K}
-    (name : ℕ) (own : Own) (got : Option Supply) (reply : Reply) (names : List (Option Block)) →
+    (name : ℕ) (own : Own) (got : Option Supply) (reply : Reply) (names : NameTable) →
     Supplies s t who c nb own.cache o got left z → reply ≡ reply_of got → names ≡ names_with name got own.names →
     Does s t who (named name own c) o (reply, record { cache = left; names = names }) z
 named_does name own got reply names h e n = rw (e, n) (does_last (answer_with name own) h.does)
 
 pub named_carries : {P H D K : Type 0} {s : Setting P H D K} {t : Tunables} {who : Who} {nb : ℕ} {c : Call Supplied} {left : CacheValue} {o z : Standing P K}
-    (name : ℕ) (own : Own) (got : Option Supply) (names : List (Option Block)) → SameLaw s.ways → name < length own.names → block_at own.names name ≡ None →
+    (name : ℕ) (own : Own) (got : Option Supply) (names : NameTable) → SameLaw s.ways → has_place own.names name ≡ true → block_at own.names name ≡ None →
     Supplies s t who c nb own.cache o got left z → names ≡ names_with name got own.names →
     Carries s.ways true (in_own own) o (in_own (record { cache = left; names = names })) z
 named_carries {left = left} name own got names same below empty h e =
@@ -172,12 +173,28 @@ named_carries {left = left} name own got names same below empty h e =
     (λ w. rw e (omega (arith, named_weight name got own.names w below empty)))
     (carries_beside same (in_names own.names) h.carries)
 
+-- what is true of a block that is got is true of the one that the name then has
+pub named_is : (P : Block → Type 0) (name : ℕ) (got : Option Supply) (names now : NameTable) → has_place names name ≡ true → block_at names name ≡ None →
+    now ≡ names_with name got names → IfSome got (λ g. P g.block) → (b : Block) → block_at now name ≡ Some b → P b
+named_is P name None names now room empty put h b is =
+    let no : None ≡ Some b = sym empty ∙ (ap (λ (x : NameTable). block_at x name) (sym put) ∙ is) in
+    absurd cc
+named_is P name (Some g) names now room empty put h b is =
+    let here : Some g.block ≡ Some b = sym (at_same name (Some g.block) names room) ∙ (ap (λ (x : NameTable). block_at x name) (sym put) ∙ is) in
+    let same : g.block ≡ b = cc in
+    subst P same h
+
 -- ---- what a name has is large enough
 
 pub padded_is : (size nb : ℕ) → padded_request size ≡ Some nb → nb ≡ chunk_size_of size
 padded_is size nb e =
     let cases : (v : Bool) → cond v None (Some (chunk_size_of size)) ≡ Some nb → nb ≡ chunk_size_of size = elim [ true ↦ λ h. absurd cc | false ↦ λ h. cc ] in
     cases _ e
+
+pub named_fits : (r nb name : ℕ) (got : Option Supply) (names now : NameTable) → padded_request r ≡ Some nb → has_place names name ≡ true → block_at names name ≡ None →
+    now ≡ names_with name got names → IfSome got (λ g. need_of g.block.arena nb ≤ g.block.size) → FitsName (chunk_size_of r) name now
+named_fits r nb name got names now size room empty put h =
+    subst (λ n. FitsName n name now) (padded_is r nb size) (named_is (λ b. need_of b.arena nb ≤ b.size) name got names now room empty put h)
 
 -- such a request has at most so many bytes
 pub padded_small : (size nb : ℕ) → padded_request size ≡ Some nb → size ≤ 2 ^ 63 - 1

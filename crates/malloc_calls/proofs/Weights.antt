@@ -2,39 +2,33 @@
 use Rattle.std.proofs.Common.{◌≡◌, ℕ, zero, suc, ◌+◌, ◌<◌, Bool, true, false, ◌&&◌, List, [], ◌∷◌, Option, Some, None, length, get_or, cond, refl, ap, arith}
 use Rattle.std.specs.Prelude.{IfSome, IsTrue, is_some, nat_le}
 use Rattle.std.proofs.lemmas.List.{length-set}
-use Rattle.std.proofs.lemmas.List.Sums.{sum_by-set}
 use Rattle.chunk_tags.specs.Sizes.{max_cached, cache_index_of}
 use Rattle.chunk_tags.specs.declared.block.Block.{Block}
 use Rattle.list_laws.proofs.Sums.{sum_by-flat-less, sum_by-flat-more}
 use Rattle.thread_cache.specs.Caches.{CacheValue, is_open, opened, has_room, takes, newest, without_newest, with_newest}
 use Rattle.thread_cache.specs.Held.{IsSound}
 use Rattle.thread_cache.proofs.CacheLaws.{none_opened, HasRoomAt, room_at}
-use Rattle.malloc_calls.specs.Names.{block_at, with_block, without_block}
+use Rattle.malloc_calls.specs.Names.{NameTable, has_place, block_at, with_block, without_block}
 use Rattle.malloc_calls.specs.Own.{newest_of_size, without_newest_of}
 use Rattle.arena_holds.specs.Places.{weight_of, in_cache}
 use Rattle.malloc_calls.specs.Own.{in_names}
+use Rattle.malloc_calls.proofs.Tables.{set_weighs, place_of}
 
 -- ---- names
 
-pub in_names-with : (name : ℕ) (b : Block) (names : List (Option Block)) (weigh : Block → ℕ) → name < length names → block_at names name ≡ None →
+pub in_names-with : (name : ℕ) (b : Block) (names : NameTable) (weigh : Block → ℕ) → has_place names name ≡ true → block_at names name ≡ None →
     in_names (with_block name b names) weigh ≡ weigh b + in_names names weigh
-in_names-with name b names weigh below empty =
-    let e = sum_by-set (λ o. weight_of o weigh) names name (Some b) None below in
-    let z : weight_of (get_or names name None) weigh ≡ 0 = ap (λ (o : Option Block). weight_of o weigh) empty in
-    omega (arith, e, z)
+in_names-with name b names weigh room empty =
+    let f : Option Block → ℕ = λ o. weight_of o weigh in
+    let z : f (block_at names name) ≡ 0 = ap f empty in
+    omega (arith, set_weighs name (Some b) names f room, z)
 
--- a name that holds a block has a place
-pub below : (names : List (Option Block)) (name : ℕ) (b : Block) → block_at names name ≡ Some b → name < length names
-below [] name b e = absurd cc
-below (o ∷ os) zero b e = omega arith
-below (o ∷ os) (suc name) b e = omega (arith, below os name b e)
-
-pub in_names-without : (name : ℕ) (b : Block) (names : List (Option Block)) → block_at names name ≡ Some b → (weigh : Block → ℕ) →
+pub in_names-without : (name : ℕ) (b : Block) (names : NameTable) → block_at names name ≡ Some b → (weigh : Block → ℕ) →
     weigh b + in_names (without_block name names) weigh ≡ in_names names weigh
 in_names-without name b names at weigh =
-    let e = sum_by-set (λ o. weight_of o weigh) names name None None (below names name b at) in
-    let z : weight_of (get_or names name None) weigh ≡ weigh b = ap (λ (o : Option Block). weight_of o weigh) at in
-    omega (arith, e, z)
+    let f : Option Block → ℕ = λ o. weight_of o weigh in
+    let z : f (block_at names name) ≡ weigh b = ap f at in
+    omega (arith, set_weighs name None names f (place_of names name b at), z)
 
 -- ---- the cache
 

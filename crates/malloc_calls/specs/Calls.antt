@@ -10,7 +10,7 @@ use Rattle.arena_core.specs.declared.journal.Act.{Act}
 use Rattle.arena_core.specs.declared.journal.Act.TheVariants.{Take, Give}
 use Rattle.arena_holds.specs.Calls.{Call, Done, Pushes, then_call, hold_of}
 use Rattle.arena_holds.specs.Searching.{Searched, search}
-use Rattle.malloc_calls.specs.Names.{block_at, with_block}
+use Rattle.malloc_calls.specs.Names.{NameTable, block_at, with_block}
 use Rattle.malloc_calls.specs.Own.{newest_of_size, without_newest_of}
 use Rattle.malloc_calls.specs.declared.own.Own.{Own}
 use Rattle.malloc_calls.specs.declared.reply.Reply.{Reply}
@@ -86,7 +86,7 @@ abbrev pub reply_of : Option Supply → Reply
 reply_of None = Null Refused
 reply_of (Some s) = Got s.block.addr s.block.size s.from
 
-abbrev pub names_with : ℕ → Option Supply → List (Option Block) → List (Option Block)
+abbrev pub names_with : ℕ → Option Supply → NameTable → NameTable
 names_with name None names = names
 names_with name (Some s) names = with_block name s.block names
 
@@ -112,7 +112,7 @@ releasing t a b cache = if takes cache b then Done (sinks.Cached, with_newest ca
 -- ---- what is promised of a name
 
 -- the block that a name has, if any, is large enough for a chunk of nb bytes: a mapped one has 8 more
-abbrev pub FitsName : ℕ → ℕ → List (Option Block) → Type 0
+abbrev pub FitsName : ℕ → ℕ → NameTable → Type 0
 FitsName nb name names = (b : Block) → block_at names name ≡ Some b → need_of b.arena nb ≤ b.size
 
 -- After want of memory: the name has the block that it had, or another that is so large.

@@ -9,7 +9,7 @@ use Rattle.arena_rules.specs.Rules.{windows_of}
 use Rattle.arena_holds.specs.Calls.{Call}
 use Rattle.serial_places.specs.SerialWays.{SerialWorld, first_world, played_call}
 use Rattle.serial_places.specs.declared.tray.Tray.TheVariants.{Empty}
-use Rattle.malloc_calls.specs.Names.{with_places_to}
+use Rattle.malloc_calls.specs.Names.{no_names, with_place}
 use Rattle.malloc_calls.specs.Own.{new_own}
 use Rattle.malloc_calls.specs.declared.own.Own.{Own}
 use Rattle.malloc_calls.specs.declared.reply.Reply.{Reply}
@@ -37,7 +37,7 @@ pub record Actor : Type 0 where
   pub space : Space (Unit {0})
 
 abbrev pub first_actor : ℕ → Actor
-first_actor thread = record { own = record new_own { names = with_places_to 4 [] }; space = space_at_first thread }
+first_actor thread = record { own = record new_own { names = with_place 4 no_names }; space = space_at_first thread }
 
 abbrev pub actor_in : List Actor → ℕ → Actor
 actor_in actors thread = slice_index_or actors thread (first_actor thread)

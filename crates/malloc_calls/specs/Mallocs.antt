@@ -10,7 +10,7 @@ use Rattle.arena_core.specs.Replay.{has_lead_in_range}
 use Rattle.arena_core.specs.declared.journal.Act.TheVariants.{Align}
 use Rattle.arena_holds.specs.Calls.{Call, Done}
 use Rattle.malloc_calls.specs.Calls.{from_arena, plain_supply, fresh_supply, named}
-use Rattle.malloc_calls.specs.Names.{block_at}
+use Rattle.malloc_calls.specs.Names.{NameTable, block_at}
 use Rattle.malloc_calls.specs.declared.own.Own.{Own}
 use Rattle.malloc_calls.specs.declared.reply.Reply.{Reply}
 use Rattle.malloc_calls.specs.declared.reply.Reply.TheVariants.{Null}
@@ -59,5 +59,5 @@ abbrev pub posix_memalign_call : Tunables → ℕ → ℕ → ℕ → ℕ → Ow
 posix_memalign_call t thread name align size own = padded_memalign t thread name align size (padded_request size) own
 
 -- the user address of the block that a name has, if any, is a multiple
-abbrev pub IsAlignedName : ℕ → ℕ → List (Option Block) → Type 0
+abbrev pub IsAlignedName : ℕ → ℕ → NameTable → Type 0
 IsAlignedName align name names = (b : Block) → block_at names name ≡ Some b → user_address b.addr % align ≡ 0

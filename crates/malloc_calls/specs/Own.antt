@@ -1,6 +1,6 @@
 -- What a thread has of its own: its cache, glibc 2.31 malloc/malloc.c's tcache, and its blocks by name; and the calls
 -- that need no more, as in __libc_malloc and _int_free.
-use Rattle.std.specs.Prelude.{◌≡◌, ℕ, ◌+◌, nat_le, List, [], Option, Some, None, sum_by, if◌then◌else◌}
+use Rattle.std.specs.Prelude.{◌≡◌, ℕ, ◌+◌, nat_le, Option, Some, None, if◌then◌else◌}
 use Rattle.std.specs.Option.{option_and_then}
 use Rattle.chunk_tags.specs.Sizes.{padded_request, max_cached, cache_index_of}
 use Rattle.chunk_tags.specs.declared.block.Block.{Block}
@@ -8,7 +8,7 @@ use Rattle.address_space.specs.declared.space.Space.{Space}
 use Rattle.arena_core.specs.declared.journal.Who.{Who}
 use Rattle.thread_cache.specs.Caches.{CacheValue, newest, without_newest, with_newest, takes}
 use Rattle.arena_holds.specs.Places.{Hands, weight_of, in_cache}
-use Rattle.malloc_calls.specs.Names.{block_at, with_block, without_block}
+use Rattle.malloc_calls.specs.Names.{NameTable, no_names, block_at, with_block, without_block, weight_in}
 use Rattle.malloc_calls.specs.declared.own.Own.{Own}
 use Rattle.malloc_calls.specs.declared.thread.Thread.{Thread}
 use Rattle.malloc_calls.specs.declared.cached.CachedFree.{CachedFree}
@@ -17,7 +17,7 @@ use Rattle.malloc_calls.specs.declared.cached.CachedFree.TheVariants.{Done, NotY
 abbrev pub own_of : {K : Type 0} → Thread K → Own
 own_of th = th.own
 
-abbrev pub names_of : {K : Type 0} → Thread K → List (Option Block)
+abbrev pub names_of : {K : Type 0} → Thread K → NameTable
 names_of th = th.own.names
 
 abbrev pub number_of : {K : Type 0} → Thread K → ℕ
@@ -39,12 +39,12 @@ IsSpaceOf number space = space.thread ≡ number
 abbrev pub with_own : {K : Type 0} → Own → Thread K → Thread K
 with_own own th = record th { own = own }
 
-abbrev pub with_names : {K : Type 0} → List (Option Block) → Thread K → Thread K
+abbrev pub with_names : {K : Type 0} → NameTable → Thread K → Thread K
 with_names names th = record th { own = record (own_of th) { names = names } }
 
 -- a closed cache and no blocks
 abbrev pub new_own : Own
-new_own = record { cache = None; names = [] }
+new_own = record { cache = None; names = no_names }
 
 -- a thread that begins
 abbrev pub new_thread : {K : Type 0} → ℕ → Space K → Thread K
@@ -53,8 +53,8 @@ new_thread number space = record { number = number; own = new_own; space = space
 -- ---- its blocks in hands
 
 -- the blocks that have names
-abbrev pub in_names : List (Option Block) → Hands
-in_names names weigh = sum_by (λ o. weight_of o weigh) names
+abbrev pub in_names : NameTable → Hands
+in_names names weigh = weight_in names (λ o. weight_of o weigh)
 
 -- the blocks of a thread
 abbrev pub in_own : Own → Hands

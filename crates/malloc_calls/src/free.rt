@@ -1,10 +1,10 @@
 //! free.
 
-ghost use Rattle.std.specs.Prelude.{◌≡◌, ℕ, ◌<◌, true, nat_le, Some, None, Ok, IsSome, IfSome, IfOk, OnOk, OnErr, is_ok, length};
+ghost use Rattle.std.specs.Prelude.{◌≡◌, ℕ, ◌<◌, true, nat_le, Some, None, Ok, IsSome, IfSome, IfOk, OnOk, OnErr, is_ok, length, ◌⊎◌, IsTrue};
 ghost use Rattle.chunk_tags.specs.Tunables.{IsTuned};
 ghost use Rattle.consolidate_trim.specs.Outside.{means};
 ghost use Rattle.arena_holds.specs.Blocks.{IsHeld};
-ghost use Rattle.malloc_calls.specs.Names.{block_at, with_some, without_block};
+ghost use Rattle.malloc_calls.specs.Names.{block_at, with_some, without_block, has_place};
 ghost use Rattle.malloc_calls.specs.Frees.{free_call, free_to, IsFreed, HoldsOrLoses};
 ghost use Rattle.malloc_calls.specs.declared.cached.CachedFree.TheVariants.{Done};
 ghost use Rattle.thread_cache.specs.Caches.{takes, is_open};
@@ -28,7 +28,7 @@ use std::alloc::Global;
 
 /// Gives a block that came back its name, where there is one.
 fn put_back(names: &mut Names, name: u32, back: Option<Block>)
-    requires room { name < length names.old }
+    requires room { IsTrue (has_place names.old name) }
     requires empty { block_at names.old name ≡ None }
     requires held { IfSome back IsHeld }
     ensures { names.new ≡ with_some name back names.old }
@@ -39,6 +39,7 @@ fn put_back(names: &mut Names, name: u32, back: Option<Block>)
 }
 
 /// Releases a name's block, which is of an arena. Where memory is short the name holds it again, or the arena has it.
+#[tactic(auto, using(crate::proofs::Tables::place_left, crate::proofs::Tables::without_none))]
 fn free_chunk<P: Places, K: Kernel>(
     own: &mut Own,
     alloc: Global,

@@ -1,13 +1,13 @@
 //! Blocks go from one thread to another by trays.
 
-ghost use Rattle.std.specs.Prelude.{◌≡◌, ◌<◌, false, None, Some, IfSome, length};
+ghost use Rattle.std.specs.Prelude.{◌≡◌, ◌<◌, false, None, Some, IfSome, length, IsTrue};
 ghost use Rattle.chunk_tags.specs.declared.tunables.Tunables.{Tunables};
 ghost use Rattle.arena_core.specs.declared.journal.Who.{Who};
 ghost use Rattle.consolidate_trim.specs.Outside.{means};
 ghost use Rattle.arena_holds.specs.Going.{Does};
 ghost use Rattle.arena_holds.specs.Places.{setting, standing};
 ghost use Rattle.arena_holds.specs.Returning.{IsUnseen};
-ghost use Rattle.malloc_calls.specs.Names.{block_at};
+ghost use Rattle.malloc_calls.specs.Names.{has_place, block_at};
 ghost use Rattle.malloc_calls.specs.Own.{in_own, own_of, names_of, number_of, space_of};
 ghost use Rattle.malloc_calls.specs.Trays.{post_call, take_call};
 ghost use Rattle.malloc_calls.specs.declared.reply.Reply.TheVariants.{NotYours};
@@ -20,6 +20,7 @@ use arena_holds::Places;
 impl<K: Kernel> Thread<K> {
     /// Posts a name's block to a tray. `NotYours` exactly where the name holds nothing; `Missed` where the tray isn't empty, and
     /// then the name keeps its block.
+    #[tactic(auto, using(crate::proofs::Tables::place_left, crate::proofs::Tables::without_none))]
     pub fn post<P: Places>(&mut self, p: &mut P, name: u32, tray: u32) -> Reply
         requires tray { tray < 65536 }
         requires served { P.ways.serves false p.old (in_own (own_of self.old)) }
@@ -48,7 +49,7 @@ impl<K: Kernel> Thread<K> {
 
     /// Takes a tray's block under a name that holds nothing. `Missed` where the tray has none.
     pub fn take<P: Places>(&mut self, p: &mut P, name: u32, tray: u32) -> Reply
-        requires room { name < length (names_of self.old) }
+        requires room { IsTrue (has_place (names_of self.old) name) }
         requires empty { block_at (names_of self.old) name ≡ None }
         requires tray { tray < 65536 }
         ensures does { (t : Tunables) (who : Who) →

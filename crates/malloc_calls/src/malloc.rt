@@ -1,6 +1,6 @@
 //! The calls that give a name a block: malloc, calloc, posix_memalign.
 
-ghost use Rattle.std.specs.Prelude.{◌≡◌, ◌*◌, ◌<◌, ◌≤◌, ◌^◌, ◌+◌, ◌-◌, None, Ok, IfOk, OnErr, IsSome, IfSome, is_ok, length, true, false};
+ghost use Rattle.std.specs.Prelude.{◌≡◌, ◌*◌, ◌<◌, ◌≤◌, ◌^◌, ◌+◌, ◌-◌, None, Ok, IfOk, OnErr, IsSome, IfSome, is_ok, length, true, false, IsTrue};
 ghost use Rattle.chunk_tags.specs.Sizes.{chunk_size_of, padded_request};
 ghost use Rattle.chunk_tags.specs.Tunables.{IsTuned};
 ghost use Rattle.address_space.specs.Ports.{Rose};
@@ -8,7 +8,7 @@ ghost use Rattle.address_space.specs.Spaces.{space_refusals};
 ghost use Rattle.arena_core.specs.Replay.{has_lead_in_range};
 ghost use Rattle.consolidate_trim.specs.Outside.{means};
 ghost use Rattle.arena_holds.specs.Blocks.{IsHeld};
-ghost use Rattle.malloc_calls.specs.Names.{block_at};
+ghost use Rattle.malloc_calls.specs.Names.{has_place, block_at};
 ghost use Rattle.malloc_calls.specs.Calls.{FitsName, reply_of, names_with};
 ghost use Rattle.malloc_calls.specs.Mallocs.{malloc_call, calloc_call, posix_memalign_call, is_memalign, IsAlignedName};
 ghost use Rattle.malloc_calls.specs.declared.reply.Reply.TheVariants.{Null};
@@ -53,7 +53,7 @@ fn has_lead_in_range(align: u64, nb: Size) -> bool
 
 /// Gives what was got a name, where there is a block, and answers so.
 pub fn answer(names: &mut Names, name: u32, got: Option<Supply>) -> Reply
-    requires room { name < length names.old }
+    requires room { IsTrue (has_place names.old name) }
     requires empty { block_at names.old name ≡ None }
     requires held { IfSome got (λ g. IsHeld g.block) }
     ensures reply { result ≡ reply_of got }
@@ -85,7 +85,7 @@ pub fn malloc<P: Places, K: Kernel>(
     space: &mut Space<K>,
     t: &Tunables,
 ) -> Result<Reply, NoMemory>
-    requires room { name < length own.old.names }
+    requires room { IsTrue (has_place own.old.names name) }
     requires empty { block_at own.old.names name ≡ None }
     requires tuned { IsTuned t.now }
     requires served { IsServed P.ways t.now (in_own own.old) (standing p.old space.old) }
@@ -122,7 +122,7 @@ pub fn calloc<P: Places, K: Kernel>(
     space: &mut Space<K>,
     t: &Tunables,
 ) -> Result<Reply, NoMemory>
-    requires room { name < length own.old.names }
+    requires room { IsTrue (has_place own.old.names name) }
     requires empty { block_at own.old.names name ≡ None }
     requires tuned { IsTuned t.now }
     requires served { IsServed P.ways t.now (in_own own.old) (standing p.old space.old) }
@@ -159,7 +159,7 @@ pub fn posix_memalign<P: Places, K: Kernel>(
     space: &mut Space<K>,
     t: &Tunables,
 ) -> Result<Reply, NoMemory>
-    requires room { name < length own.old.names }
+    requires room { IsTrue (has_place own.old.names name) }
     requires empty { block_at own.old.names name ≡ None }
     requires tuned { IsTuned t.now }
     requires served { IsServed P.ways t.now (in_own own.old) (standing p.old space.old) }

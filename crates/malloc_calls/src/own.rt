@@ -1,10 +1,10 @@
 //! What a thread has of its own.
 
-ghost use Rattle.std.specs.Prelude.{◌≡◌, ◌<◌, None, IsSome, IfSome, IfNone, length};
+ghost use Rattle.std.specs.Prelude.{◌≡◌, ◌<◌, None, IsSome, IfSome, IfNone, length, IsTrue};
 ghost use Rattle.std.specs.Option.{option_map};
 ghost use Rattle.chunk_tags.specs.Sizes.{IsChunkSize, chunk_size_of};
 ghost use Rattle.malloc_calls.specs.Calls.{FitsName};
-ghost use Rattle.malloc_calls.specs.Names.{block_at};
+ghost use Rattle.malloc_calls.specs.Names.{has_place, block_at};
 ghost use Rattle.arena_holds.specs.Blocks.{IsHeld};
 ghost use Rattle.malloc_calls.specs.Own.{new_own, newest_of_size, without_newest_of, cached_for, cached_malloc_of, cached_end, cached_free_of};
 
@@ -50,8 +50,9 @@ impl Own {
     }
 
     /// malloc, where the cache has a chunk for it; else nothing changes.
+    #[tactic(auto, using(crate::proofs::Tables::at_same))]
     pub fn cached_malloc(&mut self, name: u32, size: u64) -> Option<Addr>
-        requires room { name < length self.old.names }
+        requires room { IsTrue (has_place self.old.names name) }
         requires empty { block_at self.old.names name ≡ None }
         ensures addr { result ≡ option_map (λ b. b.addr) (cached_for size self.old.cache) }
         ensures own { self.new ≡ cached_malloc_of name size self.old }
@@ -64,7 +65,7 @@ impl Own {
     }
 
     /// free, where the cache takes the block; else nothing changes.
-    #[tactic(auto, using(crate::proofs::Put::put_back))]
+    #[tactic(auto, using(crate::proofs::Tables::put_back, crate::proofs::Tables::place_left, crate::proofs::Tables::without_none, crate::proofs::Tables::nothing_taken))]
     pub fn cached_free(&mut self, name: u32) -> CachedFree
         ensures end { result ≡ cached_end self.old (block_at self.old.names name) }
         ensures own { self.new ≡ cached_free_of name self.old }

@@ -360,6 +360,7 @@ fn realloc_block<P: Places, K: Kernel>(
 }
 
 /// realloc of a name's block to a size that is neither 0 nor too big.
+#[tactic(auto, using(crate::proofs::Tables::at_same, crate::proofs::Tables::at_other, crate::proofs::Tables::place_left, crate::proofs::Tables::without_none))]
 fn realloc_name<P: Places, K: Kernel>(
     own: &mut Own,
     alloc: Global,

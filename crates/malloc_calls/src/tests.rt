@@ -11,12 +11,13 @@ use std::test::Fail;
 #[test]
 fn names_have_places(rt: HostRuntime) -> Result<(), Fail> {
     let mut names = Names::new(rt.alloc());
-    assert_eq!(rt; names.room(), 0);
+    assert!(rt; !names.has_room(0));
     assert!(rt; names.get(0).is_none());
     names.ready(2)?;
-    assert_eq!(rt; names.room(), 3);
+    assert!(rt; names.has_room(1) && names.has_room(2));
+    assert!(rt; !names.has_room(3));
     names.ready(1)?;
-    assert_eq!(rt; names.room(), 3);
+    assert!(rt; !names.has_room(3));
     assert!(rt; names.get(2).is_none());
     assert!(rt; names.take(2).is_none());
     Ok(())
@@ -49,14 +50,14 @@ fn own_with_places(alloc: Global) -> Result<Own, Fail> {
 fn give(names: &mut Names, name: u32, block: Block)
     requires { IsHeld block }
 {
-    if name < names.room() && names.get(name).is_none() {
+    if names.has_room(name) && names.get(name).is_none() {
         names.put(name, block);
     }
 }
 
 /// malloc from the cache alone, where the name has a place and holds nothing.
 fn malloc_cached(own: &mut Own, name: u32, size: u64) -> Option<Addr> {
-    if name < own.names.room() && own.names.get(name).is_none() {
+    if own.names.has_room(name) && own.names.get(name).is_none() {
         own.cached_malloc(name, size)
     } else {
         None
@@ -91,9 +92,9 @@ fn blocks_change_threads(rt: HostRuntime) -> Result<(), Fail> {
     };
     let mut thread = Thread::new(rt.alloc(), 1, Space::new(Always, 1, windows));
     thread.ready(0)?;
-    assert_eq!(rt; thread.room(), 1);
+    assert!(rt; thread.has_room(0) && !thread.has_room(1));
     assert!(rt; thread.hand_out(0).is_none());
-    if thread.room() > 0 && thread.block(0).is_none() {
+    if thread.has_room(0) && thread.block(0).is_none() {
         thread.hand_in(0, chunk(0x5555_5555_9290, 32));
     }
     assert_eq!(rt; thread.cached_free(0), CachedFree::NoRoom);

@@ -1,6 +1,6 @@
 //! A thread, and its calls.
 
-ghost use Rattle.std.specs.Prelude.{◌≡◌, ℕ, true, false, ◌*◌, ◌-◌, ◌^◌, ◌<◌, ◌≤◌, nat_le, IsSome, None, Some, Ok, IsTrue, IfSome, IfOk, OnOk, OnErr, is_ok, option_copied, length};
+ghost use Rattle.std.specs.Prelude.{◌≡◌, ℕ, true, false, ◌*◌, ◌-◌, ◌^◌, ◌<◌, ◌≤◌, nat_le, IsSome, None, Some, Ok, IsTrue, IfSome, IfOk, OnOk, OnErr, is_ok, option_copied, length, ◌⊎◌, slice_index_or};
 ghost use Rattle.std.specs.Option.{option_map};
 ghost use Rattle.chunk_tags.specs.Sizes.{chunk_size_of, padded_request};
 ghost use Rattle.chunk_tags.specs.declared.block.Block.{Block as Piece};
@@ -22,7 +22,7 @@ ghost use Rattle.malloc_calls.specs.declared.reply.Why.TheVariants.{Big, Align, 
 ghost use Rattle.arena_holds.specs.Going.{Does};
 ghost use Rattle.arena_holds.specs.Places.{setting, IsServed, Carries, standing};
 ghost use Rattle.malloc_calls.specs.Own.{in_own};
-ghost use Rattle.malloc_calls.specs.Names.{block_at, with_places_to, with_block, without_block, IsTable};
+ghost use Rattle.malloc_calls.specs.Names.{has_place, block_at, with_place, with_block, without_block, IsTable};
 ghost use Rattle.arena_holds.specs.Blocks.{IsHeld};
 ghost use Rattle.malloc_calls.specs.Own.{new_thread, number_of, who_of, own_of, with_own, with_names, names_of, space_of, IsSpaceOf, cached_for, cached_malloc_of, cached_end, cached_free_of};
 
@@ -38,6 +38,7 @@ use arena_core::Who;
 use arena_holds::Places;
 use chunk_tags::{Addr, Block, NoMemory, Tunables};
 use std::alloc::Global;
+use std::collections::BTreeMap;
 use thread_cache::Cache;
 
 /// A thread of a trace: its number, its cache, its blocks by name, and its address space.
@@ -61,21 +62,42 @@ impl<K: Kernel> Thread<K> {
         }
     }
 
-    /// Makes room for the names up to one. After `NoMemory` nothing changed.
+    /// Makes a place for a name. Memory is wanted only where the name has none; after `NoMemory` nothing changed.
     pub fn ready(&mut self, name: u32) -> Result<(), NoMemory>
-        requires { name < 2 ^ 32 - 1 }
         ensures ok { OnOk result
-            (self.new ≡ with_names (with_places_to name (names_of self.old)) self.old) }
+            (self.new ≡ with_names (with_place name (names_of self.old)) self.old) }
         ensures err { OnErr result (self.new ≡ self.old) }
+        ensures full { OnErr result (has_place (names_of self.old) name ≡ false) }
     {
         self.own.names.ready(name)
     }
 
-    /// How many names there is room for: those below this.
-    pub fn room(&self) -> u32
-        ensures { result ≡ length (names_of self.now) }
+    /// Whether a name has a place: whether it was made ready.
+    pub fn has_room(&self, name: u32) -> bool
+        ensures { result ≡ has_place (names_of self.now) name }
     {
-        self.own.names.room()
+        self.own.names.has_room(name)
+    }
+
+    /// How many names have their places in the row: those below this.
+    pub fn row(&self) -> u32
+        ensures { result ≡ length (names_of self.now).near }
+    {
+        self.own.names.row()
+    }
+
+    /// The block of a name in the row.
+    pub fn in_row(&self, name: u32) -> Option<&Block>
+        ensures { option_copied result ≡ slice_index_or (names_of self.now).near name None }
+    {
+        self.own.names.in_row(name)
+    }
+
+    /// The places of the names from 65,536 on, by name.
+    pub fn far(&self) -> &BTreeMap<u32, Option<Block>, Global>
+        ensures { result.now.entries ≡ (names_of self.now).far }
+    {
+        self.own.names.far()
     }
 
     /// The block of a name. `None` exactly where the name holds nothing.
@@ -105,7 +127,7 @@ impl<K: Kernel> Thread<K> {
     /// malloc, where the cache has a chunk for it. `None` exactly where the size is past `MAX_REQUEST`, its chunk is too large
     /// for the cache, or that list is empty; then nothing changed.
     pub fn cached_malloc(&mut self, name: u32, size: u64) -> Option<Addr>
-        requires room { name < length (names_of self.old) }
+        requires room { IsTrue (has_place (names_of self.old) name) }
         requires empty { block_at (names_of self.old) name ≡ None }
         ensures addr { result ≡ option_map (λ b. b.addr) (cached_for size (own_of self.old).cache) }
         ensures own { self.new ≡ with_own (cached_malloc_of name size (own_of self.old)) self.old }
@@ -134,7 +156,7 @@ impl<K: Kernel> Thread<K> {
 
     /// Gives a block of another thread a name, which holds nothing.
     pub fn hand_in(&mut self, name: u32, block: Block)
-        requires room { name < length (names_of self.old) }
+        requires room { IsTrue (has_place (names_of self.old) name) }
         requires empty { block_at (names_of self.old) name ≡ None }
         requires held { IsHeld block }
         ensures { self.new ≡ with_names (with_block name block (names_of self.old)) self.old }
@@ -162,7 +184,7 @@ impl<K: Kernel> Thread<K> {
         size: u64,
         t: &Tunables,
     ) -> Result<Reply, NoMemory>
-        requires room { name < length (names_of self.old) }
+        requires room { IsTrue (has_place (names_of self.old) name) }
         requires empty { block_at (names_of self.old) name ≡ None }
         requires tuned { IsTuned t.now }
         requires served { IsServed P.ways t.now (in_own (own_of self.old))
@@ -213,7 +235,7 @@ impl<K: Kernel> Thread<K> {
         size: u64,
         t: &Tunables,
     ) -> Result<Reply, NoMemory>
-        requires room { name < length (names_of self.old) }
+        requires room { IsTrue (has_place (names_of self.old) name) }
         requires empty { block_at (names_of self.old) name ≡ None }
         requires tuned { IsTuned t.now }
         requires served { IsServed P.ways t.now (in_own (own_of self.old))
@@ -266,7 +288,7 @@ impl<K: Kernel> Thread<K> {
         size: u64,
         t: &Tunables,
     ) -> Result<Reply, NoMemory>
-        requires room { name < length (names_of self.old) }
+        requires room { IsTrue (has_place (names_of self.old) name) }
         requires empty { block_at (names_of self.old) name ≡ None }
         requires tuned { IsTuned t.now }
         requires served { IsServed P.ways t.now (in_own (own_of self.old))

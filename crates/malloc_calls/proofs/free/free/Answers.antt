@@ -1,3 +1,4 @@
+use Rattle.malloc_calls.proofs.Tables.{nothing_taken}
 use Rattle.std.proofs.Common.{◌≡◌, ◌∙◌, Some, refl, ap, sym, arith}
 use Rattle.chunk_tags.specs.declared.block.Block.{Block}
 use Rattle.malloc_calls.specs.Names.{block_at}
@@ -60,3 +61,6 @@ returns-in_ok-open_cache-in-Some-arena-clause-does g c =
     let at : block_at c.args.own.now.names c.args.name ≡ Some c.in-Some.named.now = sym c.in-Some.ensures.block in
     free_does _ _ _ _ _ _ c.args.who.now.thread c.in-Some-arena.a c.args.name c.in-Some.named.now c.args.own.now c.open_cache.new.cache c.free_chunk.result
     c.free_chunk.new.own at c.in-Some-arena.is c.in_ok-open_cache-in-Some-arena.ensures.does c.free_chunk.ensures.does
+
+pub returns-in_default-clause-taken : goal.returns-in_default-clause-taken
+returns-in_default-clause-taken g c = sym (nothing_taken c.args.name c.args.own.now.names (sym c.in_default.ensures.block))

@@ -2,7 +2,7 @@ use Rattle.std.proofs.Common.{◌*◌, sym, ◌∙◌, arith}
 use Rattle.malloc_calls.proofs.Calling.{carries_cache}
 use Rattle.arena_holds.proofs.Carrying.{carries_err}
 use Rattle.arena_holds.proofs.Going.{does_here}
-use Rattle.malloc_calls.proofs.Supplies.{named_does, named_carries, padded_small}
+use Rattle.malloc_calls.proofs.Supplies.{named_does, named_carries, padded_small, named_fits}
 use Rattle.malloc_calls.proofs.malloc.calloc.Goals as goal
 
 pub returns-in_default-clause-does : goal.returns-in_default-clause-does
@@ -28,3 +28,8 @@ overflow_mul-n g c = omega (arith, padded_small (c.args.n * c.args.size) _ (sym 
 
 pub fresh_supply-requires-clause-bytes : goal.fresh_supply-requires-clause-bytes
 fresh_supply-requires-clause-bytes g c = omega (arith, padded_small (c.args.n * c.args.size) _ (sym c.product_size.ensures ∙ c.in-Some.is))
+
+pub returns-clause-fits : goal.returns-clause-fits
+returns-clause-fits g c =
+    named_fits (c.args.n * c.args.size) _ c.args.name c.in_ok-got.got c.args.own.now.names c.answer.new.names (sym c.product_size.ensures ∙ c.in-Some.is) c.requires.room
+    c.requires.empty c.answer.ensures.names c.in_ok-got.ensures.supplies.fits

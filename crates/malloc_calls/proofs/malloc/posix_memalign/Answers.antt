@@ -1,4 +1,6 @@
-use Rattle.std.proofs.Common.{◌≡◌, ◌-◌, ◌^◌, true, false, sym, ◌∙◌, arith}
+use Rattle.chunk_tags.specs.declared.block.Block.{Block}
+use Rattle.chunk_tags.specs.Pages.{user_address}
+use Rattle.std.proofs.Common.{◌≡◌, ◌-◌, ◌^◌, true, false, sym, ◌∙◌, arith, ◌%◌}
 use Rattle.std.proofs.lemmas.Bool.{leb-true}
 use Rattle.std.proofs.lemmas.Bool.Decides.{nat_tests}
 use Rattle.std.specs.Prelude.{nat_le}
@@ -6,7 +8,7 @@ use Rattle.arena_rules.specs.Align.{request_with_lead}
 use Rattle.malloc_calls.proofs.Calling.{carries_cache}
 use Rattle.arena_holds.proofs.Carrying.{carries_err}
 use Rattle.arena_holds.proofs.Going.{does_here}
-use Rattle.malloc_calls.proofs.Supplies.{named_does, named_carries, is_alignment, padded_chunk}
+use Rattle.malloc_calls.proofs.Supplies.{named_does, named_carries, is_alignment, padded_chunk, named_fits, named_is}
 use Rattle.malloc_calls.proofs.malloc.posix_memalign.Goals as goal
 
 pub returns-in_default-clause-does : goal.returns-in_default-clause-does
@@ -61,3 +63,18 @@ pub returns-clause-carries : goal.returns-clause-carries
 returns-clause-carries g c =
     named_carries c.args.name c.args.own.now c.in_ok-got-2.got c.answer-2.new.names g.met.P.Places.laws.same c.requires.room c.requires.empty
     c.in_ok-got-2.ensures.supplies c.answer-2.ensures.names
+
+pub returns-then-align-le-LEAST_ALIGNMENT-clause-fits : goal.returns-then-align-le-LEAST_ALIGNMENT-clause-fits
+returns-then-align-le-LEAST_ALIGNMENT-clause-fits g c =
+    named_fits c.args.size _ c.args.name c.in_ok-got.got c.args.own.now.names c.answer.new.names (sym c.request_size.ensures ∙ c.in-Some.is) c.requires.room c.requires.empty
+    c.answer.ensures.names c.in_ok-got.ensures.supplies.fits
+
+pub returns-clause-fits : goal.returns-clause-fits
+returns-clause-fits g c =
+    named_fits c.args.size _ c.args.name c.in_ok-got-2.got c.args.own.now.names c.answer-2.new.names (sym c.request_size.ensures ∙ c.in-Some.is) c.requires.room c.requires.empty
+    c.answer-2.ensures.names c.in_ok-got-2.ensures.supplies.fits
+
+pub returns-clause-aligned : goal.returns-clause-aligned
+returns-clause-aligned g c = λ high.
+    named_is (λ (b : Block). user_address b.addr % c.args.align ≡ 0) c.args.name c.in_ok-got-2.got c.args.own.now.names c.answer-2.new.names c.requires.room c.requires.empty
+    c.answer-2.ensures.names c.in_ok-got-2.ensures.aligned

@@ -4,7 +4,7 @@ use Rattle.arena_holds.specs.Places.{both_of, in_cache}
 use Rattle.malloc_calls.specs.Reallocs.{realloc_in}
 use Rattle.malloc_calls.proofs.Calling.{own_unnamed, carries_renamed}
 use Rattle.arena_holds.proofs.Carrying.{served_fewer}
-use Rattle.malloc_calls.proofs.Resettlings.{settled_does, holds_still}
+use Rattle.malloc_calls.proofs.Resettlings.{settled_does, holds_still, settled_fits}
 use Rattle.malloc_calls.proofs.realloc.realloc_name.Goals as goal
 
 pub realloc_block-requires-clause-served : goal.realloc_block-requires-clause-served
@@ -37,3 +37,9 @@ returns-in-Err-clause-back g c =
     let at : block_at c.args.own.now.names c.args.name ≡ Some c.unwrap-block.result = cc in
     holds_still c.args.nb c.args.name c.unwrap-block.result c.in-Err.block c.args.own.now.names c.take.new.self c.put-in-Err.new.self at c.take.ensures.rest c.put-in-Err.ensures
     c.in-Err.ensures.short.enough
+
+pub returns-in-Ok-clause-fits : goal.returns-in-Ok-clause-fits
+returns-in-Ok-clause-fits g c =
+    let at : block_at c.args.own.now.names c.args.name ≡ Some c.unwrap-block.result = cc in
+    settled_fits c.in-Ok.field-0.reply c.args.nb c.args.name c.unwrap-block.result c.in-Ok.field-0.block c.args.own.now.names c.take.new.self c.put.new.self at c.take.ensures.rest
+    c.put.ensures c.in-Ok.ensures.resettles.fits

@@ -1,4 +1,6 @@
-use Rattle.std.proofs.Common.{◌≡◌, Some, sym}
+use Rattle.malloc_calls.specs.Own.{in_own}
+use Rattle.malloc_calls.proofs.Weights.{in_names-without}
+use Rattle.std.proofs.Common.{◌≡◌, Some, sym, arith}
 use Rattle.malloc_calls.specs.Names.{block_at}
 use Rattle.arena_holds.proofs.Going.{does_here}
 use Rattle.malloc_calls.proofs.Handovers.{kept_names, post_does, post_unseen, full_does, full_unseen}
@@ -34,3 +36,10 @@ returns-in-Err-clause-unseen g c =
     c.take.ensures.rest
     (kept_names c.args.name c.unwrap-block.result c.in-Err.full.block own.names c.take.new.self c.put.new.self at c.take.ensures.rest c.in-Err.ensures.back
     c.put.ensures) c.in-Err.ensures.posted
+
+pub post-requires-clause-served : goal.post-requires-clause-served
+post-requires-clause-served g c =
+    let own = c.args.self.now.own in
+    let b = c.unwrap-block.result in
+    let at : block_at own.names c.args.name ≡ Some b = cc in
+    g.met.P.Places.laws.fewer _ (in_own own) (λ weigh. weigh b) (λ w. omega (arith, in_names-without c.args.name b own.names at w)) c.requires.served
