@@ -21,11 +21,14 @@ use Rattle.arena_rules.specs.PlainArena.{Plain, is_chunk, times_listed, times_ti
 use Rattle.arena_rules.proofs.Counts.{weight}
 use Rattle.arena_holds.specs.Places.{weight_of, as_chunk_of}
 use Rattle.malloc_calls.specs.declared.own.Own.{Own}
+use Rattle.malloc_calls.specs.Names.{NameTable}
+use Rattle.malloc_calls.proofs.Tables.{in_both_parts}
+use Rattle.std.specs.Map.{values_of}
 use Rattle.malloc_calls.specs.Own.{in_names, in_own}
 use Rattle.stats_text.specs.declared.views.Place.{Place}
 use Rattle.stats_text.specs.declared.views.Place.TheVariants as places
 use Rattle.world_view.specs.declared.finds.Find.{Find}
-use Rattle.world_view.specs.Places.{named_from, cached_find, structure_finds, thread_finds, threads_finds, tray_find, finds_of, fast_lists, ten_lists, fast_of, bins_of, Found, found_in, binned, finds_found, found_by_address, place_in, shown_at, shown_tiles}
+use Rattle.world_view.specs.Places.{named_from, held_find, far_finds, named_finds, cached_find, structure_finds, thread_finds, threads_finds, tray_find, finds_of, fast_lists, ten_lists, fast_of, bins_of, Found, found_in, binned, finds_found, found_by_address, place_in, shown_at, shown_tiles}
 use Rattle.world_view.specs.Scenes.{ArenaScene, Scene, all_binned, all_found, arena_with, shown_arena}
 use Rattle.world_view.specs.Shows.{in_threads, in_trays, in_scene, times_fast, IsWholeArena, tile_span, view_span}
 use Rattle.world_view.proofs.ByAddress.{IsThere, stands_at, times_found, found_there}
@@ -42,18 +45,24 @@ block_found m e b p =
     let none : Bool = elim b.arena [ None ↦ false | Some a ↦ nat_eq a m ] in
     omega (arith, fewer (nat_eq e.at b.addr && nat_eq e.size b.size) none, fewer (nat_eq e.at b.addr) (nat_eq e.size b.size))
 
-named_found : (m : ℕ) (e : Chunk) (thread name : ℕ) (names : List (Option Block)) → in_names names (as_chunk_of m e) ≤ times_found e.at (finds_found (named_from thread name names))
-named_found m e thread name [] = omega arith
-named_found m e thread name (None ∷ names) = omega (arith, sum_by-cons (λ o. weight_of o (as_chunk_of m e)) None names, named_found m e thread (name + 1) names)
-named_found m e thread name (Some b ∷ names) =
+row_found : (m : ℕ) (e : Chunk) (thread name : ℕ) (os : List (Option Block)) → sum_by (λ o. weight_of o (as_chunk_of m e)) os ≤ times_found e.at (finds_found (named_from thread name os))
+row_found m e thread name [] = omega arith
+row_found m e thread name (None ∷ os) = omega (arith, sum_by-cons (λ o. weight_of o (as_chunk_of m e)) None os, row_found m e thread (name + 1) os)
+row_found m e thread name (Some b ∷ os) =
     let f : Found = (b.addr, places.Live thread name) in
     omega (
       arith,
-      sum_by-cons (λ o. weight_of o (as_chunk_of m e)) (Some b) names,
-      sum_by-cons (stands_at e.at) f (finds_found (named_from thread (name + 1) names)),
-      named_found m e thread (name + 1) names,
+      sum_by-cons (λ o. weight_of o (as_chunk_of m e)) (Some b) os,
+      sum_by-cons (stands_at e.at) f (finds_found (named_from thread (name + 1) os)),
+      row_found m e thread (name + 1) os,
       block_found m e b (places.Live thread name),
     )
+
+held_found : (m : ℕ) (e : Chunk) (thread name : ℕ) (o : Option Block) → weight_of o (as_chunk_of m e) ≤ times_found e.at (finds_found (held_find thread name o))
+held_found m e thread name None = omega arith
+held_found m e thread name (Some b) =
+    let f : Found = (b.addr, places.Live thread name) in
+    omega (arith, sum_by-cons (stands_at e.at) f [], block_found m e b (places.Live thread name))
 
 cached_found : (m : ℕ) (e : Chunk) (thread : ℕ) (bs : List Block) → sum_by (as_chunk_of m e) bs ≤ times_found e.at (finds_found (map (cached_find thread) (map tile_of bs)))
 cached_found m e thread [] = omega arith
@@ -78,17 +87,39 @@ found_both n some more =
     let f : Find → Found = λ x. (x.tile.addr, x.tile.place) in
     ap (times_found n) (map-append f some more) ∙ sum_by-append (stands_at n) (map f some) (map f more)
 
+far_found : (m : ℕ) (e : Chunk) (thread : ℕ) (es : List (ℕ × Option Block)) →
+    sum_by (λ o. weight_of o (as_chunk_of m e)) (values_of es) ≤ times_found e.at (finds_found (far_finds thread es))
+far_found m e thread [] = omega arith
+far_found m e thread (x ∷ es) =
+    omega (
+      arith,
+      sum_by-cons (λ o. weight_of o (as_chunk_of m e)) x.1 (values_of es),
+      found_both e.at (held_find thread x.0 x.1) (far_finds thread es),
+      held_found m e thread x.0 x.1,
+      far_found m e thread es,
+    )
+
+named_found : (m : ℕ) (e : Chunk) (thread : ℕ) (names : NameTable) → in_names names (as_chunk_of m e) ≤ times_found e.at (finds_found (named_finds thread names))
+named_found m e thread names =
+    omega (
+      arith,
+      in_both_parts names (λ o. weight_of o (as_chunk_of m e)),
+      found_both e.at (named_from thread 0 names.near) (far_finds thread names.far),
+      row_found m e thread 0 names.near,
+      far_found m e thread names.far,
+    )
+
 thread_found : (m : ℕ) (e : Chunk) (thread : ℕ) (own : Own) → in_own own (as_chunk_of m e) ≤ times_found e.at (finds_found (thread_finds thread own))
 unfolding thread_finds
 thread_found m e thread own =
-    let named : List Find = named_from thread 0 own.names in
+    let named : List Find = named_finds thread own.names in
     let cached : List Find = map (cached_find thread) (map tile_of (blocks_of own.cache)) in
     let structure : List Find = structure_finds thread (structure_of own.cache) in
     let all : in_own own (as_chunk_of m e) ≤ times_found e.at (finds_found (named ++ cached ++ structure)) = omega (
       arith,
       found_both e.at (named ++ cached) structure,
       found_both e.at named cached,
-      named_found m e thread 0 own.names,
+      named_found m e thread own.names,
       cached_found m e thread (blocks_of own.cache),
       structure_found m e thread (structure_of own.cache),
     ) in

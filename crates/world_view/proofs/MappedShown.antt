@@ -1,5 +1,5 @@
 -- Each mapped chunk of a thread or a tray is shown with its place, where no byte is of two of them.
-use Rattle.std.proofs.Common.{◌≡◌, ℕ, zero, suc, ◌+◌, ◌-◌, ◌≤◌, Bool, true, false, cond, List, [], ◌∷◌, ◌++◌, map, filter, fold, Option, Some, None, ◌⊎◌, inl, inr, sum_by, refl, sym, ap, ◌∙◌, subst, arith}
+use Rattle.std.proofs.Common.{◌≡◌, ℕ, zero, suc, ◌+◌, ◌-◌, ◌≤◌, Bool, true, false, cond, List, [], ◌∷◌, ◌++◌, map, filter, fold, Option, Some, None, ◌⊎◌, inl, inr, sum_by, get_or, refl, sym, ap, ◌∙◌, subst, arith}
 use Rattle.std.specs.Prelude.{◌&&◌, nat_le, not, is_some, slice_get, if◌then◌else◌}
 use Rattle.std.proofs.lemmas.Bool.Decides.{nat_tests}
 use Rattle.std.proofs.lemmas.List.{map-append}
@@ -11,13 +11,17 @@ use Rattle.chunk_tags.specs.declared.tiles.Tile.{Tile}
 use Rattle.thread_cache.specs.Caches.{structure_of, tiles_of}
 use Rattle.arena_holds.specs.Places.{weight_of, as_mapped_byte}
 use Rattle.malloc_calls.specs.declared.own.Own.{Own}
-use Rattle.malloc_calls.specs.Names.{block_at}
+use Rattle.malloc_calls.specs.Names.{NameTable, block_at, is_name}
+use Rattle.malloc_calls.proofs.Keyed.{name_is}
+use Rattle.malloc_calls.proofs.Tables.{in_both_parts, either_part}
+use Rattle.std.specs.Map.{lookup, values_of}
+use Rattle.std.proofs.lemmas.Bool.{cases_Bool}
 use Rattle.malloc_calls.specs.Own.{in_names, in_own}
 use Rattle.stats_text.specs.declared.views.Place.{Place}
 use Rattle.stats_text.specs.declared.views.Place.TheVariants as places
 use Rattle.stats_text.specs.declared.views.TileView.{TileView}
 use Rattle.world_view.specs.declared.finds.Find.{Find}
-use Rattle.world_view.specs.Places.{block_find, named_from, cached_find, structure_finds, thread_finds, threads_finds, tray_find, finds_of, put_tile, by_address, mapped_finds}
+use Rattle.world_view.specs.Places.{block_find, named_from, held_find, far_finds, named_finds, cached_find, structure_finds, thread_finds, threads_finds, tray_find, finds_of, put_tile, by_address, mapped_finds}
 use Rattle.world_view.specs.Scenes.{Scene}
 use Rattle.world_view.specs.Shows.{in_threads, in_trays, in_scene, ShowsMapped}
 use Rattle.world_view.proofs.ByAddress.{at_put, at_kept, value_at}
@@ -73,16 +77,20 @@ block_byte n p b =
 block_more : (n : ℕ) (p : Place) (b : Block) (fs : List Find) → sum_by (view_byte n) (mapped_finds (block_find p b ∷ fs)) ≡ as_mapped_byte n b + sum_by (view_byte n) (mapped_finds fs)
 block_more n p b fs = omega (arith, find_byte n (block_find p b) fs, block_byte n p b)
 
-named_bytes : (n thread name : ℕ) (names : List (Option Block)) → sum_by (view_byte n) (mapped_finds (named_from thread name names)) ≡ in_names names (as_mapped_byte n)
-named_bytes n thread name [] = refl
-named_bytes n thread name (None ∷ os) = omega (arith, sum_by-cons (λ o. weight_of o (as_mapped_byte n)) None os, named_bytes n thread (name + 1) os)
-named_bytes n thread name (Some b ∷ os) =
+row_bytes : (n thread name : ℕ) (os : List (Option Block)) → sum_by (view_byte n) (mapped_finds (named_from thread name os)) ≡ sum_by (λ o. weight_of o (as_mapped_byte n)) os
+row_bytes n thread name [] = refl
+row_bytes n thread name (None ∷ os) = omega (arith, sum_by-cons (λ o. weight_of o (as_mapped_byte n)) None os, row_bytes n thread (name + 1) os)
+row_bytes n thread name (Some b ∷ os) =
     omega (
       arith,
       sum_by-cons (λ o. weight_of o (as_mapped_byte n)) (Some b) os,
       block_more n (places.Live thread name) b (named_from thread (name + 1) os),
-      named_bytes n thread (name + 1) os,
+      row_bytes n thread (name + 1) os,
     )
+
+held_bytes : (n thread name : ℕ) (o : Option Block) → sum_by (view_byte n) (mapped_finds (held_find thread name o)) ≡ weight_of o (as_mapped_byte n)
+held_bytes n thread name None = refl
+held_bytes n thread name (Some b) = omega (arith, block_more n (places.Live thread name) b [])
 
 cached_bytes : (n thread : ℕ) (ts : List Tile) → sum_by (view_byte n) (mapped_finds (map (cached_find thread) ts)) ≡ 0
 cached_bytes n thread [] = refl
@@ -101,17 +109,38 @@ mapped_both some more =
 both_bytes : (n : ℕ) (some more : List Find) → sum_by (view_byte n) (mapped_finds (some ++ more)) ≡ sum_by (view_byte n) (mapped_finds some) + sum_by (view_byte n) (mapped_finds more)
 both_bytes n some more = ap (sum_by (view_byte n)) (mapped_both some more) ∙ sum_by-append (view_byte n) (mapped_finds some) (mapped_finds more)
 
+far_bytes : (n thread : ℕ) (es : List (ℕ × Option Block)) → sum_by (view_byte n) (mapped_finds (far_finds thread es)) ≡ sum_by (λ o. weight_of o (as_mapped_byte n)) (values_of es)
+far_bytes n thread [] = refl
+far_bytes n thread (x ∷ es) =
+    omega (
+      arith,
+      sum_by-cons (λ o. weight_of o (as_mapped_byte n)) x.1 (values_of es),
+      both_bytes n (held_find thread x.0 x.1) (far_finds thread es),
+      held_bytes n thread x.0 x.1,
+      far_bytes n thread es,
+    )
+
+named_bytes : (n thread : ℕ) (names : NameTable) → sum_by (view_byte n) (mapped_finds (named_finds thread names)) ≡ in_names names (as_mapped_byte n)
+named_bytes n thread names =
+    omega (
+      arith,
+      in_both_parts names (λ o. weight_of o (as_mapped_byte n)),
+      both_bytes n (named_from thread 0 names.near) (far_finds thread names.far),
+      row_bytes n thread 0 names.near,
+      far_bytes n thread names.far,
+    )
+
 thread_bytes : (n thread : ℕ) (own : Own) → sum_by (view_byte n) (mapped_finds (thread_finds thread own)) ≤ in_own own (as_mapped_byte n)
 unfolding thread_finds
 thread_bytes n thread own =
-    let named : List Find = named_from thread 0 own.names in
+    let named : List Find = named_finds thread own.names in
     let cached : List Find = map (cached_find thread) (tiles_of own.cache) in
     let structure : List Find = structure_finds thread (structure_of own.cache) in
     let all : sum_by (view_byte n) (mapped_finds (named ++ cached ++ structure)) ≤ in_own own (as_mapped_byte n) = omega (
       arith,
       both_bytes n (named ++ cached) structure,
       both_bytes n named cached,
-      named_bytes n thread 0 own.names,
+      named_bytes n thread own.names,
       cached_bytes n thread (tiles_of own.cache),
       structure_bytes n thread (structure_of own.cache),
     ) in
@@ -177,23 +206,49 @@ has_back : (some more : List Find) (p : Place) (b : Block) → Has more p b → 
 has_back some more p b has none =
     subst (IsIn (block_find p b).tile) (sym (mapped_both some more)) (in_back (block_find p b).tile (mapped_finds some) (mapped_finds more) (has none))
 
-named_in : (thread first name : ℕ) (names : List (Option Block)) (b : Block) → block_at names name ≡ Some b → Has (named_from thread first names) (places.Live thread (first + name)) b
-named_in thread first name [] b e = absurd cc
-named_in thread first zero (None ∷ os) b e = absurd cc
-named_in thread first zero (Some c ∷ os) b e =
+row_in : (thread first name : ℕ) (os : List (Option Block)) (b : Block) → get_or os name None ≡ Some b → Has (named_from thread first os) (places.Live thread (first + name)) b
+row_in thread first name [] b e = absurd cc
+row_in thread first zero (None ∷ os) b e = absurd cc
+row_in thread first zero (Some c ∷ os) b e =
     let same : b ≡ c = cc in
     let at_first : first ≡ first + 0 = omega arith in
     let fs : List Find = named_from thread (first + 1) os in
     subst (λ (k : ℕ). Has (block_find (places.Live thread first) c ∷ fs) (places.Live thread k) b) at_first
     (subst (λ (x : Block). Has (block_find (places.Live thread first) c ∷ fs) (places.Live thread first) x) (sym same) (has_first fs (places.Live thread first) c))
-named_in thread first (suc name) (None ∷ os) b e =
+row_in thread first (suc name) (None ∷ os) b e =
     let k : first + 1 + name ≡ first + suc name = omega arith in
-    subst (λ (k : ℕ). Has (named_from thread (first + 1) os) (places.Live thread k) b) k (named_in thread (first + 1) name os b e)
-named_in thread first (suc name) (Some c ∷ os) b e =
+    subst (λ (k : ℕ). Has (named_from thread (first + 1) os) (places.Live thread k) b) k (row_in thread (first + 1) name os b e)
+row_in thread first (suc name) (Some c ∷ os) b e =
     let k : first + 1 + name ≡ first + suc name = omega arith in
     let fs : List Find = named_from thread (first + 1) os in
     has_later (block_find (places.Live thread first) c) fs (places.Live thread (first + suc name)) b
-    (subst (λ (k : ℕ). Has fs (places.Live thread k) b) k (named_in thread (first + 1) name os b e))
+    (subst (λ (k : ℕ). Has fs (places.Live thread k) b) k (row_in thread (first + 1) name os b e))
+
+-- what is found there under a name is in the list
+far_in : (thread name : ℕ) (es : List (ℕ × Option Block)) (b : Block) → lookup (is_name name) es ≡ Some (Some b) → Has (far_finds thread es) (places.Live thread name) b
+far_in thread name [] b e = absurd cc
+far_in thread name (x ∷ es) b e = elim (cases_Bool (is_name name x.0)) [
+  | inl hit ↦
+      let found : Some x.1 ≡ Some (Some b) = sym (ap (λ v. cond v (Some x.1) (lookup (is_name name) es)) hit) ∙ e in
+      let held : x.1 ≡ Some b = cc in
+      let here : Has (held_find thread name x.1) (places.Live thread name) b =
+      subst (λ (o : Option Block). Has (held_find thread name o) (places.Live thread name) b) (sym held) (has_first [] (places.Live thread name) b) in
+      has_front (held_find thread x.0 x.1) (far_finds thread es) (places.Live thread name) b
+      (subst (λ (k : ℕ). Has (held_find thread k x.1) (places.Live thread name) b) (name_is name x.0 hit) here)
+  | inr miss ↦
+      let later : lookup (is_name name) es ≡ Some (Some b) = sym (ap (λ v. cond v (Some x.1) (lookup (is_name name) es)) miss) ∙ e in
+      has_back (held_find thread x.0 x.1) (far_finds thread es) (places.Live thread name) b (far_in thread name es b later)
+]
+
+named_in : (thread name : ℕ) (names : NameTable) (b : Block) → block_at names name ≡ Some b → Has (named_finds thread names) (places.Live thread name) b
+named_in thread name names b e =
+    let row : List Find = named_from thread 0 names.near in
+    let far : List Find = far_finds thread names.far in
+    let k : 0 + name ≡ name = omega arith in
+    elim (either_part names name b e) [
+      | inl at ↦ has_front row far (places.Live thread name) b (subst (λ (k : ℕ). Has row (places.Live thread k) b) k (row_in thread 0 name names.near b at))
+      | inr at ↦ has_back row far (places.Live thread name) b (far_in thread name names.far b at)
+    ]
 
 structure_in : (thread : ℕ) (o : Option Block) (b : Block) → o ≡ Some b → Has (structure_finds thread o) (places.Structure thread) b
 structure_in thread None b e = absurd cc
@@ -205,17 +260,16 @@ structure_in thread (Some c) b e =
 thread_named : (thread name : ℕ) (own : Own) (b : Block) → block_at own.names name ≡ Some b → Has (thread_finds thread own) (places.Live thread name) b
 unfolding thread_finds
 thread_named thread name own b e =
-    let named : List Find = named_from thread 0 own.names in
+    let named : List Find = named_finds thread own.names in
     let cached : List Find = map (cached_find thread) (tiles_of own.cache) in
     let structure : List Find = structure_finds thread (structure_of own.cache) in
-    let k : 0 + name ≡ name = omega arith in
-    let first : Has named (places.Live thread name) b = subst (λ (k : ℕ). Has named (places.Live thread k) b) k (named_in thread 0 name own.names b e) in
+    let first : Has named (places.Live thread name) b = named_in thread name own.names b e in
     has_front (named ++ cached) structure (places.Live thread name) b (has_front named cached (places.Live thread name) b first)
 
 thread_structure : (thread : ℕ) (own : Own) (b : Block) → structure_of own.cache ≡ Some b → Has (thread_finds thread own) (places.Structure thread) b
 unfolding thread_finds
 thread_structure thread own b e =
-    let named : List Find = named_from thread 0 own.names in
+    let named : List Find = named_finds thread own.names in
     let cached : List Find = map (cached_find thread) (tiles_of own.cache) in
     has_back (named ++ cached) (structure_finds thread (structure_of own.cache)) (places.Structure thread) b (structure_in thread (structure_of own.cache) b e)
 

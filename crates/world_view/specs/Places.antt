@@ -13,6 +13,7 @@ use Rattle.thread_cache.specs.Caches.{tiles_of, structure_of}
 use Rattle.fast_bins.specs.PlainBins.{FastState, listed}
 use Rattle.arena_rules.specs.PlainArena.{Plain, bin_at}
 use Rattle.malloc_calls.specs.declared.own.Own.{Own}
+use Rattle.malloc_calls.specs.Names.{NameTable}
 use Rattle.stats_text.specs.declared.views.Place.{Place}
 use Rattle.stats_text.specs.declared.views.Place.TheVariants as places
 use Rattle.stats_text.specs.declared.views.TileView.{TileView}
@@ -27,11 +28,25 @@ tile_at addr size lead place = record { addr = addr; size = size; lead = lead; p
 abbrev pub block_find : Place → Block → Find
 block_find place b = record { tile = tile_at b.addr b.size b.lead place; mapped = not (is_some b.arena) }
 
--- the blocks of a thread by name, the first name being this
+-- the blocks in a row, the first name being this
 abbrev pub named_from : ℕ → ℕ → List (Option Block) → List Find
 named_from thread name [] = []
 named_from thread name (None ∷ names) = named_from thread (name + 1) names
 named_from thread name (Some b ∷ names) = block_find (places.Live thread name) b ∷ named_from thread (name + 1) names
+
+-- what is in the place of a name
+abbrev pub held_find : ℕ → ℕ → Option Block → List Find
+held_find thread name None = []
+held_find thread name (Some b) = block_find (places.Live thread name) b ∷ []
+
+-- the blocks whose names have places of their own
+abbrev pub far_finds : ℕ → List (ℕ × Option Block) → List Find
+far_finds thread [] = []
+far_finds thread (e ∷ es) = held_find thread e.0 e.1 ++ far_finds thread es
+
+-- all blocks of a thread that have names, by name
+abbrev pub named_finds : ℕ → NameTable → List Find
+named_finds thread names = named_from thread 0 names.near ++ far_finds thread names.far
 
 -- a chunk that a thread has in its cache
 abbrev pub cached_find : ℕ → Tile → Find
@@ -45,7 +60,7 @@ structure_finds thread (Some b) = block_find (places.Structure thread) b ∷ []
 -- all blocks of a thread
 unfoldable pub thread_finds : ℕ → Own → List Find
 thread_finds thread own =
-    named_from thread 0 own.names ++ map (cached_find thread) (tiles_of own.cache)
+    named_finds thread own.names ++ map (cached_find thread) (tiles_of own.cache)
     ++ structure_finds thread (structure_of own.cache)
 
 -- those of threads, the first thread having this number

@@ -3,7 +3,7 @@
 ghost use Rattle.std.specs.Prelude.{◌≡◌, ◌≤◌, ◌++◌, length, map, not, is_some, IfOk, OnOk};
 ghost use Rattle.thread_cache.specs.Caches.{tiles_of, structure_of};
 ghost use Rattle.malloc_calls.specs.Own.{own_of, names_of};
-ghost use Rattle.world_view.specs.Places.{tile_at, block_find, named_from, cached_find, structure_finds, thread_finds, threads_finds, tray_find, finds_of};
+ghost use Rattle.world_view.specs.Places.{tile_at, block_find, named_from, far_finds, cached_find, structure_finds, thread_finds, threads_finds, tray_find, finds_of};
 
 use address_space::Kernel;
 use chunk_tags::{Addr, Block, NoMemory, Size};
@@ -41,19 +41,39 @@ fn block_at_place(block: &Block, place: Place) -> Find
     }
 }
 
-/// Appends the blocks of a thread by name.
-fn append_named<K: Kernel>(
+/// Appends the blocks of a thread that are in the row.
+fn append_row<K: Kernel>(
     finds: &mut Vec<Find>,
     number: u8,
     thread: &Thread<K>,
 ) -> Result<(), NoMemory>
-    ensures { OnOk result (finds.new.items ≡ finds.old.items ++ named_from number 0 (names_of thread.now)) }
+    ensures { OnOk result (finds.new.items ≡ finds.old.items ++ named_from number 0 (names_of thread.now).near) }
 {
-    for name in 0..thread.room() {
-        if let Some(block) = thread.block(name) {
+    for name in 0..thread.row() {
+        if let Some(block) = thread.in_row(name) {
             let place = Place::Live {
                 thread: number,
                 name,
+            };
+            finds.push(block_at_place(block, place))?;
+        }
+    }
+    Ok(())
+}
+
+/// Appends those whose names have places of their own.
+fn append_far<K: Kernel>(
+    finds: &mut Vec<Find>,
+    number: u8,
+    thread: &Thread<K>,
+) -> Result<(), NoMemory>
+    ensures { OnOk result (finds.new.items ≡ finds.old.items ++ far_finds number (names_of thread.now).far) }
+{
+    for (name, place) in thread.far() {
+        if let Some(block) = place {
+            let place = Place::Live {
+                thread: number,
+                name: *name,
             };
             finds.push(block_at_place(block, place))?;
         }
@@ -108,7 +128,8 @@ fn append_thread<K: Kernel>(
 ) -> Result<(), NoMemory>
     ensures { OnOk result (finds.new.items ≡ finds.old.items ++ thread_finds number (own_of thread.now)) }
 {
-    append_named(finds, number, thread)?;
+    append_row(finds, number, thread)?;
+    append_far(finds, number, thread)?;
     append_cached(alloc, finds, number, thread)?;
     append_structure(finds, number, thread)
 }
