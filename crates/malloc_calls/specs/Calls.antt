@@ -116,7 +116,7 @@ abbrev pub FitsName : ℕ → ℕ → NameTable → Type 0
 FitsName nb name names = (b : Block) → block_at names name ≡ Some b → need_of b.arena nb ≤ b.size
 
 -- After want of memory: the name has the block that it had, or another that is so large.
-pub record HoldsStill (nb name : ℕ) (names now : List (Option Block)) : Type 0 where
+pub record HoldsStill (nb name : ℕ) (names now : NameTable) : Type 0 where
   pub block : Block
   pub at : block_at now name ≡ Some block
   pub enough : (block_at names name ≡ Some block) ⊎ (need_of block.arena nb ≤ block.size)

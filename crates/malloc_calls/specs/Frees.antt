@@ -7,7 +7,7 @@ use Rattle.arena_holds.specs.Calls.{Call, Done, Frees, then_call}
 use Rattle.arena_holds.specs.Holding.{GivesUp}
 use Rattle.arena_holds.specs.Places.{Setting, Standing}
 use Rattle.malloc_calls.specs.Calls.{opening, releasing, with_cache}
-use Rattle.malloc_calls.specs.Names.{block_at, without_block}
+use Rattle.malloc_calls.specs.Names.{NameTable, block_at, without_block}
 use Rattle.malloc_calls.specs.declared.own.Own.{Own}
 use Rattle.malloc_calls.specs.declared.reply.Reply.{Reply}
 use Rattle.malloc_calls.specs.declared.reply.Reply.TheVariants.{Freed, NotYours}
@@ -41,7 +41,7 @@ IsFreed reply = ⊥
 
 -- Memory was short behind the entry of the hold in which a name's block was given to its arena: the arena has the block, and
 -- the name holds nothing. Before that hold something else may have been done.
-pub record LosesBlock {P H D K : Type 0} (s : Setting P H D K) (t : Tunables) (who : Who) (name : ℕ) (names now : List (Option Block))
+pub record LosesBlock {P H D K : Type 0} (s : Setting P H D K) (t : Tunables) (who : Who) (name : ℕ) (names now : NameTable)
     (new : Standing P K) : Type 0 where
   pub a : ℕ
   pub block : Block
@@ -51,5 +51,5 @@ pub record LosesBlock {P H D K : Type 0} (s : Setting P H D K) (t : Tunables) (w
   pub gone : now ≡ without_block name names
 
 -- after want of memory the name holds its block, or the arena has that
-abbrev pub HoldsOrLoses : {P H D K : Type 0} → Setting P H D K → Tunables → Who → ℕ → List (Option Block) → List (Option Block) → Standing P K → Type 0
+abbrev pub HoldsOrLoses : {P H D K : Type 0} → Setting P H D K → Tunables → Who → ℕ → NameTable → NameTable → Standing P K → Type 0
 HoldsOrLoses s t who name names now new = (now ≡ names) ⊎ LosesBlock s t who name names now new
