@@ -2,7 +2,7 @@
 use Rattle.std.proofs.Common.{◌≡◌, ℕ, zero, suc, ◌-◌, ◌*◌, Bool, true, false, cond, List, [], ◌∷◌, Option, Some, None, refl, sym, ap, ◌∙◌, subst}
 use Rattle.std.specs.Prelude.{nat_le, nat_eq, is_some}
 use Rattle.std.proofs.lemmas.Bool.{eq-eqb}
-use Rattle.std.proofs.lemmas.List.{get_or-set_other}
+use Rattle.malloc_calls.proofs.Tables.{at_same, at_other, place_of, without_none}
 use Rattle.chunk_tags.specs.Sizes.{padded_request}
 use Rattle.chunk_tags.specs.declared.block.Block.{Block}
 use Rattle.chunk_tags.specs.declared.tunables.Tunables.{Tunables}
@@ -28,7 +28,7 @@ use Rattle.malloc_calls.specs.declared.reply.To.{To}
 use Rattle.malloc_calls.specs.declared.reply.To.TheVariants as sinks
 use Rattle.malloc_calls.specs.declared.reply.Why.{Why}
 use Rattle.malloc_calls.specs.declared.supplying.Supply.{Supply}
-use Rattle.malloc_calls.specs.Names.{block_at, with_block, without_block}
+use Rattle.malloc_calls.specs.Names.{NameTable, block_at, with_block, without_block}
 use Rattle.arena_holds.specs.Calls.{Call, Done, Holds, HoldsFree, Opens, Books, Maps, Pushes, Frees, Unmaps, Remaps, Posts, Takes, then_call}
 use Rattle.arena_holds.specs.Holding.{resized_to}
 use Rattle.arena_holds.specs.Searching.{Chosen, search, search_by_choice, choose_and_search, or_in_mapping, search_again, tried_again}
@@ -166,12 +166,12 @@ quiet_exit t thread own =
 -- ---- the names of a call that makes one
 
 -- what a call leaves of all names but its own: they hold what they held
-abbrev pub KeepsOthers : ℕ → List (Option Block) → Reply × Own → Type 0
+abbrev pub KeepsOthers : ℕ → NameTable → Reply × Own → Type 0
 KeepsOthers name names r = (n : ℕ) → (n ≡ name → ⊥) → block_at r.1.names n ≡ block_at names n
 
-supplied_others : (name : ℕ) (o : Option Supply) (names : List (Option Block)) (n : ℕ) → (n ≡ name → ⊥) → block_at (names_with name o names) n ≡ block_at names n
+supplied_others : (name : ℕ) (o : Option Supply) (names : NameTable) (n : ℕ) → (n ≡ name → ⊥) → block_at (names_with name o names) n ≡ block_at names n
 supplied_others name None names n other = refl
-supplied_others name (Some s) names n other = get_or-set_other names name n (Some s.block) None other
+supplied_others name (Some s) names n other = at_other name n (Some s.block) names other
 
 named_keeps : (name : ℕ) (own : Own) (c : Call Supplied) → IsQuiet c → AllResults (KeepsOthers name own.names) (named name own c)
 named_keeps name own c quiet =
@@ -209,11 +209,6 @@ memalign_keeps t thread name align size own = memalign_padded_keeps t thread nam
 
 -- ---- the name of a block that is freed
 
-without_gone : (name : ℕ) (names : List (Option Block)) → block_at (without_block name names) name ≡ None
-without_gone name [] = refl
-without_gone zero (o ∷ os) = refl
-without_gone (suc name) (o ∷ os) = without_gone name os
-
 -- a block that is freed comes to its place, and its name to nothing
 freed_results : (P : Reply × Own → Type 0) (t : Tunables) (thread name : ℕ) (b : Block) (o : Option ℕ) (own : Own) →
     ((to : To) (cache : CacheValue) → P (Freed to, record { cache = cache; names = without_block name own.names })) →
@@ -224,13 +219,13 @@ freed_results P t thread name b (Some a) own h =
     results_then P (releasing t a b cache) (λ r. Done (Freed r.0, with_cache r.1 (without_name name (with_cache cache own)))) (quiet_releasing t a b cache)
     (λ r. h r.0 r.1))
 
-pub emptied : (name : ℕ) (names : List (Option Block)) → EmptiesName name names (without_block name names)
+pub emptied : (name : ℕ) (names : NameTable) → EmptiesName name names (without_block name names)
 emptied name names = record {
-  others = λ n other. get_or-set_other names name n None None other;
-  gone = without_gone name names;
+  others = λ n other. at_other name n None names other;
+  gone = without_none name names;
 }
 
-abbrev pub Empties : ℕ → List (Option Block) → Reply × Own → Type 0
+abbrev pub Empties : ℕ → NameTable → Reply × Own → Type 0
 Empties name names r = EmptiesName name names r.1.names
 
 freed_empties : (t : Tunables) (thread name : ℕ) (o : Option Block) (own : Own) → block_at own.names name ≡ o →
@@ -245,7 +240,7 @@ free_empties t thread name own = freed_empties t thread name (block_at own.names
 -- ---- the name of a block that gets another size
 
 -- what realloc to a size leaves of its own name
-pub record LeavesName (name size : ℕ) (names : List (Option Block)) (r : Reply × Own) : Type 0 where
+pub record LeavesName (name size : ℕ) (names : NameTable) (r : Reply × Own) : Type 0 where
   pub none : block_at names name ≡ None → block_at r.1.names name ≡ None
   pub gone : size ≡ 0 → block_at r.1.names name ≡ None
   pub stays : (why : Why) → r.0 ≡ Null why → block_at r.1.names name ≡ block_at names name
@@ -323,17 +318,12 @@ realloc_stays : (t : Tunables) (thread size nb : ℕ) (b : Block) (o : Option �
 realloc_stays t thread size nb b None cache = in_mapping_stays t thread size nb b cache
 realloc_stays t thread size nb b (Some a) cache = in_arena_stays t thread size nb a b cache
 
-set_same : (name : ℕ) (names : List (Option Block)) (b : Block) → block_at names name ≡ Some b → block_at (with_block name b names) name ≡ Some b
-set_same name [] b e = absurd cc
-set_same zero (o ∷ os) b e = refl
-set_same (suc name) (o ∷ os) b e = set_same name os b e
-
 settled_leaves : (name size : ℕ) (b : Block) (own : Own) (r : Resettled) → block_at own.names name ≡ Some b → (size ≡ 0 → ⊥) → Stays b r →
     LeavesName name size own.names (settled name own r)
 settled_leaves name size b own r at positive stays = record {
   none = λ e. let no : None ≡ Some b = sym e ∙ at in absurd cc;
   gone = λ z. absurd (positive z);
-  stays = λ why e. ap (λ (x : Block). block_at (with_block name x own.names) name) (stays why e) ∙ set_same name own.names b at ∙ sym at;
+  stays = λ why e. ap (λ (x : Block). block_at (with_block name x own.names) name) (stays why e) ∙ at_same name (Some b) own.names (place_of own.names name b at) ∙ sym at;
 }
 
 padded_leaves : (t : Tunables) (thread name size : ℕ) (o : Option ℕ) (b : Block) (own : Own) → block_at own.names name ≡ Some b → (size ≡ 0 → ⊥) →
@@ -343,11 +333,11 @@ padded_leaves t thread name size (Some nb) b own at positive =
     results_then_by (Stays b) (LeavesName name size own.names) (realloc_in t thread size nb b b.arena own.cache) (λ r. Done (settled name own r))
     (realloc_stays t thread size nb b b.arena own.cache) (λ r stays. settled_leaves name size b own r at positive stays)
 
-freed_leaves : (name size : ℕ) (names : List (Option Block)) (to : To) (cache : CacheValue) →
+freed_leaves : (name size : ℕ) (names : NameTable) (to : To) (cache : CacheValue) →
     LeavesName name size names (Freed to, record { cache = cache; names = without_block name names })
 freed_leaves name size names to cache = record {
-  none = λ e. without_gone name names;
-  gone = λ z. without_gone name names;
+  none = λ e. without_none name names;
+  gone = λ z. without_none name names;
   stays = λ why e. freed_not_null to why e;
 }
 

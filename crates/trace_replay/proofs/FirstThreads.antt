@@ -13,8 +13,9 @@ use Rattle.arena_rules.specs.Rules.{windows_of}
 use Rattle.mapped_chunks.specs.declared.plain.DialState.{DialState}
 use Rattle.malloc_calls.specs.declared.thread.Thread.{Thread}
 use Rattle.malloc_calls.specs.Names.{block_at}
+use Rattle.malloc_calls.proofs.Tables.{none_at, none_weigh, table_none}
 use Rattle.malloc_calls.specs.Own.{new_thread, own_of, in_own}
-use Rattle.arena_holds.specs.Places.{as_mapped_byte}
+use Rattle.arena_holds.specs.Places.{as_mapped_byte, weight_of}
 use Rattle.serial_places.specs.SerialWays.{SerialState, IsFirst, first_slots}
 use Rattle.serial_places.specs.SerialPlaces.{serial_laws}
 use Rattle.serial_places.specs.Trays.{in_trays, tray_at, empty_trays}
@@ -52,7 +53,7 @@ started_ready {K = K} t n (k ∷ ks) zero th at =
     let same : new_thread n (new_space k n (windows_of t)) ≡ th = cc in
     let e : n ≡ n + 0 = omega arith in
     subst (λ m. IsReady t m th) e
-    (subst (IsReady t n) same (record { numbered = refl; space = refl; windows = refl; inside = omega arith; held = record { room = omega arith; held = λ name. tt } }))
+    (subst (IsReady t n) same (record { numbered = refl; space = refl; windows = refl; inside = omega arith; held = table_none }))
 started_ready t n (k ∷ ks) (suc i) th at =
     let e : n + 1 + i ≡ n + suc i = omega arith in
     subst (λ m. IsReady t m th) e (started_ready t (n + 1) ks i th at)
@@ -60,7 +61,7 @@ started_ready t n (k ∷ ks) (suc i) th at =
 started_weigh : {K : Type 0} (t : Tunables) (n : ℕ) (ks : List K) (weigh : Block → ℕ) → in_threads (started_threads t n ks) weigh ≡ 0
 started_weigh t n [] weigh = refl
 started_weigh {K = K} t n (k ∷ ks) weigh =
-    omega (arith, sum_by-cons (λ (th : Thread K). in_own (own_of th) weigh) (new_thread n (new_space k n (windows_of t))) (started_threads t (n + 1) ks), started_weigh t (n + 1) ks weigh)
+    omega (arith, sum_by-cons (λ (th : Thread K). in_own (own_of th) weigh) (new_thread n (new_space k n (windows_of t))) (started_threads t (n + 1) ks), started_weigh t (n + 1) ks weigh, none_weigh (λ o. weight_of o weigh))
 
 -- ---- the world
 
@@ -104,7 +105,7 @@ unnamed : {K : Type 0} (t : Tunables) (n : ℕ) (ks : List K) (i name : ℕ) (th
 unnamed t n [] i name th at = absurd cc
 unnamed t n (k ∷ ks) zero name th at =
     let same : first_thread t n k ≡ th = cc in
-    ap (λ (w : ThreadWorld _). block_at w.own.names name) (sym same)
+    ap (λ (w : ThreadWorld _). block_at w.own.names name) (sym same) ∙ none_at name
 unnamed t n (k ∷ ks) (suc i) name th at = unnamed t (n + 1) ks i name th at
 
 -- no name holds a block, and no tray

@@ -8,7 +8,8 @@ use Rattle.chunk_tags.specs.Pages.{user_address}
 use Rattle.chunk_tags.specs.Sizes.{chunk_size_of}
 use Rattle.chunk_tags.specs.declared.block.Block.{Block}
 use Rattle.arena_core.specs.Arenas.{need_of}
-use Rattle.malloc_calls.specs.Names.{block_at, with_places_to}
+use Rattle.malloc_calls.specs.Names.{NameTable, has_place, block_at, with_place}
+use Rattle.malloc_calls.proofs.Tables.{at_placed, place_made}
 use Rattle.malloc_calls.specs.Calls.{FitsName}
 use Rattle.malloc_calls.specs.Mallocs.{IsAlignedName}
 use Rattle.malloc_calls.specs.Reallocs.{IfAnswered}
@@ -28,21 +29,6 @@ use Rattle.trace_replay.specs.Naming.{FitsThread, LeavesBlocks, MakesName, Resiz
 use Rattle.trace_replay.specs.Tiling.{Wanted, Wishes, bytes_wanted, aligned_wanted, wanted_anew, wanted_taken, wanted_posted, named_next, posted_next, wished_after, IsEnough, IsFit}
 use Rattle.trace_replay.proofs.CallResults.{KeepsOthers, LeavesName, Empties}
 use Rattle.trace_replay.proofs.Keeping.{readied}
-
--- ---- a place for a name changes nothing else
-
-nothing_at : (k n : ℕ) → block_at (replicate k None) n ≡ None
-nothing_at zero n = refl
-nothing_at (suc k) zero = refl
-nothing_at (suc k) (suc n) = nothing_at k n
-
-padded : (names : List (Option Block)) (n k : ℕ) → block_at (names ++ replicate k None) n ≡ block_at names n
-padded [] n k = nothing_at k n
-padded (o ∷ os) zero k = refl
-padded (o ∷ os) (suc n) k = padded os n k
-
-pub block_at-with_places_to : (name n : ℕ) (names : List (Option Block)) → block_at (with_places_to name names) n ≡ block_at names n
-block_at-with_places_to name n names = padded names n (name + 1 - length names)
 
 -- ---- what is enough
 
@@ -64,21 +50,18 @@ aligned_place align b above =
 
 -- ---- what a call leaves of the names before a place was made
 
-names_there : {K : Type 0} (th there : Thread K) (name : ℕ) → there ≡ readied name th → names_of there ≡ with_places_to name (names_of th)
+names_there : {K : Type 0} (th there : Thread K) (name : ℕ) → there ≡ readied name th → names_of there ≡ with_place name (names_of th)
 names_there {K = K} th there name is = ap (λ (x : Thread K). names_of x) is
 
 block_there : {K : Type 0} (th there : Thread K) (name n : ℕ) → there ≡ readied name th → block_at (names_of there) n ≡ block_at (names_of th) n
-block_there th there name n is = ap (λ names. block_at names n) (names_there th there name is) ∙ block_at-with_places_to name n (names_of th)
+block_there th there name n is = ap (λ names. block_at names n) (names_there th there name is) ∙ at_placed name n (names_of th)
 
 -- a name that holds nothing holds nothing there, and has a place
 pub nothing_there : {K : Type 0} (th there : Thread K) (name : ℕ) → there ≡ readied name th → block_at (names_of th) name ≡ None → block_at (names_of there) name ≡ None
 nothing_there th there name is none = block_there th there name name is ∙ none
 
-pub room_there : {K : Type 0} (th there : Thread K) (name : ℕ) → there ≡ readied name th → name < length (names_of there)
-room_there th there name is =
-    let names : List (Option Block) = names_of th in
-    let k : ℕ = name + 1 - length names in
-    omega (arith, ap length (names_there th there name is), length-append names (replicate k None), length-replicate {A = Option Block} k None)
+pub room_there : {K : Type 0} (th there : Thread K) (name : ℕ) → there ≡ readied name th → has_place (names_of there) name ≡ true
+room_there th there name is = ap (λ names. has_place names name) (names_there th there name is) ∙ place_made name (names_of th)
 
 pub makes_bytes : {K : Type 0} (th there new : Thread K) (name size : ℕ) (reply : Reply) → there ≡ readied name th → KeepsOthers name (names_of there) (reply, own_of new) →
     FitsName (chunk_size_of size) name (names_of new) → MakesName name (bytes_wanted size) (names_of th) (names_of new)
@@ -148,7 +131,7 @@ own_wish : (w : Wishes) (line : Line) (reply : Reply) (n : ℕ) → (wished_afte
 own_wish w line reply n = ap (λ v. cond v (named_next w n line.call reply (w.named line.thread n)) (w.named line.thread n)) (eq-eqb line.thread line.thread refl)
 
 -- what is so of one name and one tray more, is so of all
-blocks_left : (line : Line) (reply : Reply) (names now : List (Option Block)) (trays left : List Tray) →
+blocks_left : (line : Line) (reply : Reply) (names now : NameTable) (trays left : List Tray) →
     ((n : ℕ) (was : Bool) → (was ≡ false → block_at names n ≡ None) → held_after n was line.call ≡ false → block_at now n ≡ None) →
     ((n : ℕ) → is_post n line.call ≡ false → tray_at trays n ≡ Empty → tray_at left n ≡ Empty) →
     ((w : Wishes) → FitsThread w line.thread names trays → (n : ℕ) (b : Block) → block_at now n ≡ Some b → IsFit (named_next w n line.call reply (w.named line.thread n)) b) →
@@ -164,7 +147,7 @@ blocks_left line reply names now trays left held empty named posted = record {
 }
 
 -- a line that makes a name
-made_leaves : (line : Line) (reply : Reply) (name : ℕ) (wanted : Wanted) (names now : List (Option Block)) (trays left : List Tray) →
+made_leaves : (line : Line) (reply : Reply) (name : ℕ) (wanted : Wanted) (names now : NameTable) (trays left : List Tray) →
     ((n : ℕ) (was : Bool) → held_after n was line.call ≡ (name == n || was)) →
     ((w : Wishes) (n : ℕ) (was : Option Wanted) → named_next w n line.call reply was ≡ cond (eqb name n) (Some wanted) was) →
     ((w : Wishes) (n : ℕ) → posted_next w line.thread n line.call reply ≡ w.posted n) →
@@ -187,26 +170,26 @@ made_leaves line reply name wanted names now trays left holds wants posts makes 
     ]))
     (λ w fits n b is. subst (λ (o : Option Wanted). IsFit o b) (sym (posts w n)) (fits.posted n b (sym (ap (λ ts. tray_at ts n) same) ∙ is)))
 
-pub malloc_leaves : (line : Line) (reply : Reply) (name size : ℕ) (names now : List (Option Block)) (trays left : List Tray) → line.call ≡ Malloc name size →
+pub malloc_leaves : (line : Line) (reply : Reply) (name size : ℕ) (names now : NameTable) (trays left : List Tray) → line.call ≡ Malloc name size →
     MakesName name (bytes_wanted size) names now → left ≡ trays → LeavesBlocks line reply names now trays left
 malloc_leaves line reply name size names now trays left call makes same =
     made_leaves line reply name (bytes_wanted size) names now trays left (λ n was. ap (held_after n was) call) (λ w n was. ap (λ (c : Call). named_next w n c reply was) call)
     (λ w n. ap (λ (c : Call). posted_next w line.thread n c reply) call) makes same
 
-pub calloc_leaves : (line : Line) (reply : Reply) (name n size : ℕ) (names now : List (Option Block)) (trays left : List Tray) → line.call ≡ Calloc name n size →
+pub calloc_leaves : (line : Line) (reply : Reply) (name n size : ℕ) (names now : NameTable) (trays left : List Tray) → line.call ≡ Calloc name n size →
     MakesName name (bytes_wanted (n * size)) names now → left ≡ trays → LeavesBlocks line reply names now trays left
 calloc_leaves line reply name n size names now trays left call makes same =
     made_leaves line reply name (bytes_wanted (n * size)) names now trays left (λ m was. ap (held_after m was) call) (λ w m was. ap (λ (c : Call). named_next w m c reply was) call)
     (λ w m. ap (λ (c : Call). posted_next w line.thread m c reply) call) makes same
 
-pub memalign_leaves : (line : Line) (reply : Reply) (name align size : ℕ) (names now : List (Option Block)) (trays left : List Tray) → line.call ≡ Align name align size →
+pub memalign_leaves : (line : Line) (reply : Reply) (name align size : ℕ) (names now : NameTable) (trays left : List Tray) → line.call ≡ Align name align size →
     MakesName name (aligned_wanted align size) names now → left ≡ trays → LeavesBlocks line reply names now trays left
 memalign_leaves line reply name align size names now trays left call makes same =
     made_leaves line reply name (aligned_wanted align size) names now trays left (λ n was. ap (held_after n was) call) (λ w n was. ap (λ (c : Call). named_next w n c reply was) call)
     (λ w n. ap (λ (c : Call). posted_next w line.thread n c reply) call) makes same
 
 -- what a block is behind realloc
-resized_fit : (name size : ℕ) (reply : Reply) (was : Option Wanted) (names now : List (Option Block)) → ((why : Why) → reply ≡ Null why → block_at now name ≡ block_at names name) →
+resized_fit : (name size : ℕ) (reply : Reply) (was : Option Wanted) (names now : NameTable) → ((why : Why) → reply ≡ Null why → block_at now name ≡ block_at names name) →
     IfAnswered reply (FitsName (chunk_size_of size) name now) → ((b : Block) → block_at names name ≡ Some b → IsFit was b) →
     (b : Block) → block_at now name ≡ Some b → IsFit (wanted_anew size reply was) b
 resized_fit name size (Null why) was names now stays made fit b is = fit b (sym (stays why refl) ∙ is)
@@ -219,7 +202,7 @@ resized_fit name size (Taken addr chunk) was names now stays made fit b is = byt
 resized_fit name size (Missed seen) was names now stays made fit b is = bytes_enough size b (made b is)
 resized_fit name size Ended was names now stays made fit b is = bytes_enough size b (made b is)
 
-pub realloc_leaves : (line : Line) (reply : Reply) (name size : ℕ) (names now : List (Option Block)) (trays left : List Tray) → line.call ≡ Realloc name size →
+pub realloc_leaves : (line : Line) (reply : Reply) (name size : ℕ) (names now : NameTable) (trays left : List Tray) → line.call ≡ Realloc name size →
     ResizesName name size reply names now → left ≡ trays → LeavesBlocks line reply names now trays left
 realloc_leaves line reply name size names now trays left call resizes same =
     blocks_left line reply names now trays left
@@ -254,7 +237,7 @@ realloc_leaves line reply name size names now trays left call resizes same =
     subst (λ (c : Call). IsFit (posted_next w line.thread n c reply) b) (sym call) (fits.posted n b (sym (ap (λ ts. tray_at ts n) same) ∙ is)))
 
 -- a name that holds nothing then
-emptied_held : (name n : ℕ) (was : Bool) (names now : List (Option Block)) → EmptiesName name names now → (was ≡ false → block_at names n ≡ None) → (not (name == n) && was) ≡ false →
+emptied_held : (name n : ℕ) (was : Bool) (names now : NameTable) → EmptiesName name names now → (was ≡ false → block_at names n ≡ None) → (not (name == n) && was) ≡ false →
     block_at now n ≡ None
 emptied_held name n was names now empties before h =
     elim (and_false (name == n) was h) [
@@ -267,14 +250,14 @@ emptied_held name n was names now empties before h =
     ]
 
 -- a block that has a name then had it before
-emptied_named : (name n : ℕ) (names now : List (Option Block)) (b : Block) → EmptiesName name names now → block_at now n ≡ Some b → block_at names n ≡ Some b
+emptied_named : (name n : ℕ) (names now : NameTable) (b : Block) → EmptiesName name names now → block_at now n ≡ Some b → block_at names n ≡ Some b
 emptied_named name n names now b empties is =
     elim (eqb_tells name n) [
       | inl equal ↦ let no : None ≡ Some b = sym (ap (block_at now) (sym equal.1) ∙ empties.gone) ∙ is in absurd cc
       | inr other ↦ sym (empties.others n (λ e. other.1 (sym e))) ∙ is
     ]
 
-pub free_leaves : (line : Line) (reply : Reply) (name : ℕ) (names now : List (Option Block)) (trays left : List Tray) → line.call ≡ Free name →
+pub free_leaves : (line : Line) (reply : Reply) (name : ℕ) (names now : NameTable) (trays left : List Tray) → line.call ≡ Free name →
     EmptiesName name names now → left ≡ trays → LeavesBlocks line reply names now trays left
 free_leaves line reply name names now trays left call empties same =
     blocks_left line reply names now trays left
@@ -285,7 +268,7 @@ free_leaves line reply name names now trays left call empties same =
     (λ w fits n b is.
     subst (λ (c : Call). IsFit (posted_next w line.thread n c reply) b) (sym call) (fits.posted n b (sym (ap (λ ts. tray_at ts n) same) ∙ is)))
 
-pub exit_leaves : (line : Line) (reply : Reply) (names now : List (Option Block)) (trays left : List Tray) → line.call ≡ Exit → now ≡ names → left ≡ trays →
+pub exit_leaves : (line : Line) (reply : Reply) (names now : NameTable) (trays left : List Tray) → line.call ≡ Exit → now ≡ names → left ≡ trays →
     LeavesBlocks line reply names now trays left
 exit_leaves line reply names now trays left call stay same =
     blocks_left line reply names now trays left
@@ -302,7 +285,7 @@ exit_leaves line reply names now trays left call stay same =
 posted_fit : (reply : Reply) (named was : Option Wanted) (b : Block) → reply ≡ Posted → IsFit named b → IsFit (wanted_posted reply named was) b
 posted_fit reply named was b is fit = subst (λ (r : Reply). IsFit (wanted_posted r named was) b) (sym is) fit
 
-pub post_leaves : (line : Line) (reply : Reply) (name tray : ℕ) (names now : List (Option Block)) (trays left : List Tray) → line.call ≡ Post name tray →
+pub post_leaves : (line : Line) (reply : Reply) (name tray : ℕ) (names now : NameTable) (trays left : List Tray) → line.call ≡ Post name tray →
     PostsName name tray reply names now trays left → LeavesBlocks line reply names now trays left
 post_leaves line reply name tray names now trays left call posts =
     blocks_left line reply names now trays left
@@ -330,7 +313,7 @@ post_leaves line reply name tray names now trays left call posts =
 taken_fit : (reply : Reply) (posted was : Option Wanted) (addr size : ℕ) (b : Block) → reply ≡ Taken addr size → IsFit posted b → IsFit (wanted_taken reply posted was) b
 taken_fit reply posted was addr size b is fit = subst (λ (r : Reply). IsFit (wanted_taken r posted was) b) (sym is) fit
 
-pub take_leaves : (line : Line) (reply : Reply) (name tray : ℕ) (names now : List (Option Block)) (trays left : List Tray) → line.call ≡ Take name tray →
+pub take_leaves : (line : Line) (reply : Reply) (name tray : ℕ) (names now : NameTable) (trays left : List Tray) → line.call ≡ Take name tray →
     TakesName name tray reply names now trays left → LeavesBlocks line reply names now trays left
 take_leaves line reply name tray names now trays left call takes =
     blocks_left line reply names now trays left

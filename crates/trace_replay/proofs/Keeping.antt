@@ -1,12 +1,12 @@
 -- What a call of a thread keeps, that first made a place for a name.
 use Rattle.std.proofs.Common.{◌≡◌, ℕ, zero, suc, ◌+◌, ◌-◌, true, false, List, length, replicate, Option, None, refl, sym, ap, ◌∙◌, subst, arith}
-use Rattle.std.proofs.lemmas.List.Sums.{sum_by-cons, sum_by-append}
 use Rattle.chunk_tags.specs.declared.block.Block.{Block}
 use Rattle.chunk_tags.specs.declared.tunables.Tunables.{Tunables}
 use Rattle.address_space.specs.declared.space.Space.{Space}
 use Rattle.malloc_calls.specs.declared.own.Own.{Own}
 use Rattle.malloc_calls.specs.declared.thread.Thread.{Thread}
-use Rattle.malloc_calls.specs.Names.{IsTable, with_places_to}
+use Rattle.malloc_calls.specs.Names.{IsTable, with_place}
+use Rattle.malloc_calls.proofs.Tables.{place_weighs}
 use Rattle.malloc_calls.specs.Own.{own_of, names_of, space_of, number_of, with_names, in_names, in_own}
 use Rattle.arena_holds.specs.Places.{Hands, weight_of, both_of, as_mapped_byte, given_byte, standing, Carries}
 use Rattle.arena_holds.specs.Returning.{IsUnseen}
@@ -14,32 +14,23 @@ use Rattle.serial_places.specs.SerialWays.{SerialState, Serves, state_ways}
 use Rattle.serial_places.specs.SerialPlaces.{serial_laws}
 use Rattle.serial_places.specs.Trays.{in_trays}
 use Rattle.trace_replay.specs.Processes.{IsReady, IsServedBy, KeepsOn}
-use Rattle.trace_replay.specs.World.{with_place}
+use Rattle.trace_replay.specs.World.{own_with_place}
 use Rattle.trace_replay.proofs.TrayEnds.{SameBlocks}
 use Rattle.trace_replay.proofs.Within.{StaysWithin}
 
 -- ---- a place for a name weighs nothing
 
-nothing_weighs : (k : ℕ) (weigh : Block → ℕ) → in_names (replicate k None) weigh ≡ 0
-nothing_weighs zero weigh = refl
-nothing_weighs (suc k) weigh = omega (arith, sum_by-cons (λ o. weight_of o weigh) None (replicate k None), nothing_weighs k weigh)
-
-names_weigh : (name : ℕ) (names : List (Option Block)) (weigh : Block → ℕ) → in_names (with_places_to name names) weigh ≡ in_names names weigh
-names_weigh name names weigh =
-    let k : ℕ = name + 1 - length names in
-    omega (arith, sum_by-append (λ o. weight_of o weigh) names (replicate k None), nothing_weighs k weigh)
-
-pub own_weighs : (name : ℕ) (own : Own) (weigh : Block → ℕ) → in_own (with_place name own) weigh ≡ in_own own weigh
-own_weighs name own weigh = omega (arith, names_weigh name own.names weigh)
+pub own_weighs : (name : ℕ) (own : Own) (weigh : Block → ℕ) → in_own (own_with_place name own) weigh ≡ in_own own weigh
+own_weighs name own weigh = omega (arith, place_weighs name own.names (λ o. weight_of o weigh) refl)
 
 -- the thread with the place
 abbrev pub readied : {K : Type 0} → ℕ → Thread K → Thread K
-readied name th = with_names (with_places_to name (names_of th)) th
+readied name th = with_names (with_place name (names_of th)) th
 
 pub served_there : {K : Type 0} (t : Tunables) (th there : Thread K) (st : SerialState) (name : ℕ) → there ≡ readied name th → IsServedBy t th st → IsServedBy t there st
 served_there {K = K} t th there st name is s =
     let at : IsServedBy t (readied name th) st = record {
-      served = serial_laws.same false st (in_own (own_of th)) (in_own (with_place name (own_of th))) (own_weighs name (own_of th)) s.served;
+      served = serial_laws.same false st (in_own (own_of th)) (in_own (own_with_place name (own_of th))) (own_weighs name (own_of th)) s.served;
       others = s.others;
       notes = s.notes;
       tunables = s.tunables;

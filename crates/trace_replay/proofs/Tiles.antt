@@ -18,7 +18,8 @@ use Rattle.arena_rules.proofs.Counts.{at_most_once}
 use Rattle.arena_rules.proofs.Own.{own_tile}
 use Rattle.fast_bins.specs.PlainBins.{RoomyBin}
 use Rattle.malloc_calls.specs.declared.thread.Thread.{Thread}
-use Rattle.malloc_calls.specs.Names.{block_at}
+use Rattle.malloc_calls.specs.Names.{NameTable, block_at}
+use Rattle.malloc_calls.proofs.Tables.{held_weighs}
 use Rattle.malloc_calls.specs.Own.{own_of, names_of, space_of, in_names, in_own}
 use Rattle.arena_holds.specs.Blocks.{IsHeld}
 use Rattle.arena_holds.specs.Places.{weight_of, as_chunk_of, as_mapped, as_mapped_bytes, as_mapped_byte, given_byte}
@@ -224,10 +225,8 @@ whole_scene {K = K} t threads st s told = record {
 -- ---- where a user's addresses lie
 
 -- the weight of a block that has a name
-named_weighs : (name : ℕ) (names : List (Option Block)) (b : Block) (weigh : Block → ℕ) → block_at names name ≡ Some b → weigh b ≤ in_names names weigh
-named_weighs name [] b weigh e = absurd cc
-named_weighs zero (o ∷ os) b weigh e = omega (arith, sum_by-cons (λ o. weight_of o weigh) o os, ap (λ o. weight_of o weigh) e)
-named_weighs (suc name) (o ∷ os) b weigh e = omega (arith, sum_by-cons (λ o. weight_of o weigh) o os, named_weighs name os b weigh e)
+named_weighs : (name : ℕ) (names : NameTable) (b : Block) (weigh : Block → ℕ) → block_at names name ≡ Some b → weigh b ≤ in_names names weigh
+named_weighs name names b weigh e = omega (arith, held_weighs name names b (λ o. weight_of o weigh) e)
 
 -- of one in a tray
 posted_weighs : (tray : ℕ) (ts : List Tray) (b : Block) (weigh : Block → ℕ) → tray_at ts tray ≡ Full b → weigh b ≤ in_trays ts weigh

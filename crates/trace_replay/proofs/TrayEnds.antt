@@ -1,12 +1,13 @@
 -- What a post and a take leave of the thread's names and of the trays.
-use Rattle.std.proofs.Common.{◌≡◌, ℕ, zero, suc, ◌+◌, ◌<◌, List, [], ◌∷◌, length, set, Option, Some, None, inl, inr, refl, sym, ap, ◌∙◌, subst, arith}
+use Rattle.std.proofs.Common.{◌≡◌, ℕ, zero, suc, ◌+◌, ◌<◌, true, List, [], ◌∷◌, length, set, Option, Some, None, inl, inr, refl, sym, ap, ◌∙◌, subst, arith}
 use Rattle.std.proofs.lemmas.List.{get_or-set_same, get_or-set_other, length-set}
 use Rattle.std.proofs.lemmas.List.Sums.{sum_by-set}
 use Rattle.chunk_tags.specs.declared.block.Block.{Block}
 use Rattle.malloc_calls.specs.declared.own.Own.{Own}
 use Rattle.malloc_calls.specs.declared.reply.Reply.{Reply}
 use Rattle.malloc_calls.specs.declared.reply.Reply.TheVariants.{Posted, Taken}
-use Rattle.malloc_calls.specs.Names.{block_at, with_block, without_block}
+use Rattle.malloc_calls.specs.Names.{NameTable, has_place, block_at, with_at, with_block, without_block}
+use Rattle.malloc_calls.proofs.Tables.{at_same, at_other, place_of, set_weighs}
 use Rattle.malloc_calls.specs.Own.{in_names, in_own}
 use Rattle.malloc_calls.specs.Trays.{post_call, post_of_name, post_end, take_call, take_end}
 use Rattle.arena_holds.specs.Places.{weight_of}
@@ -43,15 +44,9 @@ trays_weigh : (ts : List Tray) (n : ℕ) (x : Tray) (weigh : Block → ℕ) → 
     in_trays (set ts n x) weigh + in_tray (tray_at ts n) weigh ≡ in_trays ts weigh + in_tray x weigh
 trays_weigh ts n x weigh lt = sum_by-set (λ t. in_tray t weigh) ts n x trays.Empty lt
 
-names_weigh : (names : List (Option Block)) (n : ℕ) (o : Option Block) (weigh : Block → ℕ) → n < length names →
-    in_names (set names n o) weigh + weight_of (block_at names n) weigh ≡ in_names names weigh + weight_of o weigh
-names_weigh names n o weigh lt = sum_by-set (λ o. weight_of o weigh) names n o None lt
-
--- a name that holds a block is in the table
-named_within : (names : List (Option Block)) (n : ℕ) (b : Block) → block_at names n ≡ Some b → n < length names
-named_within [] n b at = absurd cc
-named_within (o ∷ os) zero b at = omega arith
-named_within (o ∷ os) (suc n) b at = omega (arith, named_within os n b at)
+names_weigh : (names : NameTable) (n : ℕ) (o : Option Block) (weigh : Block → ℕ) → has_place names n ≡ true →
+    in_names (with_at n o names) weigh + weight_of (block_at names n) weigh ≡ in_names names weigh + weight_of o weigh
+names_weigh names n o weigh room = set_weighs n o names (λ p. weight_of p weigh) room
 
 -- ---- a post to an empty tray
 
@@ -71,7 +66,7 @@ posted_ends name tray own ts b lt empty at = record {
       arith,
       trays_weigh ts tray (trays.Full b) weigh lt,
       ap (λ (t : Tray). in_tray t weigh) empty,
-      names_weigh own.names name None weigh (named_within own.names name b at),
+      names_weigh own.names name None weigh (place_of own.names name b at),
       ap (λ (o : Option Block). weight_of o weigh) at,
     );
     count = length-set ts tray (trays.Full b);
@@ -152,17 +147,17 @@ missed_ends name tray own ts t reply lt at none before after =
       };
     }
 
-taken_ends : (name tray : ℕ) (own : Own) (ts : List Tray) (c : Block) → name < length own.names → tray < length ts → tray_at ts tray ≡ trays.Full c → block_at own.names name ≡ None →
+taken_ends : (name tray : ℕ) (own : Own) (ts : List Tray) (c : Block) → has_place own.names name ≡ true → tray < length ts → tray_at ts tray ≡ trays.Full c → block_at own.names name ≡ None →
     TakeEnds name tray own ts (Taken c.addr c.size, record own { names = with_block name c own.names }) (set ts tray trays.Taken)
 taken_ends name tray own ts c room lt at none =
     let e : Emptied tray ts (set ts tray trays.Taken) = emptied_tray tray ts (trays.Full c) lt at in
     record {
       names = record {
-        others = λ n other. get_or-set_other own.names name n (Some c) None other;
+        others = λ n other. at_other name n (Some c) own.names other;
         empty = e.empty;
         stays = e.stays;
         taken = λ b is.
-            let here : Some c ≡ Some b = sym (get_or-set_same own.names name (Some c) None room) ∙ is in
+            let here : Some c ≡ Some b = sym (at_same name (Some c) own.names room) ∙ is in
             let same : c ≡ b = cc in
             (at ∙ ap trays.Full same, (c.addr, c.size, refl));
       };
@@ -178,7 +173,7 @@ taken_ends name tray own ts c room lt at none =
       };
     }
 
-pub take_ends : (name tray : ℕ) (own : Own) (ts : List Tray) → name < length own.names → tray < length ts → block_at own.names name ≡ None → AllEnds (TakeEnds name tray own ts) (take_call name tray own) ts
+pub take_ends : (name tray : ℕ) (own : Own) (ts : List Tray) → has_place own.names name ≡ true → tray < length ts → block_at own.names name ≡ None → AllEnds (TakeEnds name tray own ts) (take_call name tray own) ts
 take_ends name tray own ts room lt none =
     let P : Tray → Type 0 = λ t. TakeEnds name tray own ts (take_end name own (found_by_take t)) (set ts tray (taken_tray t)) in
     let cases : (t : Tray) → tray_at ts tray ≡ t → P t = elim [

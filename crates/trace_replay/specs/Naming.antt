@@ -3,7 +3,7 @@
 use Rattle.std.specs.Prelude.{◌≡◌, ℕ, ◌≤◌, Bool, false, List, Option, Some, None, slice_get, slice_set}
 use Rattle.chunk_tags.specs.Sizes.{chunk_size_of}
 use Rattle.chunk_tags.specs.declared.block.Block.{Block}
-use Rattle.malloc_calls.specs.Names.{block_at}
+use Rattle.malloc_calls.specs.Names.{NameTable, block_at}
 use Rattle.malloc_calls.specs.Calls.{FitsName}
 use Rattle.malloc_calls.specs.Reallocs.{IfAnswered}
 use Rattle.malloc_calls.specs.declared.reply.Reply.{Reply}
@@ -29,7 +29,7 @@ pub record HoldsWithin {K : Type 0} (before : List Line) (w : World K) : Type 0 
   pub posted : (tray : ℕ) → was_posted tray before ≡ false → tray_at w.trays tray ≡ Empty
 
 -- a name that a call makes holds no block, and a tray to which it posts is empty
-abbrev pub IsFree : Call → List (Option Block) → List Tray → Type 0
+abbrev pub IsFree : Call → NameTable → List Tray → Type 0
 IsFree (Malloc name size) names trays = block_at names name ≡ None
 IsFree (Calloc name n size) names trays = block_at names name ≡ None
 IsFree (Align name align size) names trays = block_at names name ≡ None
@@ -38,7 +38,7 @@ IsFree (Take name tray) names trays = block_at names name ≡ None
 IsFree _ names trays = Unit {0}
 
 -- a line that may be run by its thread, over these names and trays
-pub record MayCall (line : Line) (names : List (Option Block)) (trays : List Tray) : Type 0 where
+pub record MayCall (line : Line) (names : NameTable) (trays : List Tray) : Type 0 where
   pub call : IsCall line.thread line.call
   pub free : IsFree line.call names trays
 
@@ -48,13 +48,13 @@ pub record MayRun {K : Type 0} (line : Line) (w : World K) : Type 0 where
   pub may : (th : ThreadWorld K) → slice_get w.threads line.thread ≡ Some th → MayCall line th.own.names w.trays
 
 -- the blocks of a thread and of the trays are what was asked for
-pub record FitsThread (wishes : Wishes) (thread : ℕ) (names : List (Option Block)) (trays : List Tray) : Type 0 where
+pub record FitsThread (wishes : Wishes) (thread : ℕ) (names : NameTable) (trays : List Tray) : Type 0 where
   pub named : (name : ℕ) (b : Block) → block_at names name ≡ Some b → IsFit (wishes.named thread name) b
   pub posted : (tray : ℕ) (b : Block) → tray_at trays tray ≡ Full b → IsFit (wishes.posted tray) b
 
 -- what a line leaves that was answered so: a name that isn't held behind it holds no block, where that was so before; a tray
 -- to which it doesn't post is empty still; and blocks are what was asked for, where those before were
-pub record LeavesBlocks (line : Line) (reply : Reply) (names now : List (Option Block)) (trays left : List Tray) : Type 0 where
+pub record LeavesBlocks (line : Line) (reply : Reply) (names now : NameTable) (trays left : List Tray) : Type 0 where
   pub held : (name : ℕ) (was : Bool) → (was ≡ false → block_at names name ≡ None) → held_after name was line.call ≡ false →
       block_at now name ≡ None
   pub empty : (tray : ℕ) → is_post tray line.call ≡ false → tray_at trays tray ≡ Empty → tray_at left tray ≡ Empty
@@ -73,13 +73,13 @@ pub record LeavesLine {K : Type 0} (line : Line) (reply : Reply) (before now : W
 
 -- what a call leaves that makes a name: all other names hold what they held, and a block that the name then holds is what
 -- was asked for
-pub record MakesName (name : ℕ) (wanted : Wanted) (names now : List (Option Block)) : Type 0 where
+pub record MakesName (name : ℕ) (wanted : Wanted) (names now : NameTable) : Type 0 where
   pub others : (n : ℕ) → (n ≡ name → ⊥) → block_at now n ≡ block_at names n
   pub made : (b : Block) → block_at now name ≡ Some b → IsEnough wanted b
 
 -- What realloc to a size leaves: all other names hold what they held. So does the name where it held nothing, and where no
 -- block was answered; to 0 it then holds nothing; else its block is large enough.
-pub record ResizesName (name size : ℕ) (reply : Reply) (names now : List (Option Block)) : Type 0 where
+pub record ResizesName (name size : ℕ) (reply : Reply) (names now : NameTable) : Type 0 where
   pub others : (n : ℕ) → (n ≡ name → ⊥) → block_at now n ≡ block_at names n
   pub none : block_at names name ≡ None → block_at now name ≡ None
   pub gone : size ≡ 0 → block_at now name ≡ None
@@ -87,20 +87,20 @@ pub record ResizesName (name size : ℕ) (reply : Reply) (names now : List (Opti
   pub made : IfAnswered reply (FitsName (chunk_size_of size) name now)
 
 -- what free leaves: all other names hold what they held, and the name holds nothing
-pub record EmptiesName (name : ℕ) (names now : List (Option Block)) : Type 0 where
+pub record EmptiesName (name : ℕ) (names now : NameTable) : Type 0 where
   pub others : (n : ℕ) → (n ≡ name → ⊥) → block_at now n ≡ block_at names n
   pub gone : block_at now name ≡ None
 
 -- what a post to an empty tray leaves: all other names and trays hold what they held, the name nothing, and the tray the block
 -- of the name, where it was posted
-pub record PostsName (name tray : ℕ) (reply : Reply) (names now : List (Option Block)) (trays left : List Tray) : Type 0 where
+pub record PostsName (name tray : ℕ) (reply : Reply) (names now : NameTable) (trays left : List Tray) : Type 0 where
   pub empties : EmptiesName name names now
   pub others : (n : ℕ) → (n ≡ tray → ⊥) → tray_at left n ≡ tray_at trays n
   pub posted : (b : Block) → tray_at left tray ≡ Full b → (reply ≡ Posted) × (block_at names name ≡ Some b)
 
 -- what a take leaves: all other names and trays hold what they held, and a block that the name then holds is the tray's, which
 -- has it no more
-pub record TakesName (name tray : ℕ) (reply : Reply) (names now : List (Option Block)) (trays left : List Tray) : Type 0 where
+pub record TakesName (name tray : ℕ) (reply : Reply) (names now : NameTable) (trays left : List Tray) : Type 0 where
   pub others : (n : ℕ) → (n ≡ name → ⊥) → block_at now n ≡ block_at names n
   pub empty : (n : ℕ) → tray_at trays n ≡ Empty → tray_at left n ≡ Empty
   pub stays : (n : ℕ) (b : Block) → tray_at left n ≡ Full b → tray_at trays n ≡ Full b

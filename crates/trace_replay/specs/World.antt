@@ -13,7 +13,7 @@ use Rattle.arena_core.specs.declared.journal.Who.{Who}
 use Rattle.arena_choice.specs.Books.{BookValue, first_book}
 use Rattle.malloc_calls.specs.declared.own.Own.{Own}
 use Rattle.malloc_calls.specs.declared.reply.Reply.{Reply}
-use Rattle.malloc_calls.specs.Names.{with_places_to}
+use Rattle.malloc_calls.specs.Names.{with_place}
 use Rattle.malloc_calls.specs.Own.{new_own}
 use Rattle.arena_holds.specs.Calls.{Call}
 use Rattle.malloc_calls.specs.Mallocs.{malloc_call, calloc_call, posix_memalign_call}
@@ -64,18 +64,18 @@ abbrev pub who_in : Line → Who
 who_in line = record { thread = line.thread; line = line.number }
 
 -- the thread with a place for a name
-abbrev pub with_place : ℕ → Own → Own
-with_place name own = record own { names = with_places_to name own.names }
+abbrev pub own_with_place : ℕ → Own → Own
+own_with_place name own = record own { names = with_place name own.names }
 
 -- the call of a line of a thread
 abbrev pub call_of : Tunables → ℕ → traced.Call → Own → Call (Reply × Own)
-call_of t thread (calls.Malloc name size) own = malloc_call t thread name size (with_place name own)
-call_of t thread (calls.Calloc name n size) own = calloc_call t thread name n size (with_place name own)
-call_of t thread (calls.Realloc name size) own = realloc_call t thread name size (with_place name own)
-call_of t thread (calls.Align name align size) own = posix_memalign_call t thread name align size (with_place name own)
-call_of t thread (calls.Free name) own = free_call t thread name (with_place name own)
-call_of t thread (calls.Post name tray) own = post_call name tray (with_place name own)
-call_of t thread (calls.Take name tray) own = take_call name tray (with_place name own)
+call_of t thread (calls.Malloc name size) own = malloc_call t thread name size (own_with_place name own)
+call_of t thread (calls.Calloc name n size) own = calloc_call t thread name n size (own_with_place name own)
+call_of t thread (calls.Realloc name size) own = realloc_call t thread name size (own_with_place name own)
+call_of t thread (calls.Align name align size) own = posix_memalign_call t thread name align size (own_with_place name own)
+call_of t thread (calls.Free name) own = free_call t thread name (own_with_place name own)
+call_of t thread (calls.Post name tray) own = post_call name tray (own_with_place name own)
+call_of t thread (calls.Take name tray) own = take_call name tray (own_with_place name own)
 call_of t thread calls.Exit own = exit_call t thread own
 
 -- what a thread's call goes over

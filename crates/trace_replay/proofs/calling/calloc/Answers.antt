@@ -1,8 +1,9 @@
+use Rattle.trace_replay.proofs.Keeping.{served_there}
 use Rattle.std.proofs.Common.{◌*◌}
 use Rattle.malloc_calls.specs.Own.{own_of, names_of, number_of}
 use Rattle.malloc_calls.specs.Mallocs.{calloc_call}
 use Rattle.trace_replay.proofs.CallResults.{KeepsOthers, calloc_keeps}
-use Rattle.trace_replay.proofs.HeldNames.{makes_bytes}
+use Rattle.trace_replay.proofs.HeldNames.{makes_bytes, nothing_there, room_there}
 use Rattle.trace_replay.proofs.QuietCalls.{quiet_call}
 use Rattle.trace_replay.proofs.Results.{if_ok, if_ok₂}
 use Rattle.trace_replay.proofs.calling.calloc.Goals as goal
@@ -29,3 +30,13 @@ returns-clause-trays g c =
     (quiet_call g.K.Kernel.port c.args.t.now c.args.line c.args.name (calloc_call c.args.t.now (number_of c.ready.new.self) c.args.name c.args.n c.args.size (own_of c.ready.new.self)) c.args.thread.now c.ready.new.self c.calloc.new.self c.args.serial.now c.calloc.new.p
     (KeepsOthers c.args.name (names_of c.ready.new.self)) c.calloc.result c.in_ok-ready.ensures.ok c.calloc.ensures.number (calloc_keeps c.args.t.now (number_of c.ready.new.self) c.args.name c.args.n c.args.size (own_of c.ready.new.self))
     c.calloc.ensures.carries c.calloc.ensures.does)
+
+pub calloc-requires-clause-room : goal.calloc-requires-clause-room
+calloc-requires-clause-room g c = λ κs within. room_there c.args.thread.now c.ready.new.self c.args.name c.in_ok-ready.ensures.ok
+
+pub calloc-requires-clause-empty : goal.calloc-requires-clause-empty
+calloc-requires-clause-empty g c = λ κs within. nothing_there c.args.thread.now c.ready.new.self c.args.name c.in_ok-ready.ensures.ok c.requires.free
+
+pub calloc-requires-clause-served : goal.calloc-requires-clause-served
+calloc-requires-clause-served g c = λ κs within.
+    served_there c.args.t.now c.args.thread.now c.ready.new.self c.args.serial.now c.args.name c.in_ok-ready.ensures.ok c.requires.served

@@ -1,3 +1,4 @@
+use Rattle.trace_replay.proofs.Keeping.{served_there}
 use Rattle.malloc_calls.specs.Own.{own_of, names_of, number_of}
 use Rattle.malloc_calls.specs.Frees.{free_call}
 use Rattle.trace_replay.proofs.CallResults.{Empties, free_empties}
@@ -27,3 +28,7 @@ returns-clause-trays g c =
     (quiet_call g.K.Kernel.port c.args.t.now c.args.line c.args.name (free_call c.args.t.now (number_of c.ready.new.self) c.args.name (own_of c.ready.new.self)) c.args.thread.now c.ready.new.self c.free.new.self c.args.serial.now c.free.new.p
     (Empties c.args.name (names_of c.ready.new.self)) c.free.result c.in_ok-ready.ensures.ok c.free.ensures.number (free_empties c.args.t.now (number_of c.ready.new.self) c.args.name (own_of c.ready.new.self))
     c.free.ensures.carries c.free.ensures.does)
+
+pub free-requires-clause-served : goal.free-requires-clause-served
+free-requires-clause-served g c = λ κs within.
+    served_there c.args.t.now c.args.thread.now c.ready.new.self c.args.serial.now c.args.name c.in_ok-ready.ensures.ok c.requires.served

@@ -1,7 +1,8 @@
+use Rattle.trace_replay.proofs.Keeping.{served_there}
 use Rattle.malloc_calls.specs.Own.{own_of, names_of, number_of}
 use Rattle.malloc_calls.specs.Mallocs.{malloc_call}
 use Rattle.trace_replay.proofs.CallResults.{KeepsOthers, malloc_keeps}
-use Rattle.trace_replay.proofs.HeldNames.{makes_bytes}
+use Rattle.trace_replay.proofs.HeldNames.{makes_bytes, nothing_there, room_there}
 use Rattle.trace_replay.proofs.QuietCalls.{quiet_call}
 use Rattle.trace_replay.proofs.Results.{if_ok, if_ok₂}
 use Rattle.trace_replay.proofs.calling.malloc.Goals as goal
@@ -28,3 +29,13 @@ returns-clause-trays g c =
     (quiet_call g.K.Kernel.port c.args.t.now c.args.line c.args.name (malloc_call c.args.t.now (number_of c.ready.new.self) c.args.name c.args.size (own_of c.ready.new.self)) c.args.thread.now c.ready.new.self c.malloc.new.self c.args.serial.now c.malloc.new.p
     (KeepsOthers c.args.name (names_of c.ready.new.self)) c.malloc.result c.in_ok-ready.ensures.ok c.malloc.ensures.number (malloc_keeps c.args.t.now (number_of c.ready.new.self) c.args.name c.args.size (own_of c.ready.new.self))
     c.malloc.ensures.carries c.malloc.ensures.does)
+
+pub malloc-requires-clause-room : goal.malloc-requires-clause-room
+malloc-requires-clause-room g c = λ κs within. room_there c.args.thread.now c.ready.new.self c.args.name c.in_ok-ready.ensures.ok
+
+pub malloc-requires-clause-empty : goal.malloc-requires-clause-empty
+malloc-requires-clause-empty g c = λ κs within. nothing_there c.args.thread.now c.ready.new.self c.args.name c.in_ok-ready.ensures.ok c.requires.free
+
+pub malloc-requires-clause-served : goal.malloc-requires-clause-served
+malloc-requires-clause-served g c = λ κs within.
+    served_there c.args.t.now c.args.thread.now c.ready.new.self c.args.serial.now c.args.name c.in_ok-ready.ensures.ok c.requires.served

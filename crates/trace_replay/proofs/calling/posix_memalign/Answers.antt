@@ -1,8 +1,9 @@
+use Rattle.trace_replay.proofs.Keeping.{served_there}
 use Rattle.std.proofs.Common.{◌<◌}
 use Rattle.malloc_calls.specs.Own.{own_of, names_of, number_of}
 use Rattle.malloc_calls.specs.Mallocs.{posix_memalign_call, IsAlignedName}
 use Rattle.trace_replay.proofs.CallResults.{KeepsOthers, memalign_keeps}
-use Rattle.trace_replay.proofs.HeldNames.{makes_aligned}
+use Rattle.trace_replay.proofs.HeldNames.{makes_aligned, nothing_there, room_there}
 use Rattle.trace_replay.proofs.QuietCalls.{quiet_call}
 use Rattle.trace_replay.proofs.Results.{if_ok, if_ok₃, ok_later}
 use Rattle.trace_replay.proofs.calling.posix_memalign.Goals as goal
@@ -30,3 +31,13 @@ returns-clause-trays g c =
     (quiet_call g.K.Kernel.port c.args.t.now c.args.line c.args.name (posix_memalign_call c.args.t.now (number_of c.ready.new.self) c.args.name c.args.align c.args.size (own_of c.ready.new.self)) c.args.thread.now c.ready.new.self c.posix_memalign.new.self c.args.serial.now c.posix_memalign.new.p
     (KeepsOthers c.args.name (names_of c.ready.new.self)) c.posix_memalign.result c.in_ok-ready.ensures.ok c.posix_memalign.ensures.number (memalign_keeps c.args.t.now (number_of c.ready.new.self) c.args.name c.args.align c.args.size (own_of c.ready.new.self))
     c.posix_memalign.ensures.carries c.posix_memalign.ensures.does)
+
+pub posix_memalign-requires-clause-room : goal.posix_memalign-requires-clause-room
+posix_memalign-requires-clause-room g c = λ κs within. room_there c.args.thread.now c.ready.new.self c.args.name c.in_ok-ready.ensures.ok
+
+pub posix_memalign-requires-clause-empty : goal.posix_memalign-requires-clause-empty
+posix_memalign-requires-clause-empty g c = λ κs within. nothing_there c.args.thread.now c.ready.new.self c.args.name c.in_ok-ready.ensures.ok c.requires.free
+
+pub posix_memalign-requires-clause-served : goal.posix_memalign-requires-clause-served
+posix_memalign-requires-clause-served g c = λ κs within.
+    served_there c.args.t.now c.args.thread.now c.ready.new.self c.args.serial.now c.args.name c.in_ok-ready.ensures.ok c.requires.served

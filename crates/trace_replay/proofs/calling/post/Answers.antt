@@ -2,7 +2,7 @@ use Rattle.std.proofs.Common.{arith}
 use Rattle.malloc_calls.specs.Own.{own_of}
 use Rattle.malloc_calls.specs.Trays.{post_call}
 use Rattle.trace_replay.proofs.HeldNames.{posts_name}
-use Rattle.trace_replay.proofs.Keeping.{keeps_unseen}
+use Rattle.trace_replay.proofs.Keeping.{keeps_unseen, served_there}
 use Rattle.trace_replay.proofs.TrayCalls.{tray_result}
 use Rattle.trace_replay.proofs.TrayEnds.{PostEnds, post_ends}
 use Rattle.trace_replay.proofs.calling.post.Goals as goal
@@ -24,3 +24,7 @@ returns-clause-names g c =
     (PostEnds c.args.name c.args.tray own ts) c.post.result
     (post_ends c.args.name c.args.tray own ts (omega (arith, c.requires.tray, c.requires.trays)) c.requires.empty) c.post.ensures.does in
     posts_name c.args.thread.now c.ready.new.self c.post.new.self c.args.name c.args.tray c.post.result ts c.post.new.p.trays c.in_ok-ready.ensures.ok q.names
+
+pub post-requires-clause-served : goal.post-requires-clause-served
+post-requires-clause-served g c = λ κs within.
+    (served_there c.args.t.now c.args.thread.now c.ready.new.self c.args.serial.now c.args.name c.in_ok-ready.ensures.ok c.requires.served).served

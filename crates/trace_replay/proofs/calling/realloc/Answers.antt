@@ -1,3 +1,4 @@
+use Rattle.trace_replay.proofs.Keeping.{served_there}
 use Rattle.malloc_calls.specs.Own.{own_of, names_of, number_of}
 use Rattle.malloc_calls.specs.Reallocs.{realloc_call}
 use Rattle.trace_replay.proofs.CallResults.{LeavesName, realloc_keeps}
@@ -29,3 +30,7 @@ returns-clause-trays g c =
     (quiet_call g.K.Kernel.port c.args.t.now c.args.line c.args.name (realloc_call c.args.t.now (number_of c.ready.new.self) c.args.name c.args.size (own_of c.ready.new.self)) c.args.thread.now c.ready.new.self c.realloc.new.self c.args.serial.now c.realloc.new.p
     (LeavesName c.args.name c.args.size (names_of c.ready.new.self)) c.realloc.result c.in_ok-ready.ensures.ok c.realloc.ensures.number (realloc_keeps c.args.t.now (number_of c.ready.new.self) c.args.name c.args.size (own_of c.ready.new.self))
     c.realloc.ensures.carries c.realloc.ensures.does)
+
+pub realloc-requires-clause-served : goal.realloc-requires-clause-served
+realloc-requires-clause-served g c = λ κs within.
+    served_there c.args.t.now c.args.thread.now c.ready.new.self c.args.serial.now c.args.name c.in_ok-ready.ensures.ok c.requires.served

@@ -28,3 +28,9 @@ returns-clause-names g c =
     (take_ends c.args.name c.args.tray own ts (room_there c.args.thread.now c.ready.new.self c.args.name is) (omega (arith, c.requires.tray, c.requires.trays))
     (nothing_there c.args.thread.now c.ready.new.self c.args.name is c.requires.free)) c.take.ensures.does in
     takes_name c.args.thread.now c.ready.new.self c.take.new.self c.args.name c.args.tray c.take.result ts c.take.new.p.trays is q.names
+
+pub take-requires-clause-room : goal.take-requires-clause-room
+take-requires-clause-room g c = λ κs within. room_there c.args.thread.now c.ready.new.self c.args.name c.in_ok-ready.ensures.ok
+
+pub take-requires-clause-empty : goal.take-requires-clause-empty
+take-requires-clause-empty g c = λ κs within. nothing_there c.args.thread.now c.ready.new.self c.args.name c.in_ok-ready.ensures.ok c.requires.free
