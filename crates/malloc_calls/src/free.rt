@@ -39,7 +39,7 @@ fn put_back(names: &mut Names, name: u32, back: Option<Block>)
 }
 
 /// Releases a name's block, which is of an arena. Where memory is short the name holds it again, or the arena has it.
-#[tactic(auto, using(crate::proofs::Tables::place_left, crate::proofs::Tables::without_none))]
+#[tactic(auto, using(crate::proofs::Tables::without_none))]
 fn free_chunk<P: Places, K: Kernel>(
     own: &mut Own,
     alloc: Global,

@@ -1,6 +1,7 @@
-use Rattle.std.proofs.Common.{◌≡◌, Some, refl, arith}
+use Rattle.std.proofs.Common.{◌≡◌, true, Some, refl, sym, subst, arith}
 use Rattle.arena_holds.specs.Blocks.{IsHeld}
-use Rattle.malloc_calls.specs.Names.{block_at}
+use Rattle.malloc_calls.specs.Names.{NameTable, has_place, block_at}
+use Rattle.malloc_calls.proofs.Tables.{place_left}
 use Rattle.arena_holds.specs.Places.{both_of, in_cache}
 use Rattle.malloc_calls.proofs.Calling.{own_unnamed, carries_unnamed}
 use Rattle.arena_holds.proofs.Carrying.{served_fewer}
@@ -13,6 +14,11 @@ release-requires-clause-served g c = λ k l.
     let at : block_at c.args.own.now.names c.args.name ≡ Some b = cc in
     served_fewer g.met.P.Places.laws.fewer (both_of (λ weigh. weigh b) (in_cache c.args.own.now.cache))
     (λ w. omega (arith, own_unnamed c.args.own.now c.args.name b c.args.own.now.cache c.take.new.self at refl c.take.ensures.rest w)) c.requires.served
+
+pub put_back-requires-clause-room : goal.put_back-requires-clause-room
+put_back-requires-clause-room g c =
+    let at : block_at c.args.own.now.names c.args.name ≡ Some c.unwrap-block.result = cc in
+    subst (λ (names : NameTable). has_place names c.args.name ≡ true) (sym c.take.ensures.rest) (place_left c.args.own.now.names c.args.name c.unwrap-block.result at)
 
 pub put_back-requires-clause-held : goal.put_back-requires-clause-held
 put_back-requires-clause-held g c = back_held c.unwrap-block.result c.in-Err.short.back (held_some IsHeld c.take.ensures.held c.unwrap-block.ensures) c.in-Err.ensures.short.same

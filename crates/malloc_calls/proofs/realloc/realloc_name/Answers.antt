@@ -1,5 +1,6 @@
-use Rattle.std.proofs.Common.{◌≡◌, Some, refl, arith}
-use Rattle.malloc_calls.specs.Names.{block_at}
+use Rattle.std.proofs.Common.{◌≡◌, true, Some, refl, sym, subst, arith}
+use Rattle.malloc_calls.specs.Names.{NameTable, has_place, block_at}
+use Rattle.malloc_calls.proofs.Tables.{place_left}
 use Rattle.arena_holds.specs.Places.{both_of, in_cache}
 use Rattle.malloc_calls.specs.Reallocs.{realloc_in}
 use Rattle.malloc_calls.proofs.Calling.{own_unnamed, carries_renamed}
@@ -13,6 +14,11 @@ realloc_block-requires-clause-served g c = λ k l.
     let at : block_at c.args.own.now.names c.args.name ≡ Some b = cc in
     served_fewer g.met.P.Places.laws.fewer (both_of (λ weigh. weigh b) (in_cache c.args.own.now.cache))
     (λ w. omega (arith, own_unnamed c.args.own.now c.args.name b c.args.own.now.cache c.take.new.self at refl c.take.ensures.rest w)) c.requires.served
+
+pub put-requires-clause-room : goal.put-requires-clause-room
+put-requires-clause-room g c =
+    let at : block_at c.args.own.now.names c.args.name ≡ Some c.unwrap-block.result = cc in
+    subst (λ (names : NameTable). has_place names c.args.name ≡ true) (sym c.take.ensures.rest) (place_left c.args.own.now.names c.args.name c.unwrap-block.result at)
 
 pub returns-in-Ok-clause-does : goal.returns-in-Ok-clause-does
 returns-in-Ok-clause-does g c = λ b at.
