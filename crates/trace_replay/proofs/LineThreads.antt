@@ -5,18 +5,19 @@ use Rattle.std.proofs.lemmas.Bool.Decides.{eqb_tells}
 use Rattle.std.proofs.lemmas.List.{get_or-set_same, get_or-set_other, take_more}
 use Rattle.std.proofs.lemmas.List.Elements.{All-from_recursion, filter-append}
 use Rattle.trace_text.specs.declared.trace.Line.{Line}
-use Rattle.trace_text.specs.Spelling.{AllFit, Allows}
+use Rattle.trace_text.specs.Spelling.{AllFit}
+use Rattle.trace_replay.specs.Sheets.{AreLines}
 use Rattle.trace_replay.specs.Views.{IsThread, has_line}
 
 -- ---- each line has a thread
 
-all_threads : (before lines : List Line) → AllFit before lines → AllByRecursion IsThread lines
+all_threads : (version : ℕ) (before lines : List Line) → AllFit version before lines → AllByRecursion IsThread lines
 unfolding AllFit
-all_threads before [] fit = tt
-all_threads before (line ∷ lines) fit = (fit.0.thread, all_threads (before ++ line ∷ []) lines fit.1)
+all_threads version before [] fit = tt
+all_threads version before (line ∷ lines) fit = (fit.0.thread, all_threads version (before ++ line ∷ []) lines fit.1)
 
-pub allowed_threads : (lines : List Line) → Allows lines → All IsThread lines
-allowed_threads lines fit = All-from_recursion IsThread lines (all_threads [] lines fit)
+pub allowed_threads : (lines : List Line) → AreLines lines → All IsThread lines
+allowed_threads lines are = All-from_recursion IsThread lines (all_threads are.version [] lines are.allowed.1)
 
 -- ---- marks
 

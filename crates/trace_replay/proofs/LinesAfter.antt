@@ -129,22 +129,22 @@ free_of before thread (Take name tray) w th fit holds at = holds.named thread na
 free_of before thread call w th fit holds at = tt
 
 -- one that fits the lines before it may be run
-pub may_run : {K : Type 0} (before : List Line) (line : Line) (w : World K) → Fits before line → HoldsWithin before w → MayRun line w
-may_run before line w fit holds = record {
+pub may_run : {K : Type 0} (version : ℕ) (before : List Line) (line : Line) (w : World K) → Fits version before line → HoldsWithin before w → MayRun line w
+may_run version before line w fit holds = record {
   thread = fit.thread;
-  may = λ th at. record { call = fit.call; free = free_of before line.thread line.call w th fit.suits holds at };
+  may = λ th at. record { version = version; call = fit.call; free = free_of before line.thread line.call w th fit.suits holds at };
 }
 
 -- the line at a place fits those before it
-fits_from : (before lines : List Line) (i : ℕ) (d : Line) → AllFit before lines → i < length lines → Fits (before ++ take i lines) (get_or lines i d)
+fits_from : (version : ℕ) (before lines : List Line) (i : ℕ) (d : Line) → AllFit version before lines → i < length lines → Fits version (before ++ take i lines) (get_or lines i d)
 unfolding AllFit
-fits_from before [] i d fit lt = absurd (omega arith)
-fits_from before (line ∷ lines) zero d fit lt = subst (λ b. Fits b line) (sym (append-nil before)) fit.0
-fits_from before (line ∷ lines) (suc i) d fit lt =
-    subst (λ b. Fits b (get_or lines i d)) (append_assoc before (line ∷ []) (take i lines)) (fits_from (before ++ line ∷ []) lines i d fit.1 (omega arith))
+fits_from version before [] i d fit lt = absurd (omega arith)
+fits_from version before (line ∷ lines) zero d fit lt = subst (λ b. Fits version b line) (sym (append-nil before)) fit.0
+fits_from version before (line ∷ lines) (suc i) d fit lt =
+    subst (λ b. Fits version b (get_or lines i d)) (append_assoc before (line ∷ []) (take i lines)) (fits_from version (before ++ line ∷ []) lines i d fit.1 (omega arith))
 
-pub fits_at : (lines : List Line) (i : ℕ) (d : Line) → Allows lines → i < length lines → Fits (take i lines) (get_or lines i d)
-fits_at lines i d fit lt = fits_from [] lines i d fit lt
+pub fits_at : (version : ℕ) (lines : List Line) (i : ℕ) (d : Line) → Allows version lines → i < length lines → Fits version (take i lines) (get_or lines i d)
+fits_at version lines i d fit lt = fits_from version [] lines i d fit.1 lt
 
 -- one line more
 pub holds_next : {K : Type 0} (lines : List Line) (i : ℕ) (d : Line) (reply : Reply) (w now : World K) → i < length lines → HoldsWithin (take i lines) w →

@@ -39,7 +39,8 @@ IsFree _ names trays = Unit {0}
 
 -- a line that may be run by its thread, over these names and trays
 pub record MayCall (line : Line) (names : NameTable) (trays : List Tray) : Type 0 where
-  pub call : IsCall line.thread line.call
+  pub version : ℕ
+  pub call : IsCall version line.thread line.call
   pub free : IsFree line.call names trays
 
 -- a line that may be run in a world

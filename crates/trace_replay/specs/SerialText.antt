@@ -65,7 +65,7 @@ pub record Job : Type 0 where
 
 -- the lines of a text, or its first fault
 abbrev pub lines_of : Reading → Result (List Line) Exit
-lines_of (Ok lines) = Ok lines
+lines_of (Ok content) = Ok content.lines
 lines_of (Err fault) = Err (BadTrace fault.line fault.why)
 
 abbrev pub job_with : Asked → Result (List Line) Exit → Result Job Exit

@@ -6,7 +6,7 @@ use Rattle.stats_text.specs.declared.summary.Counts.{Counts}
 use Rattle.stats_text.specs.Summary.{HasRoom, counts_of, summary_of}
 use Rattle.stats_text.specs.Views.{Shown}
 use Rattle.trace_text.specs.declared.trace.Line.{Line}
-use Rattle.trace_text.specs.Spelling.{spelling, texts_of}
+use Rattle.trace_text.specs.Spelling.{spelling, texts_of, Allows}
 use Rattle.trace_replay.specs.declared.exit.Exit.{Exit}
 use Rattle.trace_replay.specs.declared.sheet.Sheet.{Sheet}
 use Rattle.trace_replay.specs.declared.sheet.Sheet.TheVariants.{Report, Summary}
@@ -15,10 +15,21 @@ use Rattle.trace_replay.specs.Runs.{Run}
 use Rattle.trace_replay.specs.SerialText.{sections}
 use Rattle.trace_replay.specs.World.{World}
 
+-- the lines of a trace, of whichever version
+pub record AreLines (lines : List Line) : Type 0 where
+  pub version : ℕ
+  pub allowed : Allows version lines
+
+-- the bytes of a trace with these lines
+pub record IsTrace (lines : List Line) (bytes : List ℕ) : Type 0 where
+  pub version : ℕ
+  pub allowed : Allows version lines
+  pub spelled : bytes ≡ spelling version lines
+
 -- the bytes that a sheet is made with: for a report they spell the lines, and a summary needs none
 abbrev pub Spells : Bool → List ℕ → List Line → Type 0
 Spells true bytes lines = Unit {0}
-Spells false bytes lines = bytes ≡ spelling lines
+Spells false bytes lines = IsTrace lines bytes
 
 -- A sheet for a summary, or for a report, has these replies so far: their counts, or the first line and their records.
 abbrev pub HasNoted : Bool → Sheet → List (Line × Reply) → Type 0

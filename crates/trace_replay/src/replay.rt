@@ -3,8 +3,7 @@
 ghost use Rattle.std.specs.Prelude.{◌≡◌, ℕ, List, [], ◌∷◌, Some, take, IfOk, OnOk};
 ghost use Rattle.trace_replay.specs.Naming.{HoldsWithin, MayRun, LeavesLine};
 ghost use Rattle.trace_replay.specs.Tiling.{TilesAfter, FitsWithin, no_wishes};
-ghost use Rattle.trace_replay.specs.Sheets.{Awaits, CanNote, Notes, NotesRun};
-ghost use Rattle.trace_text.specs.Spelling.{Allows};
+ghost use Rattle.trace_replay.specs.Sheets.{AreLines, Awaits, CanNote, Notes, NotesRun};
 ghost use Rattle.trace_text.specs.declared.trace.Line.{Line};
 ghost use Rattle.trace_replay.specs.Processes.{world_of, Tells, step_in, run_in, IsSettled};
 
@@ -51,7 +50,7 @@ pub fn replay<K: Kernel>(
     requires holds { HoldsWithin [] (world_of process.old) }
     requires fit { FitsWithin no_wishes (world_of process.old) }
     requires settled { IsSettled process.old }
-    requires allowed { Allows lines.now }
+    requires allowed { AreLines lines.now }
     requires awaits { Awaits sheet.old lines.now }
     ensures told { Tells K.port process.old → OnOk result
         (NotesRun sheet.old sheet.new (run_in K.port lines.now process.old) (world_of process.new)) }

@@ -3,9 +3,9 @@
 ghost use Rattle.std.specs.Prelude.{◌≡◌, ◌<◌, ◌^◌, ◌∷◌, ◌++◌, [], List, false, length, codes, IfOk, OnOk};
 ghost use Rattle.stats_text.specs.Records.{record_text};
 ghost use Rattle.stats_text.specs.Totals.{HasTotals};
-ghost use Rattle.trace_text.specs.Spelling.{spelling, spelling_of, texts_of, Allows};
+ghost use Rattle.trace_text.specs.Spelling.{spelling_of, texts_of};
 ghost use Rattle.trace_text.specs.declared.trace.Line.{Line};
-ghost use Rattle.trace_replay.specs.Sheets.{HasNoted, Awaits, CanNote, Notes, Spells, text_with};
+ghost use Rattle.trace_replay.specs.Sheets.{IsTrace, HasNoted, Awaits, CanNote, Notes, Spells, text_with};
 
 use crate::record::outcome;
 use chunk_tags::NoMemory;
@@ -27,8 +27,8 @@ impl<'a> Records<'a> {
     /// A report's first line alone; `bytes` spell the trace.
     fn new(alloc: Global, bytes: &'a [u8]) -> Result<Records<'a>, NoMemory>
         ensures first { IfOk result (λ r. r.text.items ≡ codes "ptmreport 1 serial\n") }
-        ensures texts { IfOk result (λ r. (lines : List Line) → Allows lines →
-            bytes.now ≡ spelling lines → r.texts ≡ texts_of lines) }
+        ensures texts { IfOk result (λ r. (lines : List Line) → IsTrace lines bytes.now →
+            r.texts ≡ texts_of lines) }
     {
         Ok(Records {
             text: Vec::from_slice(alloc, b"ptmreport 1 serial\n")?,
@@ -58,7 +58,7 @@ impl<'a> Sheet<'a> {
     /// A sheet before any line. For a report `bytes` spell the trace.
     pub fn new(alloc: Global, summary: bool, bytes: &'a [u8]) -> Result<Sheet<'a>, NoMemory>
         ensures blank { IfOk result (λ sheet. HasNoted summary sheet []) }
-        ensures awaits { (lines : List Line) → Allows lines → Spells summary bytes.now lines →
+        ensures awaits { (lines : List Line) → Spells summary bytes.now lines →
             length lines < 2 ^ 64 → IfOk result (λ sheet. Awaits sheet lines) }
     {
         if summary {

@@ -2,10 +2,10 @@
 
 ghost use Rattle.std.specs.Prelude.{◌≡◌, ◌≤◌, ℕ, List, Some, vec_len, IsOk, IfOk, IfErr, OnOk, MatchResult, Ok};
 ghost use Rattle.trace_text.specs.Grammar.{reading_of, threads};
-ghost use Rattle.trace_text.specs.Spelling.{spelling, Allows};
+ghost use Rattle.trace_text.specs.Spelling.{Allows};
 ghost use Rattle.trace_replay.specs.Asked.{IsServable};
 ghost use Rattle.trace_replay.specs.Headline.{Told, TellsInput, AllTell, Refuses, AnswersJob, LeavesRead, LeavesSource, IsReadWhole, IsServed, IsUnwritten, IsTextRefusal};
-ghost use Rattle.trace_replay.specs.Sheets.{Spells};
+ghost use Rattle.trace_replay.specs.Sheets.{AreLines, IsTrace, Spells};
 ghost use Rattle.trace_replay.specs.Replays.{AnswersAs};
 ghost use Rattle.trace_replay.specs.SerialText.{lines_of, text_over, text_of, job_by, read_job, made_job, job_of, verdict};
 ghost use Rattle.trace_replay.specs.Tiling.{GivesTiles, ShowsTiles};
@@ -26,7 +26,7 @@ use trace_text::{Line, Trace, print_trace, read_trace};
 fn read_lines(alloc: Global, bytes: &[u8]) -> Result<Vec<Line>, Exit>
     ensures exact { AnswersAs (λ read rules. read.items ≡ rules)
         result (lines_of (reading_of bytes.now)) }
-    ensures spelled { IfOk result (λ read. Allows read.items × (bytes.now ≡ spelling read.items)) }
+    ensures spelled { IfOk result (λ read. IsTrace read.items bytes.now) }
     ensures kind { IfErr result IsTextRefusal }
 {
     let trace = read_trace(alloc, bytes)?;
@@ -43,7 +43,7 @@ fn text_over<K: Kernel>(
 ) -> Result<Vec<u8>, NoMemory>
     requires ports { vec_len kernels ≡ threads }
     requires servable { IsServable asked.now }
-    requires allowed { Allows lines.now }
+    requires allowed { AreLines lines.now }
     requires spelled { Spells asked.now.summary bytes.now lines.now }
     ensures told { AllTell K.port kernels.items → IfOk result (λ text.
         text_over K.port asked.now.summary asked.now.tunables lines.now kernels.items
@@ -60,6 +60,7 @@ fn text_over<K: Kernel>(
 
 /// The texts of a trace's lines, with which the records of a report begin; a summary has none.
 fn line_texts(alloc: Global, summary: bool, trace: &Trace) -> Result<Vec<u8>, NoMemory>
+    requires { Allows trace.now.version trace.now.lines.items }
     ensures { IfOk result (λ texts. Spells summary texts.items trace.now.lines.items) }
 {
     if summary {

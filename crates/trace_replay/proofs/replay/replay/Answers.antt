@@ -20,7 +20,7 @@ replay_line-requires-clause-room g c = λ k l.
 
 pub replay_line-requires-clause-may : goal.replay_line-requires-clause-may
 replay_line-requires-clause-may g c = λ k l.
-    may_run _ _ _ (fits_at c.args.lines.now c.loop-line.line-index _ c.requires.allowed c.loop-line-test.true) c.loop-line.invariant.holds
+    may_run _ _ _ _ (fits_at _ c.args.lines.now c.loop-line.line-index _ c.requires.allowed.allowed c.loop-line-test.true) c.loop-line.invariant.holds
 
 pub loop-line-preserved : goal.loop-line-preserved
 loop-line-preserved g c =
