@@ -213,6 +213,6 @@ fn versions_are_1_and_2()
     ensures three { reading_of (codes "ptmtrace 3\n") ≡ faulty 1 BadWhy.Header }
     ensures leading_zero { reading_of (codes "ptmtrace 02\n") ≡ faulty 1 BadWhy.Header }
     ensures blank { reading_of (codes "ptmtrace 2 \n") ≡ faulty 1 BadWhy.Header }
-    ensures eleven { reading_of (codes "ptmtrace 12\n") ≡ faulty 1 BadWhy.Header }
+    ensures twelve { reading_of (codes "ptmtrace 12\n") ≡ faulty 1 BadWhy.Header }
     ensures cut { reading_of (codes "ptmtrace 2") ≡ faulty 1 BadWhy.Cut }
 {}

@@ -1,8 +1,8 @@
 //! What a trace is: calls of the allocator, line by line.
 
-/// A call of the allocator, as a line of a trace has it (this project's own). A name stands for a block
-/// of the line's thread, and is a number from 1 on: to 65,535 in a trace of version 1, to 4,294,967,295 in one of version 2.
-/// Sizes and alignments are in bytes.
+/// A call of the allocator, as a line of a trace has it (this project's own). A name stands for a block of the line's
+/// thread, and is a number from 1 on: to 65,535 in a trace of version 1, to 4,294,967,295 in one of version 2. Sizes and
+/// alignments are in bytes.
 #[derive(Clone, Copy, Debug, PartialEq, Eq)]
 pub enum Call {
     /// `malloc`.
