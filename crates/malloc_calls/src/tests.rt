@@ -65,6 +65,25 @@ fn malloc_cached(own: &mut Own, name: u32, size: u64) -> Option<Addr> {
 }
 
 #[test]
+fn far_names_have_places_of_their_own(rt: HostRuntime) -> Result<(), Fail> {
+    let mut names = Names::new(rt.alloc());
+    names.ready(4_294_967_295)?;
+    assert!(rt; names.has_room(4_294_967_295));
+    assert!(rt; !names.has_room(4_294_967_294) && !names.has_room(65_535));
+    assert_eq!(rt; names.row(), 0);
+    names.ready(65_536)?;
+    names.ready(4_294_967_295)?;
+    assert_eq!(rt; names.far().len(), 2);
+    give(&mut names, 65_536, chunk(0x5555_5555_9290, 32));
+    give(&mut names, 65_535, chunk(0x5555_5555_92b0, 32));
+    assert!(rt; names.get(65_535).is_none() && names.get(4_294_967_295).is_none());
+    let block = names.take(65_536).ok_or("a block")?;
+    assert_eq!(rt; block.addr, Addr(0x5555_5555_9290));
+    assert!(rt; names.take(65_536).is_none());
+    Ok(())
+}
+
+#[test]
 fn the_cache_alone_answers(rt: HostRuntime) -> Result<(), Fail> {
     let mut own = own_with_places(rt.alloc())?;
     give(&mut own.names, 0, chunk(0x5555_5555_9290, 32));
