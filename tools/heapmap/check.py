@@ -23,7 +23,7 @@ HERE = os.path.dirname(os.path.abspath(__file__))
 ROOT = os.path.dirname(os.path.dirname(HERE))
 TOOL = os.path.join(HERE, 'heapmap')
 SMALL = os.path.join(ROOT, 'tests', 'replay', 'top', 'two_blocks_from_top')
-RECORDED = os.path.join(ROOT, 'tests', 'replay', 'recorded', 'real_sed')
+RECORDED = os.path.join(ROOT, 'tests', 'replay', 'recorded', 'sed')
 SAMPLES = sorted(glob.glob(os.path.join(HERE, 'samples', '*.report')))
 BUILT = os.path.join(ROOT, 'crates', 'ptmreplay', 'out', 'ptmreplay')
 
