@@ -9,7 +9,7 @@
 #include <sys/syscall.h>
 #include <unistd.h>
 
-enum { WINDOW = 1 << 19, HIGHEST = 1024, ROOM_ABOVE = 16 };
+enum { WINDOW = 1 << 19, LEAST = 1 << 12, HIGHEST = 1024, ROOM_ABOVE = 16 };
 
 int plain_open(const char *path, int flags, int mode) {
     return (int)syscall(SYS_openat, AT_FDCWD, path, flags | O_CLOEXEC, mode);
@@ -28,24 +28,32 @@ static bool within_limit(uint64_t end) {
     return false;
 }
 
-/* Maps the window from `start` on. Its disk space is reserved first, since a write into a mapping that has none would
- * be the death of the process too. */
-static bool map_window(struct sink *sink, int fd, uint64_t start) {
-    if (!within_limit(start + WINDOW))
+/* Reserves disk space for this part of the file. */
+static bool reserve(int fd, uint64_t start, uint64_t length) {
+    if (!within_limit(start + length))
         return false;
-    if (syscall(SYS_fallocate, fd, 0, start, (uint64_t)WINDOW)) {
-        if (errno != EOPNOTSUPP && errno != ENOSYS)
+    if (!syscall(SYS_fallocate, fd, 0, start, length))
+        return true;
+    return (errno == EOPNOTSUPP || errno == ENOSYS) && !syscall(SYS_ftruncate, fd, start + length);
+}
+
+/* Maps the window from `start` on. Its disk space is reserved first, since a write into a mapping that has none would
+ * be the death of the process too. Where there isn't room for all of it, it is shorter. */
+static bool map_window(struct sink *sink, int fd, uint64_t start) {
+    uint64_t length = WINDOW;
+    while (!reserve(fd, start, length)) {
+        if (length == LEAST || (errno != ENOSPC && errno != EDQUOT && errno != EFBIG))
             return false;
-        if (syscall(SYS_ftruncate, fd, start + WINDOW))
-            return false;
+        length /= 2;
     }
-    char *window = mmap(NULL, WINDOW, PROT_READ | PROT_WRITE, MAP_SHARED, fd, (off_t)start);
+    char *window = mmap(NULL, length, PROT_READ | PROT_WRITE, MAP_SHARED, fd, (off_t)start);
     if (window == MAP_FAILED)
         return false;
     if (sink->window)
-        munmap(sink->window, WINDOW);
+        munmap(sink->window, sink->window_length);
     sink->window = window;
     sink->window_start = start;
+    sink->window_length = length;
     return true;
 }
 
@@ -105,12 +113,12 @@ bool sink_write(struct sink *sink, const char *text, uint64_t length) {
     uint64_t end = sink->length;
     for (uint64_t done = 0; done < length;) {
         uint64_t at = end - sink->window_start;
-        if (at == WINDOW) {
+        if (at == sink->window_length) {
             if (!next_window(sink, end))
                 return false;
             continue;
         }
-        uint64_t part = length - done < WINDOW - at ? length - done : WINDOW - at;
+        uint64_t room = sink->window_length - at, part = length - done < room ? length - done : room;
         memcpy(sink->window + at, text + done, part);
         done += part;
         end += part;
@@ -135,7 +143,7 @@ bool sink_branch(struct sink *sink, const char *path, _Atomic uint64_t *told) {
     if (from.fd >= 0)
         plain_close(from.fd);
     if (from.window)
-        munmap(from.window, WINDOW);
+        munmap(from.window, from.window_length);
     errno = error;
     return done;
 }

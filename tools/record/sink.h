@@ -11,7 +11,7 @@ struct sink {
     uint64_t length;             /* bytes that are whole lines */
     _Atomic uint64_t *told;      /* where the length is told to the driver */
     char *window;                /* the part of the file that is mapped */
-    uint64_t window_start;
+    uint64_t window_start, window_length;
     int fd;                      /* of the file, while the program hasn't closed it; -1 where there is none */
     uint64_t device, file;       /* so that another file under that number or path is never written */
 };
