@@ -6,7 +6,6 @@ ghost use Rattle.malloc_calls.specs.Names.{block_at, IsTable};
 ghost use Rattle.malloc_calls.specs.Own.{names_of, number_of, own_of, who_of};
 ghost use Rattle.serial_places.specs.Trays.{tray_at};
 ghost use Rattle.serial_places.specs.declared.tray.Tray.TheVariants.{Empty};
-ghost use Rattle.trace_text.specs.Spelling.{IsName};
 ghost use Rattle.trace_text.specs.declared.trace.Call.TheVariants.{Malloc, Calloc, Realloc, Align, Free, Post, Take, Exit};
 ghost use Rattle.trace_replay.specs.Naming.{MayCall, MakesName, ResizesName, EmptiesName, PostsName, TakesName};
 ghost use Rattle.trace_replay.specs.Processes.{IsServedBy, KeepsOn, DoesAt, Calls};
@@ -30,7 +29,6 @@ fn malloc<K: Kernel>(
     size: u64,
     t: &Tunables,
 ) -> Result<Reply, NoMemory>
-    requires name { IsName name }
     requires free { block_at (names_of thread.old) name ≡ None }
     requires tuned { IsTuned t.now }
     requires served { IsServedBy t.now thread.old serial.old }
@@ -57,7 +55,6 @@ fn calloc<K: Kernel>(
     size: u64,
     t: &Tunables,
 ) -> Result<Reply, NoMemory>
-    requires name { IsName name }
     requires free { block_at (names_of thread.old) name ≡ None }
     requires tuned { IsTuned t.now }
     requires served { IsServedBy t.now thread.old serial.old }
@@ -84,7 +81,6 @@ fn posix_memalign<K: Kernel>(
     size: u64,
     t: &Tunables,
 ) -> Result<Reply, NoMemory>
-    requires name { IsName name }
     requires free { block_at (names_of thread.old) name ≡ None }
     requires tuned { IsTuned t.now }
     requires served { IsServedBy t.now thread.old serial.old }
@@ -110,7 +106,6 @@ fn realloc<K: Kernel>(
     size: u64,
     t: &Tunables,
 ) -> Result<Reply, NoMemory>
-    requires name { IsName name }
     requires tuned { IsTuned t.now }
     requires served { IsServedBy t.now thread.old serial.old }
     ensures does { IfOk result (λ reply.
@@ -134,7 +129,6 @@ fn free<K: Kernel>(
     name: u32,
     t: &Tunables,
 ) -> Result<Reply, NoMemory>
-    requires name { IsName name }
     requires tuned { IsTuned t.now }
     requires served { IsServedBy t.now thread.old serial.old }
     ensures does { IfOk result (λ reply.
@@ -177,7 +171,6 @@ fn post<K: Kernel>(
     tray: u32,
     t: &Tunables,
 ) -> Result<Reply, NoMemory>
-    requires name { IsName name }
     requires tray { tray ≤ 65535 }
     requires trays { length serial.old.trays ≡ 65536 }
     requires empty { tray_at serial.old.trays tray ≡ Empty }
@@ -201,7 +194,6 @@ fn take<K: Kernel>(
     tray: u32,
     t: &Tunables,
 ) -> Result<Reply, NoMemory>
-    requires name { IsName name }
     requires free { block_at (names_of thread.old) name ≡ None }
     requires tray { tray ≤ 65535 }
     requires trays { length serial.old.trays ≡ 65536 }
