@@ -23,7 +23,7 @@ use Rattle.serial_places.specs.declared.tray.Tray.TheVariants.{Empty, Full}
 use Rattle.serial_places.proofs.SerialFirst.{first_serves, first_whole, none_in_trays}
 use Rattle.trace_replay.specs.Headline.{AllTell}
 use Rattle.trace_replay.specs.Naming.{HoldsWithin}
-use Rattle.trace_replay.specs.Processes.{started_threads, thread_world, world_with, in_threads, ThreadTells, IsReady, AreSettled}
+use Rattle.trace_replay.specs.Processes.{started_threads, thread_world, world_with, in_threads, ThreadTells, IsReady, AreBetweenCalls}
 use Rattle.trace_replay.specs.Tiling.{FitsWithin, no_wishes}
 use Rattle.trace_replay.specs.World.{World, ThreadWorld, first_thread, first_threads, opening_world}
 
@@ -84,11 +84,11 @@ first_world_is {K = K} t kernels threads st is f =
     rw (is, f.slots, f.dials, f.book, f.trays) (ap (λ ts. record { threads = ts; slots = first_slots; dials = (opening_world t kernels).dials; book = (opening_world t kernels).book; trays = empty_trays }) (worlds t 0 kernels))
 
 pub first_settled : {K : Type 0} (t : Tunables) (kernels : List K) (threads : List (Thread K)) (st : SerialState) → length kernels ≡ 64 → threads ≡ started_threads t 0 kernels → IsFirst t st →
-    AreSettled t threads st
+    AreBetweenCalls t threads st
 first_settled {K = K} t kernels threads st count is f =
     let all : List (Thread K) = started_threads t 0 kernels in
     let trays : (weigh : Block → ℕ) → in_trays st.trays weigh ≡ 0 = λ weigh. ap (λ ts. in_trays ts weigh) f.trays ∙ none_in_trays weigh in
-    subst (λ ths. AreSettled t ths st) (sym is)
+    subst (λ ths. AreBetweenCalls t ths st) (sym is)
     (record {
       count = length-started t 0 kernels ∙ count;
       ready = λ i th at. let e : 0 + i ≡ i = omega arith in subst (λ m. IsReady t m th) e (started_ready t 0 kernels i th at);

@@ -10,7 +10,7 @@ use Rattle.trace_text.specs.declared.trace.Line.{Line}
 use Rattle.trace_replay.specs.declared.exit.Exit.{Exit}
 use Rattle.trace_replay.specs.World.{World, step}
 use Rattle.trace_replay.specs.declared.sheet.Sheet.{Sheet}
-use Rattle.trace_replay.specs.Sheets.{HasNoted, Awaits, CanNote, Notes, NotesRun}
+use Rattle.trace_replay.specs.Sheets.{HasNoted, Awaits, CanNote, NotesReply, NotesRun}
 use Rattle.trace_replay.specs.Runs.{Run, in_front, answer_of, line_and_rest, run_of}
 use Rattle.trace_replay.specs.Naming.{LeavesLine}
 use Rattle.trace_replay.specs.Tiling.{Wishes, IsTiled, FitsWithin, TilesAfter, no_wishes, wishes_of}
@@ -53,7 +53,7 @@ unfolding run_of
 run_of-cons port t line rest w = refl
 
 one_more : {K : Type 0} (port : Port K) (t : Tunables) (front : List Line) (line : Line) (reply : Reply) (first now next : World K) (before sheet after : Sheet) (rest : List Line) → SoFar port t front first now before sheet →
-    step port t line now ≡ Some (reply, next) → Notes sheet line reply rest after → LeavesLine line reply now next → SoFar port t (front ++ line ∷ []) first next before after
+    step port t line now ≡ Some (reply, next) → NotesReply sheet line reply rest after → LeavesLine line reply now next → SoFar port t (front ++ line ∷ []) first next before after
 one_more {K} port t front line reply first now next before sheet after rest so_far is notes leaves =
     let x : Line × Reply = (line, reply) in
     let here : answer_of (step port t line now) ≡ Ok (reply, next) = ap answer_of is in
@@ -83,7 +83,7 @@ can_note_next sheet (d ∷ lines) i lt awaits = can_note sheet _ _ (awaits_next 
 
 -- the loop goes on behind a line that was answered, under tunables that stayed
 pub goes_on : {K : Type 0} (port : Port K) (t now_t : Tunables) (lines : List Line) (i : ℕ) (d : Line) (reply : Reply) (first now next : World K) (before sheet after : Sheet) (rest : List Line) → now_t ≡ t → i < length lines → SoFar port t (take i lines) first now before sheet →
-    step port now_t (get_or lines i d) now ≡ Some (reply, next) → Notes sheet (get_or lines i d) reply rest after → LeavesLine (get_or lines i d) reply now next → SoFar port t (take (i + 1) lines) first next before after
+    step port now_t (get_or lines i d) now ≡ Some (reply, next) → NotesReply sheet (get_or lines i d) reply rest after → LeavesLine (get_or lines i d) reply now next → SoFar port t (take (i + 1) lines) first next before after
 goes_on {K} port t now_t lines i d reply first now next before sheet after rest same lt so_far is notes leaves =
     subst (λ (front : List Line). SoFar port t front first next before after) (sym (take_more lines i d lt))
     (one_more port t (take i lines) (get_or lines i d) reply first now next before sheet after rest so_far

@@ -13,7 +13,7 @@ use Rattle.malloc_calls.specs.Own.{own_of, names_of, space_of, in_own}
 use Rattle.arena_holds.specs.Places.{Hands, both_of, as_mapped_byte, given_byte}
 use Rattle.serial_places.specs.SerialWays.{SerialState, Serves, Notes}
 use Rattle.serial_places.specs.SerialPlaces.{serial_laws}
-use Rattle.trace_replay.specs.Processes.{in_threads, bytes_given, IsReady, AreSettled, IsServedBy, KeepsOn}
+use Rattle.trace_replay.specs.Processes.{in_threads, bytes_given, IsReady, AreBetweenCalls, IsServedBy, KeepsOn}
 use Rattle.trace_replay.proofs.Sums.{sum_changed, part_of_sum, either_at}
 
 -- the blocks of all threads but one
@@ -66,7 +66,7 @@ known_less st hands s = record {
 }
 
 -- the counted mappings are noted, of the thread and of all others
-noted_with : {K : Type 0} (t : Tunables) (threads : List (Thread K)) (st : SerialState) (k : ℕ) (th : Thread K) → slice_get threads k ≡ Some th → AreSettled t threads st →
+noted_with : {K : Type 0} (t : Tunables) (threads : List (Thread K)) (st : SerialState) (k : ℕ) (th : Thread K) → slice_get threads k ≡ Some th → AreBetweenCalls t threads st →
     Notes st (space_of th).mapped (bytes_given threads - (space_of th).mapped)
 noted_with {K = K} t threads st k th at s =
     let part : (space_of th).mapped ≤ bytes_given threads = part_of_sum (λ (x : Thread K). (space_of x).mapped) threads k th at in
@@ -78,7 +78,7 @@ noted_with {K = K} t threads st k th at s =
     }
 
 -- the places serve each thread
-pub served_thread : {K : Type 0} (t : Tunables) (threads : List (Thread K)) (st : SerialState) (k : ℕ) (th : Thread K) → slice_get threads k ≡ Some th → AreSettled t threads st → IsServedBy t th st
+pub served_thread : {K : Type 0} (t : Tunables) (threads : List (Thread K)) (st : SerialState) (k : ℕ) (th : Thread K) → slice_get threads k ≡ Some th → AreBetweenCalls t threads st → IsServedBy t th st
 served_thread {K = K} t threads st k th at s = record {
   served = serial_laws.fewer st (in_threads threads) (in_own (own_of th)) (λ weigh. part_of_sum (λ (x : Thread K). in_own (own_of x) weigh) threads k th at)
       (known_less st (in_threads threads) s.exact);
@@ -91,7 +91,7 @@ served_thread {K = K} t threads st k th at s = record {
 
 -- a call of one thread keeps all settled
 pub settled_next : {K : Type 0} (t : Tunables) (threads : List (Thread K)) (st next : SerialState) (k : ℕ) (th new : Thread K) → slice_get threads k ≡ Some th → KeepsOn th st new next →
-    IsTable (names_of new) → AreSettled t threads st → AreSettled t (slice_set threads k new) next
+    IsTable (names_of new) → AreBetweenCalls t threads st → AreBetweenCalls t (slice_set threads k new) next
 settled_next {K = K} t threads st next k th new at c held s =
     let others : Hands = others_than threads th in
     let before : Serves true st (both_of (in_own (own_of th)) others) = serial_laws.same true st (in_threads threads) (both_of (in_own (own_of th)) others) (λ weigh. with_others threads k th weigh at) s.exact in

@@ -12,7 +12,7 @@ use Rattle.trace_text.specs.Spelling.{spelling_of, texts_of}
 use Rattle.trace_replay.specs.declared.sheet.Records.{Records}
 use Rattle.trace_replay.specs.declared.sheet.Sheet.{Sheet}
 use Rattle.trace_replay.specs.declared.sheet.Sheet.TheVariants.{Report, Summary}
-use Rattle.trace_replay.specs.Sheets.{HasNoted, HasRoomFor, Awaits, CanNote, Notes}
+use Rattle.trace_replay.specs.Sheets.{HasNoted, HasRoomFor, Awaits, CanNote, NotesReply}
 use Rattle.trace_replay.specs.Records.{outcome_of, outcomes_of, record_of, records_of}
 
 records_of-push : (replies : List (Line × Reply)) (x : Line × Reply) → records_of (replies ++ x ∷ []) ≡ records_of replies ++ record_of x
@@ -47,7 +47,7 @@ text_more head before now line reply said replies has says appended =
 -- the record of the next line goes behind the others
 pub record_noted : (before : Sheet) (old now : Records) (line : Line) (reply : Reply) (said : Outcome) (rest : List Line) → before ≡ Report old → said ≡ outcome_of line.call reply →
     ((next : Line) (others : List Line) → old.texts ≡ texts_of (next ∷ others) → (now.text.items ≡ old.text.items ++ record_text (spelling_of next) said false) × (now.texts ≡ texts_of others)) →
-    Awaits before (line ∷ rest) → Notes before line reply rest (Report now)
+    Awaits before (line ∷ rest) → NotesReply before line reply rest (Report now)
 record_noted before old now line reply said rest is says appends awaits =
     let at : old.texts ≡ texts_of (line ∷ rest) = rw is at awaits in
     let appended = appends line rest at in
@@ -84,7 +84,7 @@ counted old now line reply said replies has says adds =
 
 -- the answer is counted
 pub count_noted : (before : Sheet) (old now : Counts) (line : Line) (reply : Reply) (said : Outcome) (rest : List Line) → before ≡ Summary old → said ≡ outcome_of line.call reply → now ≡ counts_with old said →
-    Awaits before (line ∷ rest) → Notes before line reply rest (Summary now)
+    Awaits before (line ∷ rest) → NotesReply before line reply rest (Summary now)
 count_noted before old now line reply said rest is says adds awaits =
     let room : HasRoomFor old (suc (length rest)) = rw is at awaits in
     rw is (record {

@@ -23,7 +23,7 @@ use Rattle.serial_places.specs.Trays.{full_trays}
 use Rattle.stats_text.specs.Views.{Shown}
 use Rattle.world_view.specs.Places as shown
 use Rattle.world_view.specs.Scenes.{ArenaScene, Scene, AreArenas, shown_of}
-use Rattle.trace_replay.specs.Processes.{thread_world, world_with, bytes_given, AreSettled}
+use Rattle.trace_replay.specs.Processes.{thread_world, world_with, bytes_given, AreBetweenCalls}
 use Rattle.trace_replay.specs.Views.{arena_scene, scene_of}
 use Rattle.trace_replay.specs.World.{ThreadWorld}
 
@@ -83,7 +83,7 @@ given_most [] each = omega arith
 given_most {K = K} (th ∷ ths) each =
     omega (arith, sum_by-cons (λ (x : Thread K). (space_of x).mapped) th ths, each 0 th refl, given_most ths (λ k x at. each (suc k) x at))
 
-pub bytes_fit : {K : Type 0} (t : Tunables) (threads : List (Thread K)) (st : SerialState) (words : DialState) → words ≡ st.dials.state → AreSettled t threads st → words.bytes + 2 ^ 40 < 2 ^ 64
+pub bytes_fit : {K : Type 0} (t : Tunables) (threads : List (Thread K)) (st : SerialState) (words : DialState) → words ≡ st.dials.state → AreBetweenCalls t threads st → words.bytes + 2 ^ 40 < 2 ^ 64
 bytes_fit t threads st words is s =
     let most = given_most threads (λ k th at. (s.ready k th at).inside) in
     let few : length threads * map_length ≤ 64 * map_length = omega (arith, s.count) in

@@ -20,7 +20,7 @@ use Rattle.serial_places.specs.SerialWays.{SerialState, serial_setting, world_at
 use Rattle.serial_places.proofs.Serving.{PlaysTo, plays_call}
 use Rattle.trace_text.specs.declared.trace.Line.{Line}
 use Rattle.trace_replay.specs.Naming.{LeavesLine, MayCall, MayRun}
-use Rattle.trace_replay.specs.Processes.{thread_world, world_with, ThreadTells, AreSettled, Calls}
+use Rattle.trace_replay.specs.Processes.{thread_world, world_with, ThreadTells, AreBetweenCalls, Calls}
 use Rattle.trace_replay.specs.World.{World, ThreadWorld, who_in, call_of, answer_left, played_line, step}
 use Rattle.trace_replay.proofs.Settling.{settled_next}
 
@@ -58,7 +58,7 @@ left_world : {K : Type 0} (threads : List (Thread K)) (k n : ℕ) (new : Thread 
 left_world threads k n new is = ap (λ i. set (map thread_world threads) i (thread_world new)) (sym is) ∙ sym (map-set thread_world threads k new)
 
 pub step_told : {K : Type 0} (port : Port K) (t : Tunables) (line : Line) (threads : List (Thread K)) (st next : SerialState) (th new : Thread K) (reply : Reply) (k : ℕ) → k ≡ line.thread → slice_get threads line.thread ≡ Some th →
-    AreSettled t threads st → All (ThreadTells port) threads → Calls port t line th st reply new next → step port t line (world_with threads st) ≡ Some (reply, world_with (set threads k new) next)
+    AreBetweenCalls t threads st → All (ThreadTells port) threads → Calls port t line th st reply new next → step port t line (world_with threads st) ≡ Some (reply, world_with (set threads k new) next)
 unfolding step
 step_told {K} port t line threads st next th new reply k is at s tells c =
     let w : World K = world_with threads st in
@@ -68,7 +68,7 @@ step_told {K} port t line threads st next th new reply k is at s tells c =
     ∙ ap (λ ts. Some (reply, record (world_with threads next) { threads = ts })) (left_world threads k line.thread new is)
 
 pub tells_next : {K : Type 0} (port : Port K) (t : Tunables) (line : Line) (threads : List (Thread K)) (st next : SerialState) (th new : Thread K) (reply : Reply) (k : ℕ) → slice_get threads line.thread ≡ Some th →
-    AreSettled t threads st → All (ThreadTells port) threads → Calls port t line th st reply new next → All (ThreadTells port) (set threads k new)
+    AreBetweenCalls t threads st → All (ThreadTells port) threads → Calls port t line th st reply new next → All (ThreadTells port) (set threads k new)
 tells_next port t line threads st next th new reply k at s tells c =
     All-set (ThreadTells port) threads k new
     (plays_line port t line th new st next reply (s.ready line.thread th at).numbered s.tunables (tells_there port threads line.thread th at tells) c).at.tells tells
@@ -86,6 +86,6 @@ line_left port t line threads st next th new reply k is at c = record {
 }
 
 pub step_settled : {K : Type 0} (port : Port K) (t : Tunables) (line : Line) (threads : List (Thread K)) (st next : SerialState) (th new : Thread K) (reply : Reply) (k : ℕ) → k ≡ line.thread → slice_get threads line.thread ≡ Some th →
-    Calls port t line th st reply new next → IsTable (names_of new) → AreSettled t threads st → AreSettled t (set threads k new) next
+    Calls port t line th st reply new next → IsTable (names_of new) → AreBetweenCalls t threads st → AreBetweenCalls t (set threads k new) next
 step_settled port t line threads st next th new reply k is at c held s =
-    subst (λ i. AreSettled t (set threads i new) next) (sym is) (settled_next t threads st next line.thread th new at c.keeps held s)
+    subst (λ i. AreBetweenCalls t (set threads i new) next) (sym is) (settled_next t threads st next line.thread th new at c.keeps held s)

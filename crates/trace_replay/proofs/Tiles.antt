@@ -30,8 +30,8 @@ use Rattle.serial_places.specs.declared.tray.Tray.{Tray}
 use Rattle.serial_places.specs.declared.tray.Tray.TheVariants.{Empty, Full, Taken}
 use Rattle.world_view.specs.Scenes.{ArenaScene, Scene}
 use Rattle.world_view.specs.Shows as shows
-use Rattle.world_view.specs.Shows.{IsWholeArena, IsWhole, ShowsAll, in_scene, times_tiled_in}
-use Rattle.trace_replay.specs.Processes.{thread_world, world_with, in_threads, times_given_to, AreSettled}
+use Rattle.world_view.specs.Shows.{IsWholeArena, IsWholeScene, ShowsAll, in_scene, times_tiled_in}
+use Rattle.trace_replay.specs.Processes.{thread_world, world_with, in_threads, times_given_to, AreBetweenCalls}
 use Rattle.trace_replay.specs.Tiling.{IsTiled}
 use Rattle.trace_replay.specs.Views.{arena_scene, scene_of}
 use Rattle.trace_replay.specs.World.{ThreadWorld}
@@ -91,7 +91,7 @@ from_slot (Some s ∷ os) (suc i) a e = let f = from_slot os i a e in record { n
 kept_at : (st : SerialState) (n : ℕ) (s : KeptSlot) → IsSerial st → slot_in st.slots n ≡ Some s → IsKept st.tunables n s.kept
 kept_at st n s serial e = (at_some _ (slot_in st.slots n) s e (serial.kept n)).kept
 
-whole_arena : {K : Type 0} (t : Tunables) (threads : List (Thread K)) (st : SerialState) (n : ℕ) (s : KeptSlot) → AreSettled t threads st → Told st → slot_in st.slots n ≡ Some s →
+whole_arena : {K : Type 0} (t : Tunables) (threads : List (Thread K)) (st : SerialState) (n : ℕ) (s : KeptSlot) → AreBetweenCalls t threads st → Told st → slot_in st.slots n ≡ Some s →
     IsWholeArena (scene_at threads st) (arena_scene (seen_slot s))
 whole_arena t threads st n s settled told e =
     let k : IsKept st.tunables n s.kept = kept_at st n s told.kept e in
@@ -164,7 +164,7 @@ record IsGiven (n weight : ℕ) : Type 0 where
   before : n < map_start 0 → weight ≡ 0
   behind : map_limit ≤ n → weight ≡ 0
 
-all_given : {K : Type 0} (t : Tunables) (threads : List (Thread K)) (st : SerialState) (n : ℕ) → AreSettled t threads st → IsGiven n (times_given_to n threads)
+all_given : {K : Type 0} (t : Tunables) (threads : List (Thread K)) (st : SerialState) (n : ℕ) → AreBetweenCalls t threads st → IsGiven n (times_given_to n threads)
 all_given {K = K} t threads st n s =
     let each : (i : ℕ) (th : Thread K) → slice_get threads i ≡ Some th → IsInRange n (map_start i) (map_start (suc i)) (given_byte n (space_of th)) = λ i th at.
     let r = s.ready i th at in
@@ -208,7 +208,7 @@ keeps_only st n None e s = tt
 keeps_only st n (Some k) e s = kept_at st n k s e
 
 -- the scene is whole
-pub whole_scene : {K : Type 0} (t : Tunables) (threads : List (Thread K)) (st : SerialState) → AreSettled t threads st → Told st → IsWhole (scene_at threads st)
+pub whole_scene : {K : Type 0} (t : Tunables) (threads : List (Thread K)) (st : SerialState) → AreBetweenCalls t threads st → Told st → IsWholeScene (scene_at threads st)
 whole_scene {K = K} t threads st s told = record {
   arenas = λ i a e.
       let f : FromSlot st.slots a = from_slot st.slots i a e in
@@ -238,7 +238,7 @@ used_place : (n : ℕ) (o : Option KeptSlot) (c : Chunk) (t : Tunables) → IfSo
 used_place n None c t k some = absurd (omega (arith, some))
 used_place n (Some s) c t k some = (own_tile s.kept.arena c k.sound some).place
 
-block_aligned : {K : Type 0} (t : Tunables) (threads : List (Thread K)) (st : SerialState) (b : Block) → AreSettled t threads st → IsSerial st → IsHeld b →
+block_aligned : {K : Type 0} (t : Tunables) (threads : List (Thread K)) (st : SerialState) (b : Block) → AreBetweenCalls t threads st → IsSerial st → IsHeld b →
     ((weigh : Block → ℕ) → weigh b ≤ in_trays st.trays weigh + in_threads threads weigh) → user_address b.addr % 16 ≡ 0
 block_aligned t threads st b s serial held weighs =
     let c : Chunk = chunk_in b in
@@ -262,14 +262,14 @@ from_thread [] i w e = absurd cc
 from_thread (th ∷ ths) zero w e = record { thread = th; at = refl; is = cc }
 from_thread (th ∷ ths) (suc i) w e = let f = from_thread ths i w e in record { thread = f.thread; at = f.at; is = f.is }
 
-named_aligned : {K : Type 0} (t : Tunables) (threads : List (Thread K)) (st : SerialState) (i name : ℕ) (th : Thread K) (b : Block) → AreSettled t threads st → IsSerial st → slice_get threads i ≡ Some th →
+named_aligned : {K : Type 0} (t : Tunables) (threads : List (Thread K)) (st : SerialState) (i name : ℕ) (th : Thread K) (b : Block) → AreBetweenCalls t threads st → IsSerial st → slice_get threads i ≡ Some th →
     block_at (names_of th) name ≡ Some b → user_address b.addr % 16 ≡ 0
 named_aligned {K = K} t threads st i name th b s serial at e =
     let held : IsHeld b = at_some IsHeld (block_at (names_of th) name) b e ((s.ready i th at).held.held name) in
     block_aligned t threads st b s serial held
     (λ weigh. omega (arith, part_of_sum (λ (x : Thread K). in_own (own_of x) weigh) threads i th at, named_weighs name (names_of th) b weigh e))
 
-posted_aligned : {K : Type 0} (t : Tunables) (threads : List (Thread K)) (st : SerialState) (tray : ℕ) (b : Block) → AreSettled t threads st → IsSerial st → tray_at st.trays tray ≡ Full b →
+posted_aligned : {K : Type 0} (t : Tunables) (threads : List (Thread K)) (st : SerialState) (tray : ℕ) (b : Block) → AreBetweenCalls t threads st → IsSerial st → tray_at st.trays tray ≡ Full b →
     user_address b.addr % 16 ≡ 0
 posted_aligned t threads st tray b s serial e =
     block_aligned t threads st b s serial (subst IsHeldTray e (serial.held tray)) (λ weigh. omega (arith, posted_weighs tray st.trays b weigh e))
@@ -286,9 +286,9 @@ given_same {K = K} n (th ∷ ths) =
       given_same n ths,
     )
 
-pub tiled_between : {K : Type 0} (t : Tunables) (threads : List (Thread K)) (st : SerialState) → ((s : Scene) → IsWhole s → ShowsAll s) → AreSettled t threads st → Told st → IsTiled (world_with threads st)
+pub tiled_between : {K : Type 0} (t : Tunables) (threads : List (Thread K)) (st : SerialState) → ((s : Scene) → IsWholeScene s → ShowsAll s) → AreBetweenCalls t threads st → Told st → IsTiled (world_with threads st)
 tiled_between {K = K} t threads st shown s told =
-    let whole : IsWhole (scene_at threads st) = whole_scene t threads st s told in
+    let whole : IsWholeScene (scene_at threads st) = whole_scene t threads st s told in
     record {
       whole = whole;
       shown = shown (scene_at threads st) whole;

@@ -105,10 +105,10 @@ IsWordRefusal (NotBuilt line) = line ≡ 0
 IsWordRefusal exit = ⊥
 
 -- an answer that no refusal of words is
-abbrev pub IsServed : Exit → Type 0
-IsServed Usage = ⊥
-IsServed (NotBuilt line) = ⊥
-IsServed exit = Unit {0}
+abbrev pub IsPastWords : Exit → Type 0
+IsPastWords Usage = ⊥
+IsPastWords (NotBuilt line) = ⊥
+IsPastWords exit = Unit {0}
 
 -- a refusal of the text, once the bytes are read: no end of its writing, no fault of the reading, none of the words
 abbrev pub IsTextRefusal : Exit → Type 0

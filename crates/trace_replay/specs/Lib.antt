@@ -1,6 +1,7 @@
 pub use Rattle.byte_edge.specs.Streams
 pub use Rattle.byte_edge.specs.Input
 pub use Rattle.byte_edge.specs.Output
+pub use Rattle.trace_text.specs.Grammar
 pub mod Status
 pub mod World
 pub mod Asked

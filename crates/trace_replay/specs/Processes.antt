@@ -82,7 +82,7 @@ pub record IsReady {K : Type 0} (t : Tunables) (number : ℕ) (th : Thread K) : 
 
 -- Between two calls: the threads have their numbers, the places serve exactly the blocks of all of them, each arena of the book
 -- is there, the mapped chunks are noted, and no byte of these is in two of them or in none of the windows.
-pub record AreSettled {K : Type 0} (t : Tunables) (threads : List (Thread K)) (st : SerialState) : Type 0 where
+pub record AreBetweenCalls {K : Type 0} (t : Tunables) (threads : List (Thread K)) (st : SerialState) : Type 0 where
   pub count : length threads ≡ 64
   pub ready : (number : ℕ) (th : Thread K) → slice_get threads number ≡ Some th → IsReady t number th
   pub exact : Serves true st (in_threads threads)
@@ -93,8 +93,8 @@ pub record AreSettled {K : Type 0} (t : Tunables) (threads : List (Thread K)) (s
   pub noted_bytes : st.dials.state.bytes ≤ bytes_given threads
   pub apart : (n : ℕ) → in_trays st.trays (as_mapped_byte n) + in_threads threads (as_mapped_byte n) ≤ times_given_to n threads
 
-abbrev pub IsSettled : {K : Type 0} {g : _} → Process K g → Type 0
-IsSettled p = AreSettled p.t p.threads.items p.serial
+abbrev pub IsBetweenCalls : {K : Type 0} {g : _} → Process K g → Type 0
+IsBetweenCalls p = AreBetweenCalls p.t p.threads.items p.serial
 
 -- ---- a call of a thread
 

@@ -56,7 +56,7 @@ CanNote (Report records) = Unit {0}
 CanNote (Summary counts) = HasRoom counts
 
 -- A sheet behind one line more: it awaits the rest, and has the reply behind those that it had.
-pub record Notes (before : Sheet) (line : Line) (reply : Reply) (rest : List Line) (now : Sheet) : Type 0 where
+pub record NotesReply (before : Sheet) (line : Line) (reply : Reply) (rest : List Line) (now : Sheet) : Type 0 where
   pub awaits : Awaits now rest
   pub noted : (summary : Bool) (replies : List (Line × Reply)) → HasNoted summary before replies →
       HasNoted summary now (replies ++ (line, reply) ∷ [])

@@ -17,7 +17,7 @@ use Rattle.serial_places.specs.declared.tray.Tray.TheVariants.{Full}
 use Rattle.trace_text.specs.declared.trace.Call.{Call}
 use Rattle.trace_text.specs.declared.trace.Call.TheVariants.{Malloc, Calloc, Realloc, Align, Post, Take}
 use Rattle.trace_text.specs.declared.trace.Line.{Line}
-use Rattle.world_view.specs.Shows.{IsWhole, ShowsAll, in_scene}
+use Rattle.world_view.specs.Shows.{IsWholeScene, ShowsAll, in_scene}
 use Rattle.trace_replay.specs.declared.exit.Exit.{Exit}
 use Rattle.trace_replay.specs.Runs.{Run, run_of}
 use Rattle.trace_replay.specs.SerialText.{Job}
@@ -43,7 +43,7 @@ HasPosted w tray b = tray_at w.trays tray ≡ Full b
 -- count; each lies in the window for mappings of some thread, each of which has its own. The user of a block that has a name,
 -- or is in a tray, has an address that is a multiple of 16.
 pub record IsTiled {K : Type 0} (w : World K) : Type 0 where
-  pub whole : IsWhole (scene_of [] w)
+  pub whole : IsWholeScene (scene_of [] w)
   pub shown : ShowsAll (scene_of [] w)
   pub mapped : in_scene (scene_of [] w) as_mapped ≡ w.dials.mapped
   pub bytes : in_scene (scene_of [] w) as_mapped_bytes ≡ w.dials.bytes

@@ -30,7 +30,7 @@ impl<K: Kernel> Process<K> {
     ghost use Rattle.world_view.specs.Scenes.{shown_of};
     ghost use Rattle.trace_replay.specs.Views.{IsThread, threads_in, scene_of};
     ghost use Rattle.trace_replay.specs.Naming.{HoldsWithin, MayRun, LeavesLine};
-    ghost use Rattle.trace_replay.specs.Processes.{world_of, Tells, step_in, IsSettled};
+    ghost use Rattle.trace_replay.specs.Processes.{world_of, Tells, step_in, IsBetweenCalls};
     ghost use Rattle.trace_replay.specs.Tiling.{IsTiled, FitsWithin, no_wishes};
     ghost use Rattle.trace_replay.specs.World.{opening_world};
     ghost use Rattle.std.specs.Prelude.{Some, []};
@@ -40,7 +40,7 @@ impl<K: Kernel> Process<K> {
         requires ports { vec_len kernels ≡ threads }
         requires tuned { IsTuned t.now }
         ensures world { IfOk result (λ p. world_of p ≡ opening_world t.now kernels.items) }
-        ensures settled { IfOk result IsSettled }
+        ensures settled { IfOk result IsBetweenCalls }
         ensures holds { IfOk result (λ p. HoldsWithin [] (world_of p)) }
         ensures fit { IfOk result (λ p. FitsWithin no_wishes (world_of p)) }
         ensures tunables { IfOk result (λ p. p.t ≡ t.now) }
@@ -54,7 +54,7 @@ impl<K: Kernel> Process<K> {
 
     /// A law; the call does nothing. Between two calls the world is tiled.
     pub fn laws(&self)
-        requires { IsSettled self.now }
+        requires { IsBetweenCalls self.now }
         ensures { IsTiled (world_of self.now) }
     {
         self.serial.laws();
@@ -65,13 +65,13 @@ impl<K: Kernel> Process<K> {
     #[tactic(auto, unfolding(crate::specs::World::step))]
     pub fn step(&mut self, alloc: Global, line: &Line) -> Result<Reply, NoMemory>
         requires may { MayRun line.now (world_of self.old) }
-        requires settled { IsSettled self.old }
+        requires settled { IsBetweenCalls self.old }
         ensures told { Tells K.port self.old →
             IfOk result (λ reply. step_in K.port line.now self.old ≡ Some (reply, world_of self.new)) }
         ensures telling { Tells K.port self.old → OnOk result (Tells K.port self.new) }
         ensures blocks { IfOk result (λ reply.
             LeavesLine line.now reply (world_of self.old) (world_of self.new)) }
-        ensures settled { OnOk result (IsSettled self.new) }
+        ensures settled { OnOk result (IsBetweenCalls self.new) }
         ensures tunables { self.new.t ≡ self.old.t }
     {
         let thread = &mut self.threads[usize::from(line.thread)];
@@ -82,7 +82,7 @@ impl<K: Kernel> Process<K> {
 
     /// What a report shows of it at its end; the trace has these lines.
     pub fn snapshot(self, alloc: Global, lines: &[Line]) -> Result<Snapshot, NoMemory>
-        requires settled { IsSettled self }
+        requires settled { IsBetweenCalls self }
         requires threads { All IsThread lines.now }
         ensures shown { IfOk result (λ s.
             s ≡ shown_of (scene_of (threads_in lines.now) (world_of self))) }

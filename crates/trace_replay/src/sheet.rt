@@ -5,7 +5,7 @@ ghost use Rattle.stats_text.specs.Records.{record_text};
 ghost use Rattle.stats_text.specs.Totals.{HasTotals};
 ghost use Rattle.trace_text.specs.Spelling.{spelling_of, texts_of};
 ghost use Rattle.trace_text.specs.declared.trace.Line.{Line};
-ghost use Rattle.trace_replay.specs.Sheets.{IsTrace, HasNoted, Awaits, CanNote, Notes, Spells, text_with};
+ghost use Rattle.trace_replay.specs.Sheets.{IsTrace, HasNoted, Awaits, CanNote, NotesReply, Spells, text_with};
 
 use crate::record::outcome;
 use chunk_tags::NoMemory;
@@ -72,7 +72,7 @@ impl<'a> Sheet<'a> {
     pub fn note(&mut self, line: &Line, reply: &Reply) -> Result<(), NoMemory>
         requires { CanNote self.old }
         ensures { OnOk result ((rest : List Line) → Awaits self.old (line.now ∷ rest) →
-            Notes self.old line.now reply.now rest self.new) }
+            NotesReply self.old line.now reply.now rest self.new) }
     {
         let said = outcome(&line.call, reply);
         match self {

@@ -4,7 +4,7 @@ ghost use Rattle.std.specs.Prelude.{◌≡◌, ◌≤◌, ℕ, List, Some, vec_l
 ghost use Rattle.trace_text.specs.Grammar.{reading_of, threads};
 ghost use Rattle.trace_text.specs.Spelling.{Allows};
 ghost use Rattle.trace_replay.specs.Asked.{IsServable};
-ghost use Rattle.trace_replay.specs.Headline.{Told, TellsInput, AllTell, Refuses, AnswersJob, LeavesRead, LeavesSource, IsReadWhole, IsServed, IsUnwritten, IsTextRefusal};
+ghost use Rattle.trace_replay.specs.Headline.{Told, TellsInput, AllTell, Refuses, AnswersJob, LeavesRead, LeavesSource, IsReadWhole, IsPastWords, IsUnwritten, IsTextRefusal};
 ghost use Rattle.trace_replay.specs.Sheets.{AreLines, IsTrace, Spells};
 ghost use Rattle.trace_replay.specs.Replays.{AnswersAs};
 ghost use Rattle.trace_replay.specs.SerialText.{lines_of, text_over, text_of, job_by, read_job, made_job, job_of, verdict};
@@ -140,7 +140,7 @@ fn text_of_source<S: Source, K: Kernel>(
         (λ _. IsReadWhole S.supply source.old source.new)
         (λ exit. LeavesRead S.supply source.old exit source.new) }
     ensures kind { IfErr result IsUnwritten }
-    ensures served { IfErr result IsServed }
+    ensures served { IfErr result IsPastWords }
 {
     let bytes = read_input(alloc, source)?;
     text_of_bytes(alloc, asked, bytes.as_slice(), kernels)
@@ -171,7 +171,7 @@ pub(crate) fn text<S: Source, K: Kernel>(
         (λ _. LeavesSource S.supply asked.now.generated source.old Exit.Done source.new)
         (λ exit. LeavesSource S.supply asked.now.generated source.old exit source.new) }
     ensures kind { IfErr result IsUnwritten }
-    ensures served { IfErr result IsServed }
+    ensures served { IfErr result IsPastWords }
 {
     match asked.generated {
         Some(made) => Ok(text_of_made(alloc, asked, made, kernels)?),

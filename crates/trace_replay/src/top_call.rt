@@ -3,7 +3,7 @@
 ghost use Rattle.std.specs.Prelude.{◌≡◌, ℕ, List, vec_len, MatchResult, Ok, IsOk};
 ghost use Rattle.trace_text.specs.Grammar.{threads};
 ghost use Rattle.trace_replay.specs.Asked.{served_of, IsServable};
-ghost use Rattle.trace_replay.specs.Headline.{Told, TellsInput, Answers, AnswersJob, LeavesSource, LeavesSink, IsServed, IsFaultless, IsDoneOrShort};
+ghost use Rattle.trace_replay.specs.Headline.{Told, TellsInput, Answers, AnswersJob, LeavesSource, LeavesSink, IsPastWords, IsFaultless, IsDoneOrShort};
 ghost use Rattle.trace_replay.specs.Tiling.{ShowsTiles};
 ghost use Rattle.trace_replay.specs.SerialText.{job_of, verdict};
 
@@ -35,7 +35,7 @@ fn serve<S: Source, W: Sink, K: Kernel>(
         W.store sink.old result sink.new }
     ensures job { (bytes : List ℕ) → TellsInput S.supply (Ok asked.now) source.old bytes →
         AnswersJob (job_of (Ok asked.now) bytes) result }
-    ensures served { IsServed result }
+    ensures served { IsPastWords result }
     ensures tiled { (bytes : List ℕ) →
         Told S.supply K.port (Ok asked.now) source.old kernels.items bytes →
         result ≡ Exit.Done → ShowsTiles K.port kernels.items (job_of (Ok asked.now) bytes) }
@@ -67,7 +67,8 @@ pub fn run<S: Source, W: Sink, K: Kernel, G: Gate>(
 
     // Words are refused exactly where the rules refuse them, and as they do, whatever the source
     // and the ports tell.
-    ensures word { MatchResult (served_of words.now) (λ _. IsServed result) (λ exit. result ≡ exit) }
+    ensures word { MatchResult (served_of words.now)
+        (λ _. IsPastWords result) (λ exit. result ≡ exit) }
 
     // By the answer, what is left of the source and of the sink, whatever they and the ports tell.
     // Where words are refused or the trace is made the source isn't read at all.

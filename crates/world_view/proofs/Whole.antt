@@ -1,12 +1,12 @@
 -- Of a whole scene all is shown.
 use Rattle.std.proofs.Common.{◌≡◌, map, arith}
 use Rattle.world_view.specs.Scenes.{Scene, shown_arena}
-use Rattle.world_view.specs.Shows.{IsWhole, ShowsAll, tile_span, view_span}
+use Rattle.world_view.specs.Shows.{IsWholeScene, ShowsAll, tile_span, view_span}
 use Rattle.world_view.proofs.Finding.{tiles_shown}
 use Rattle.world_view.proofs.InUse.{arena_used}
 use Rattle.world_view.proofs.MappedShown.{named_shown, structure_shown, tray_shown}
 
-pub whole_shown : (s : Scene) → IsWhole s → ShowsAll s
+pub whole_shown : (s : Scene) → IsWholeScene s → ShowsAll s
 whole_shown s w =
     record {
       arenas = λ i a is.

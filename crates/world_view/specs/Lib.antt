@@ -1,3 +1,5 @@
+pub use Rattle.stats_text.specs.Totals
+pub use Rattle.malloc_calls.specs.Own
 pub mod Places
 pub mod Scenes
 pub mod Rows

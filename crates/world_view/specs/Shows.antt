@@ -53,7 +53,7 @@ pub record IsWholeArena (s : Scene) (a : ArenaScene) : Type 0 where
   pub each : (e : Chunk) → in_scene s (as_chunk_of a.arena.number e) + times_fast a.fast e ≡ times_used e a.arena
 
 -- each arena is such, and no byte is of two tiles, of two mapped chunks, or of a tile and a mapped chunk
-pub record IsWhole (s : Scene) : Type 0 where
+pub record IsWholeScene (s : Scene) : Type 0 where
   pub arenas : (i : ℕ) (a : ArenaScene) → slice_get s.arenas i ≡ Some a → IsWholeArena s a
   pub apart : (n : ℕ) → times_tiled_in s n + in_scene s (as_mapped_byte n) ≤ 1
 

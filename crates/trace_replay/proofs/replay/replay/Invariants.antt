@@ -1,7 +1,7 @@
 use Rattle.std.proofs.Common.{◌≡◌, drop, take}
 use Rattle.trace_replay.specs.Naming.{HoldsWithin}
 use Rattle.trace_replay.specs.Sheets.{Awaits}
-use Rattle.trace_replay.specs.Processes.{world_of, Tells, IsSettled}
+use Rattle.trace_replay.specs.Processes.{world_of, Tells, IsBetweenCalls}
 use Rattle.trace_replay.proofs.ReplayLoop.{SoFar, TilesSoFar}
 use Rattle.trace_replay.proofs.replay.replay.Given as goal
 
@@ -9,7 +9,7 @@ abbrev pub invariant-loop-line : goal.invariant-loop-line
 invariant-loop-line g l = record {
   awaits : Awaits l.sheet (drop l.line-index l.lines);
   holds : HoldsWithin (take l.line-index l.lines) (world_of l.process);
-  settled : IsSettled l.process;
+  settled : IsBetweenCalls l.process;
   tunables : l.process.t ≡ l.initial.process.t;
   told : Tells g.K.Kernel.port l.initial.process
       → Tells g.K.Kernel.port l.process
