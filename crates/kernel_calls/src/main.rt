@@ -9,6 +9,7 @@ ghost use Rattle.trace_replay.specs.Headline.{TellsInput, AnswersJob, LeavesSink
 ghost use Rattle.trace_replay.specs.SerialText.{job_of};
 ghost use Rattle.kernel_calls.specs.Written.{WritesTable};
 
+mod behind;
 mod counting;
 mod counts;
 mod ending;
