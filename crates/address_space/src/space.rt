@@ -167,7 +167,8 @@ impl<K: Kernel> Space<K> {
     pub fn remap(&mut self, addr: u64, old_len: u64, new_len: u64) -> Option<u64>
         requires pages { new_len % 4096 ≡ 0 }
         requires differ { old_len ≢ new_len }
-        ensures { RemapsWithin K.port self.old (length_change addr old_len new_len) result self.new }
+        ensures { RemapsWithin K.port self.old
+            (length_change addr old_len new_len) result self.new }
     {
         if old_len < new_len {
             self.lengthen(addr, old_len, new_len)
@@ -179,7 +180,8 @@ impl<K: Kernel> Space<K> {
     fn lengthen(&mut self, addr: u64, old_len: u64, new_len: u64) -> Option<u64>
         requires longer { old_len < new_len }
         requires pages { new_len % 4096 ≡ 0 }
-        ensures { RemapsWithin K.port self.old (length_change addr old_len new_len) result self.new }
+        ensures { RemapsWithin K.port self.old
+            (length_change addr old_len new_len) result self.new }
     {
         let new_addr = self.next_place();
         let passes = self.mapped.passes(new_len);
@@ -200,7 +202,8 @@ impl<K: Kernel> Space<K> {
 
     fn shorten(&mut self, addr: u64, old_len: u64, new_len: u64) -> Option<u64>
         requires { new_len < old_len }
-        ensures { RemapsWithin K.port self.old (length_change addr old_len new_len) result self.new }
+        ensures { RemapsWithin K.port self.old
+            (length_change addr old_len new_len) result self.new }
     {
         let ask = Ask::Remap {
             old_addr: addr,

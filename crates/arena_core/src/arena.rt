@@ -119,7 +119,8 @@ impl<M: Moves> Arena<M> {
             → Rose (space_refusals K.port space.old) (space_refusals K.port space.new)) }
 
         // The arena is still what the replay of its journal gives.
-        ensures replay { (start : Plain) → IsReplay t.now start self.old.journal.items (M.plain self.old.ground)
+        ensures replay { (start : Plain)
+            → IsReplay t.now start self.old.journal.items (M.plain self.old.ground)
             → IsReplay t.now start self.new.journal.items (M.plain self.new.ground) }
     {
         // Another arena has a top, so it was opened: no journal has a search before that.
@@ -157,7 +158,8 @@ impl<M: Moves> Arena<M> {
         space: &mut Space<K>,
         t: &Tunables,
     ) -> Result<(), GiveShort>
-        requires backed { IsBacked P.fast (M.plain self.old.ground) port.old (one_chunk (chunk_at b.addr b.size)) }
+        requires backed { IsBacked P.fast (M.plain self.old.ground) port.old
+            (one_chunk (chunk_at b.addr b.size)) }
         requires apart { Apart P.fast P.dials }
         ensures given { (cache : CacheValue) → OnOk result
             (Records (means P.fast P.dials K.port) t.now who (acts.Give b.addr b.size)
@@ -174,7 +176,8 @@ impl<M: Moves> Arena<M> {
             → vec_capacity self.old.journal ≤ vec_len self.old.journal) }
 
         // The arena is still what the replay of its journal gives.
-        ensures replay { (start : Plain) → IsReplay t.now start self.old.journal.items (M.plain self.old.ground)
+        ensures replay { (start : Plain)
+            → IsReplay t.now start self.old.journal.items (M.plain self.old.ground)
             → IsReplay t.now start self.new.journal.items (M.plain self.new.ground) }
     {
         if make_room(&mut self.journal).is_err() {

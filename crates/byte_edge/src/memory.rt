@@ -83,7 +83,8 @@ impl Source for SureSource {
 
     fn read(&mut self, into: &mut [u8]) -> Fetch
         requires { 0 < length into.old }
-        ensures fetches { Fetches ⟦<SureSource as Source>⟧.supply self.old into.new result self.new }
+        ensures fetches { Fetches ⟦<SureSource as Source>⟧.supply
+            self.old into.new result self.new }
         ensures got { result ≡ fetched_of (length into.old) (length self.old) }
         ensures behind { let n = min (length into.old) (length self.old) in drop n into.new ≡ drop n into.old }
     {
@@ -165,7 +166,8 @@ impl Model for MemSink {
 impl MemSink {
     /// A sink for `room` bytes, whose calls with these numbers fail.
     pub fn new(alloc: Global, room: usize, fail_at: Vec<u64>) -> Result<MemSink, NoMemory>
-        ensures { IfOk result (λ s. s ≡ record { bytes = []; flushed = 0; room = room; plan = new_plan fail_at.items }) }
+        ensures { IfOk result (λ s. s ≡
+            record { bytes = []; flushed = 0; room = room; plan = new_plan fail_at.items }) }
     {
         Ok(MemSink {
             bytes: Vec::with_capacity(alloc, room)?,

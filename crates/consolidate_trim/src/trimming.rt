@@ -50,7 +50,8 @@ pub fn trim_main<M: Moves, K: Kernel>(
 ) -> u64
     requires sound { IsSound (M.plain g.old) }
     requires main { IsTrue (is_main (M.plain g.old)) }
-    ensures { TrimsMain K.port t.now threshold (M.plain g.old) space.old result (M.plain g.new) space.new }
+    ensures { TrimsMain K.port t.now threshold
+        (M.plain g.old) space.old result (M.plain g.new) space.new }
 {
     let bytes = spare(g, threshold, t);
     if bytes == 0 {

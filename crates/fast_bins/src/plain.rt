@@ -63,7 +63,8 @@ impl PlainFast {
 
     /// The addresses in each bin, front first.
     pub fn lists(&self, alloc: Global) -> Result<Vec<Vec<Addr>>, NoMemory>
-        ensures lists { IfOk result (λ v. map (λ l. l.items) v.items ≡ map listed (state_of self.now).bins) }
+        ensures lists { IfOk result (λ v.
+            map (λ l. l.items) v.items ≡ map listed (state_of self.now).bins) }
         ensures ten { IfOk result (λ v. length v.items ≡ 10) }
     {
         let mut lists = Vec::with_capacity(alloc, self.bins.len())?;

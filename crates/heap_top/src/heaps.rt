@@ -96,7 +96,8 @@ impl Regions {
     /// Takes an extension of the last heap, which was granted: top is longer (glibc's `grow_heap`).
     pub fn extend_heap(&mut self, tiles: &mut TileWords, growth: u64)
         requires heaps { IsOther self.old tiles.old.tiles }
-        requires range { IsHeapGrowth tiles.old.extent (bare_arena self.old tiles.old.tiles) growth }
+        requires range { IsHeapGrowth tiles.old.extent
+            (bare_arena self.old tiles.old.tiles) growth }
         ensures top { HasTop self.new.top tiles.new.tiles }
         ensures closed { self.new.closed ≡ self.old.closed }
         ensures arena { (bins : List (List Piece)) (last : Option ℕ)

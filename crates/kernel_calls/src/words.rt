@@ -73,10 +73,8 @@ fn has_next(word: &str) -> bool
 fn place_of_flag(words: &[String]) -> Option<usize>
     ensures { result ≡ flag_place words.now }
 {
-    words
-        .iter()
-        .zip(words.iter().skip(1))
-        .position(|(before, word)| word.as_str() == "--by-thread" && !has_next(before.as_str()))
+    words.iter().zip(words.iter().skip(1)).position(|(before, word)| word.as_str() == "--by-thread"
+        && !has_next(before.as_str()))
 }
 
 /// Takes that `--by-thread` out of the words, and says whether there is one.

@@ -117,7 +117,8 @@ pub fn resize<M: Moves, K: Kernel, P: FastPort + Dials>(
         → Rose (space_refusals K.port space.old) (space_refusals K.port space.new)) }
 
     // The arena is still what the replay of its journal gives.
-    ensures replay { (start : Plain) → IsReplay t.now start a.old.journal.items (M.plain a.old.ground)
+    ensures replay { (start : Plain)
+        → IsReplay t.now start a.old.journal.items (M.plain a.old.ground)
         → IsReplay t.now start a.new.journal.items (M.plain a.new.ground) }
 {
     if make_room(&mut a.journal).is_err() {

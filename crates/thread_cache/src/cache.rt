@@ -174,7 +174,8 @@ impl Cache {
 
     /// The addresses in each of the 64 lists, newest first. A closed cache has no lists.
     pub fn lists(&self, alloc: Global) -> Result<Vec<Vec<Addr>>, NoMemory>
-        ensures addresses { IfOk result (λ v. map (λ list. list.items) v.items ≡ addresses_of self.now) }
+        ensures addresses { IfOk result (λ v.
+            map (λ list. list.items) v.items ≡ addresses_of self.now) }
         ensures sound { IfSome self.now IsSound }
     {
         match &self.open {

@@ -124,7 +124,8 @@ impl OpenCache {
         ensures next { result ≡ next_drained (Some self.old) }
         ensures rest { Some self.new ≡ without_next (Some self.old) }
         ensures empty { IfNone result (blocks_of (Some self.old) ≡ []) }
-        ensures order { blocks_of (Some self.old) ≡ option_to_list result ++ blocks_of (Some self.new) }
+        ensures order { blocks_of (Some self.old)
+            ≡ option_to_list result ++ blocks_of (Some self.new) }
         ensures cached { IfSome result (λ b. IsCachedAt (cache_index_of b.size) b) }
         ensures sound { IsSound self.new }
         ensures unchanged { IfNone result (self.new ≡ self.old) }
@@ -146,7 +147,8 @@ impl OpenCache {
 
     /// The addresses in each list, newest first.
     pub fn addresses(&self, alloc: Global) -> Result<Vec<Vec<Addr>>, NoMemory>
-        ensures addresses { IfOk result (λ v. map (λ l. l.items) v.items ≡ addresses_of (Some self.now)) }
+        ensures addresses { IfOk result (λ v.
+            map (λ l. l.items) v.items ≡ addresses_of (Some self.now)) }
         ensures sound { IsSound self.now }
     {
         let mut lists = Vec::with_capacity(alloc, self.lists.len())?;
