@@ -287,7 +287,7 @@ static uint64_t now(void) {
 static const char *reason(const struct slot *slot) {
     switch (atomic_load(&slot->why)) {
     case NO_THREAD: return "a 65th thread";
-    case NO_NAME: return control->version == 2 ? "more than 4,294,967,295 names" : "a name past 65,535";
+    case NO_NAME: return control->version == 2 ? "more than 4,294,967,295 names" : "a name past 65,535 (--v2 has more)";
     case NO_TRAY: return "a tray past 65,535 (--cross owner needs fewer)";
     case NO_BYTES: return "more than 67,108,864 bytes";
     case NO_FILE: return strerror(slot->error);
