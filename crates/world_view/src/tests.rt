@@ -126,7 +126,9 @@ fn thread(
     let mut thread = Thread::new(alloc, number, Space::new(Always, number, windows));
     thread.ready(name)?;
     if let Some(block) = block {
-        thread.hand_in(name, block);
+        if thread.has_room(name) && thread.block(name).is_none() {
+            thread.hand_in(name, block);
+        }
     }
     Ok(thread)
 }
