@@ -1,29 +1,6 @@
-pub mod Balance
-pub mod Carved
-pub mod Chosen
-pub mod Endings
-pub mod Enough
-pub mod FastBins
-pub mod Growing
-pub mod Lifting
-pub mod Looks
-pub mod BreakTurns
-pub mod MainGrowth
-mod HeapGrowth
-mod Cutting
 pub mod Opens
 pub mod Mapped
-pub mod Mappings
-pub mod Parts
-pub mod BinnedLaws
 pub mod Recording
-pub mod Nowhere
-pub mod Refusals
-pub mod Remainders
 pub mod Replays
-pub mod Rounds
-pub mod Scanning
-pub mod Shelving
-pub mod SmallBins
-pub mod Systems
+mod Rounds
 pub mod Tellings

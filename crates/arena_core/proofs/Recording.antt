@@ -26,22 +26,28 @@ use Rattle.arena_rules.proofs.Walks.{ends_as_walked, left_as_walked, reaches_beh
 use Rattle.consolidate_trim.specs.Holds.{Chunks, no_chunk, one_chunk, IsBacked, GivesUp, hold}
 use Rattle.consolidate_trim.proofs.HoldSteps.{hand_own}
 use Rattle.consolidate_trim.specs.Outside.{Means, Outside, Apart, ways}
-use Rattle.arena_core.specs.declared.found.Found.{Found}
-use Rattle.arena_core.specs.declared.found.Found.TheVariants as finds
+use Rattle.search_steps.specs.Ledgers.{stage}
+use Rattle.search_steps.proofs.Lifting.{works_carries}
+use Rattle.arena_growth.specs.declared.found.Found.{Found}
+use Rattle.arena_growth.specs.declared.found.Found.TheVariants as finds
+use Rattle.arena_growth.specs.Asking.{Finds, FitsFound, found_of, beside_arena}
 use Rattle.arena_core.specs.declared.journal.Act.{Act}
 use Rattle.arena_core.specs.declared.journal.Act.TheVariants as acts
 use Rattle.arena_core.specs.declared.journal.Ended.TheVariants.{Done, Short}
 use Rattle.arena_core.specs.declared.journal.Who.{Who}
 use Rattle.arena_core.specs.declared.take.Take.{Take}
-use Rattle.arena_core.specs.Arenas.{Held, Records, RecordsShort, Takes, FailsShort, recorded, take_of}
-use Rattle.arena_core.specs.Asking.{Finds, found_of, beside_arena}
+use Rattle.arena_core.specs.Arenas.{Held, Records, RecordsShort, Takes, FailsShort, FitsRequest, recorded, take_of}
 use Rattle.arena_core.specs.Journal.{Recorded}
-use Rattle.arena_core.specs.Ledgers.{stage}
 use Rattle.arena_core.specs.Replay.{IsReplay, rules_of, may_act, hand_of, ended_of, is_opened, is_request_size, is_alignment, chunk_at, found_nothing}
-use Rattle.arena_core.proofs.Lifting.{works_carries}
 use Rattle.arena_core.specs.Tellings.{dealings_with, tells_others}
 use Rattle.arena_core.proofs.Tellings.{IsApart, tells_walked, apart_backed}
 use Rattle.arena_core.proofs.Replays.{replay_more, next_done, next_short}
+
+-- what was found is enough for the request
+pub enough_taken : (nb number : ℕ) (found : Found) → FitsFound nb found → FitsRequest nb (take_of number found)
+enough_taken nb number (finds.InArena c) fits = fits
+enough_taken nb number (finds.InMapping c) fits = fits.enough
+enough_taken nb number finds.Nowhere fits = tt
 
 -- answers put behind none are all the answers
 only_said : {O A : Type 0} {t : Tunables} {w : Ways O} {r q : Rules A} {o z : O} {said : List Said} → Reaches t w r o [] q said z → Walks t w r o said q z

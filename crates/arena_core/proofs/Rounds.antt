@@ -25,18 +25,18 @@ use Rattle.arena_rules.proofs.Walks.{short_here}
 use Rattle.consolidate_trim.specs.FastHolds.{fast_hold, fast_ways, Empties, FastAnswers, FastDoes}
 use Rattle.consolidate_trim.specs.Holds.{no_chunk}
 use Rattle.consolidate_trim.specs.Outside.{Means, Outside, Apart}
-use Rattle.arena_core.specs.declared.found.Found.{Found}
-use Rattle.arena_core.specs.declared.found.Found.TheVariants as finds
-use Rattle.arena_core.specs.declared.step.Step.{Step}
-use Rattle.arena_core.specs.declared.step.Step.TheVariants as steps
-use Rattle.arena_core.specs.Asking.{IsReady, AllowsMaps, Finds, beside_arena}
-use Rattle.arena_core.specs.Ledgers.{Stage, stage, Works, shelf, Near, near_ledger, fast_ledger, full, NearGoes, NearDoes}
-use Rattle.arena_core.specs.Steps.{Steps, step_of, chunks_of, begun}
-use Rattle.arena_core.proofs.Balance.{works_ok, works_short, loses_from, balances_here}
-use Rattle.arena_core.proofs.Lifting.{works_put, works_empties, shelf_part, fast_part, near_part}
-use Rattle.arena_core.proofs.Looks.{flag_reaches, flag_balances}
-use Rattle.arena_core.proofs.MainGrowth.{ready_after}
-use Rattle.arena_core.proofs.Parts.{Passes, passes_then, passes_as, passes_behind, works_after, short_behind_works}
+use Rattle.search_steps.specs.declared.step.Step.{Step}
+use Rattle.search_steps.specs.declared.step.Step.TheVariants as steps
+use Rattle.search_steps.specs.Ledgers.{Stage, stage, Works, shelf, Near, near_ledger, fast_ledger, full, NearGoes, NearDoes}
+use Rattle.search_steps.specs.Steps.{Steps, step_of, chunks_of, begun}
+use Rattle.search_steps.proofs.Balance.{works_ok, works_short, loses_from, balances_here}
+use Rattle.search_steps.proofs.Lifting.{works_put, works_empties, shelf_part, fast_part, near_part}
+use Rattle.search_steps.proofs.Looks.{flag_reaches, flag_balances}
+use Rattle.search_steps.proofs.Parts.{Passes, passes_then, passes_as, passes_behind, works_after, short_behind_works}
+use Rattle.arena_growth.specs.declared.found.Found.{Found}
+use Rattle.arena_growth.specs.declared.found.Found.TheVariants as finds
+use Rattle.arena_growth.specs.Asking.{IsReady, AllowsMaps, Finds, beside_arena}
+use Rattle.arena_growth.proofs.MainGrowth.{ready_after}
 
 -- ---- what may be counted stays so
 

@@ -11,8 +11,11 @@ use Rattle.arena_rules.specs.Rules.{Stop, block_of}
 use Rattle.arena_rules.specs.Walks.{Reaches, StopsShort}
 use Rattle.consolidate_trim.specs.Holds.{Chunks, no_chunk, one_chunk}
 use Rattle.consolidate_trim.specs.Outside.{Means, Outside, ways}
-use Rattle.arena_core.specs.declared.found.Found.{Found}
-use Rattle.arena_core.specs.declared.found.Found.TheVariants as finds
+use Rattle.search_steps.specs.Ledgers.{stage, Balances, Loses, full}
+use Rattle.search_steps.specs.Steps.{IsEnough}
+use Rattle.arena_growth.specs.declared.found.Found.{Found}
+use Rattle.arena_growth.specs.declared.found.Found.TheVariants as finds
+use Rattle.arena_growth.specs.Asking.{found_of, chunks_found, beside_arena}
 use Rattle.arena_core.specs.declared.journal.Act.{Act}
 use Rattle.arena_core.specs.declared.journal.Act.TheVariants.{Give, Resize}
 use Rattle.arena_core.specs.declared.journal.Ended.{Ended}
@@ -20,11 +23,8 @@ use Rattle.arena_core.specs.declared.journal.Ended.TheVariants.{Short}
 use Rattle.arena_core.specs.declared.journal.Who.{Who}
 use Rattle.arena_core.specs.declared.take.Take.{Take}
 use Rattle.arena_core.specs.declared.take.Take.TheVariants as takes
-use Rattle.arena_core.specs.Asking.{found_of, chunks_found, beside_arena}
 use Rattle.arena_core.specs.Journal.{Recorded}
-use Rattle.arena_core.specs.Ledgers.{stage, Balances, Loses, full}
 use Rattle.arena_core.specs.Replay.{rules_of, ended_of, chunk_at}
-use Rattle.arena_core.specs.Steps.{IsEnough}
 
 abbrev pub recorded : Who → Act → List Said → Ended → Recorded
 recorded who act said ended = record { who = who; act = act; said = said; ended = ended }

@@ -5,12 +5,12 @@ use Rattle.chunk_tags.specs.declared.tunables.Tunables.{Tunables}
 use Rattle.arena_rules.specs.PlainArena.{Plain, empty_main}
 use Rattle.arena_rules.specs.Moves.{top_size}
 use Rattle.arena_rules.specs.declared.said.Said.{Said}
+use Rattle.arena_growth.specs.FirstHeap.{closed_arena}
 use Rattle.arena_core.specs.declared.journal.Act.{Act}
 use Rattle.arena_core.specs.declared.journal.Act.TheVariants.{Open, Take, Give, Resize, Align}
 use Rattle.arena_core.specs.declared.journal.Ended.{Ended}
 use Rattle.arena_core.specs.declared.journal.Ended.TheVariants.{Got, Done, Refused}
 use Rattle.arena_core.specs.Journal.{Recorded}
-use Rattle.arena_core.specs.Opening.{closed_arena}
 use Rattle.arena_core.specs.Replay.{replayed}
 
 -- a hold of thread 0, in any line

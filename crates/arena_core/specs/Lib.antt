@@ -1,12 +1,12 @@
 pub use Rattle.arena_rules.specs.PlainArena
 pub use Rattle.arena_rules.specs.Rules
 pub use Rattle.arena_rules.specs.Search
+pub use Rattle.search_steps.specs.Ledgers
+pub use Rattle.arena_growth.specs.Asking
+pub use Rattle.arena_growth.specs.FirstHeap
 pub mod Journal
 pub mod Tellings
 pub mod Replay
-pub mod Ledgers
-pub mod Steps
-pub mod Asking
 pub mod Arenas
 pub mod Opening
 pub mod Examples

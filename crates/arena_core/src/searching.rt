@@ -6,20 +6,17 @@ ghost use Rattle.address_space.specs.Ports.{Rose};
 ghost use Rattle.address_space.specs.Spaces.{space_refusals};
 ghost use Rattle.arena_rules.specs.Search.{rounds, searched};
 ghost use Rattle.consolidate_trim.specs.Outside.{Apart, means};
-ghost use Rattle.arena_core.specs.Ledgers.{stage};
-ghost use Rattle.arena_core.specs.Asking.{IsSearchable, IsReady, AllowsMaps, Finds, FitsFound, beside_arena};
+ghost use Rattle.search_steps.specs.Ledgers.{stage};
+ghost use Rattle.arena_growth.specs.Asking.{IsSearchable, IsReady, AllowsMaps, Finds, FitsFound, beside_arena};
 
-use crate::begin::{ask_flag, begin};
-use crate::found::Found;
-use crate::look::look;
-use crate::step::Step;
-use crate::system::ask_system;
 use address_space::{Kernel, Space};
+use arena_growth::{Found, ask_system};
 use arena_rules::{Moves, Said};
 use chunk_tags::{NoMemory, Size, Tunables};
 use consolidate_trim::consolidate;
 use fast_bins::FastPort;
 use mapped_chunks::Dials;
+use search_steps::{Step, ask_flag, begin, look};
 use thread_cache::Cache;
 
 /// How often the arena is consolidated where top doesn't suffice (this project's own).

@@ -39,15 +39,15 @@ use Rattle.arena_rules.proofs.Walks.{short_behind}
 use Rattle.consolidate_trim.specs.Holds.{Chunks, no_chunk, one_chunk}
 use Rattle.consolidate_trim.specs.Outside.{Means, Outside, ways}
 use Rattle.consolidate_trim.proofs.HoldSteps.{block_is, block_other}
+use Rattle.search_steps.specs.Ledgers.{Ledger, Stage, Loses, stage, full}
+use Rattle.arena_growth.specs.Asking.{beside_arena, found_of}
+use Rattle.arena_growth.specs.declared.found.Found.{Found}
+use Rattle.arena_growth.specs.declared.found.Found.TheVariants as finds
 use Rattle.arena_core.specs.Arenas.{Held, held, Records, mapped_block, chunks_got}
-use Rattle.arena_core.specs.Asking.{beside_arena, found_of}
-use Rattle.arena_core.specs.Ledgers.{Ledger, Stage, Loses, stage, full}
 use Rattle.arena_core.specs.Replay.{chunk_at, found_nothing, rules_of}
 use Rattle.arena_core.specs.Shown.{MappedShown, ShowsMapped, EndsCounted, StopsCounted, IsCounted}
 use Rattle.arena_core.specs.Journal.{Recorded}
 use Rattle.arena_core.proofs.Mapped.{IsFramed, walked_frame, walked_to_end, walked_short, rules_map_within, request_of}
-use Rattle.arena_core.specs.declared.found.Found.{Found}
-use Rattle.arena_core.specs.declared.found.Found.TheVariants as finds
 use Rattle.arena_core.specs.declared.journal.Act.{Act}
 use Rattle.arena_core.specs.declared.journal.Act.TheVariants as acts
 use Rattle.arena_core.specs.declared.journal.Who.{Who}

@@ -22,14 +22,14 @@ use Rattle.mapped_chunks.specs.DialPorts.{Dialled}
 use Rattle.consolidate_trim.specs.Holds.{Chunks, no_chunk, one_chunk, IsBacked, times_cached}
 use Rattle.consolidate_trim.specs.Outside.{Means, Outside, ways}
 use Rattle.consolidate_trim.proofs.HoldSteps.{block_is, block_other}
+use Rattle.search_steps.specs.Ledgers.{stage}
+use Rattle.arena_growth.specs.Asking.{IsReady, IsSearchable, AllowsMaps, beside_arena}
+use Rattle.arena_growth.specs.declared.found.Found.TheVariants as finds
 use Rattle.arena_core.specs.Arenas.{Held, held, Records, RecordsShort, FailsShort, GivesShort}
-use Rattle.arena_core.specs.Asking.{IsReady, IsSearchable, AllowsMaps, beside_arena}
-use Rattle.arena_core.specs.Ledgers.{stage}
 use Rattle.arena_core.specs.Replay.{IsReplay, chunk_at}
 use Rattle.arena_core.specs.Shown.{MappedShown, ShowsMapped, EndsCounted, StopsCounted}
 use Rattle.arena_core.specs.Journal.{Recorded}
 use Rattle.arena_core.proofs.Mapped.{IsFramed, walked_frame, walked_to_end, walked_short, rules_map_within}
-use Rattle.arena_core.specs.declared.found.Found.TheVariants as finds
 use Rattle.arena_core.specs.declared.journal.Act.{Act}
 use Rattle.arena_core.specs.declared.journal.Act.TheVariants as acts
 use Rattle.arena_core.specs.declared.journal.Who.{Who}

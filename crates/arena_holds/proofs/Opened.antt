@@ -20,12 +20,13 @@ use Rattle.arena_rules.specs.Rules.{Rules, Stop, Need, Asks, end_of_rules, fits,
 use Rattle.arena_rules.specs.Walks as walks
 use Rattle.arena_rules.specs.Walks.{Walks}
 use Rattle.arena_rules.proofs.Walks.{ends_as_walked}
+use Rattle.arena_growth.specs.FirstHeap.{SpaceAnswers, asked_ways, closed_arena}
 use Rattle.arena_core.specs.declared.journal.Act.TheVariants.{Open}
 use Rattle.arena_core.specs.declared.journal.Ended.TheVariants.{Done as Ended_done}
 use Rattle.arena_core.specs.declared.journal.Who.{Who}
 use Rattle.arena_core.specs.Arenas.{recorded}
 use Rattle.arena_core.specs.Journal.{Recorded}
-use Rattle.arena_core.specs.Opening.{SpaceAnswers, asked_ways, closed_arena, OpensAs, RefusesOpening, OpensShort}
+use Rattle.arena_core.specs.Opening.{OpensAs, RefusesOpening, OpensShort}
 use Rattle.arena_core.specs.Replay.{IsReplay}
 use Rattle.arena_holds.specs.BookChanges.{Undoes}
 use Rattle.arena_holds.specs.Going as going

@@ -8,9 +8,9 @@ use Rattle.address_space.specs.Ports.{Rose}
 use Rattle.address_space.specs.Spaces.{space_refusals}
 use Rattle.thread_cache.specs.Caches.{CacheValue, is_open}
 use Rattle.arena_rules.specs.Rules.{windows_of}
+use Rattle.arena_growth.proofs.Refusals.{rose_from}
 use Rattle.arena_core.specs.declared.journal.Act.{Act}
 use Rattle.arena_core.specs.declared.journal.Who.{Who}
-use Rattle.arena_core.proofs.Refusals.{rose_from}
 use Rattle.arena_choice.specs.Books.{BookValue}
 use Rattle.arena_choice.specs.Choices.{choice_of}
 use Rattle.arena_choice.specs.declared.choice.Choice.{Choice}

@@ -18,22 +18,22 @@ use Rattle.realloc_align.specs.Calls as resizes
 use Rattle.realloc_align.specs.declared.to_size.Resized.{Resized}
 use Rattle.realloc_align.specs.declared.to_size.Resized.TheVariants as sizes
 use Rattle.realloc_align.specs.Resizes.{Spares}
-use Rattle.arena_core.specs.Ledgers.{stage, full}
+use Rattle.search_steps.specs.Ledgers.{stage, full}
 use Rattle.arena_rules.specs.declared.said.Said.{Said}
 use Rattle.consolidate_trim.specs.Holds.{Chunks, no_chunk, one_chunk}
 use Rattle.consolidate_trim.specs.Outside.{Means, ways}
+use Rattle.arena_growth.proofs.Refusals.{reached_refusals}
 use Rattle.arena_core.specs.Arenas as arenas
 use Rattle.arena_core.specs.Arenas.{Held, held, Records, FailsShort, FitsRequest, GivesShort, mapped_block, need_of, take_of, recorded}
-use Rattle.arena_core.proofs.Refusals.{reached_refusals}
 use Rattle.arena_core.specs.declared.take.Take.TheVariants as takes
 use Rattle.address_space.specs.Ports.{Rose}
 use Rattle.address_space.specs.Spaces.{space_refusals}
-use Rattle.arena_core.specs.Asking.{beside_arena, found_of}
+use Rattle.arena_growth.specs.Asking.{beside_arena, found_of}
+use Rattle.arena_growth.specs.declared.found.Found.{Found}
+use Rattle.arena_growth.specs.declared.found.Found.TheVariants as finds
 use Rattle.arena_core.specs.Journal.{Recorded}
 use Rattle.arena_core.specs.Replay.{rules_of, ended_of, chunk_at}
 use Rattle.arena_core.proofs.Mapped.{IsFramed, walked_frame, request_of}
-use Rattle.arena_core.specs.declared.found.Found.{Found}
-use Rattle.arena_core.specs.declared.found.Found.TheVariants as finds
 use Rattle.arena_core.specs.declared.journal.Act.{Act}
 use Rattle.arena_core.specs.declared.journal.Act.TheVariants as acts
 use Rattle.arena_core.specs.declared.journal.Who.{Who}
@@ -46,7 +46,7 @@ use Rattle.arena_holds.specs.Holding as holdings
 use Rattle.arena_holds.specs.Holding.{SearchesArena, SearchesHeld, block_mapped, Gives, Resizes, ResizesShort, block_in, block_behind}
 use Rattle.arena_holds.specs.Holding.{block_found as found_for}
 use Rattle.arena_holds.specs.Searching.{IsSearch, IsAligned, size_wanted}
-use Rattle.arena_core.specs.Steps.{IsEnough}
+use Rattle.search_steps.specs.Steps.{IsEnough}
 use Rattle.arena_holds.specs.Blocks.{IsHeld}
 use Rattle.arena_holds.specs.Holding.{resized_to}
 use Rattle.arena_holds.specs.Places.{KeptArena, with_journal, PlaceWays, PlaceLaws, IsLent, IsServed, Carries, Setting, Standing, standing, Hands, both_of, weight_of, in_cache, as_chunk_of, as_mapped_byte}

@@ -11,11 +11,11 @@ use Rattle.arena_rules.specs.Rules.{Stop}
 use Rattle.arena_rules.specs.declared.said.Said.{Said}
 use Rattle.arena_rules.specs.Growth.{Took, opened as opened_by}
 use Rattle.arena_rules.specs.Walks.{Walks}
+use Rattle.arena_growth.specs.FirstHeap.{asked_ways, closed_arena}
 use Rattle.arena_core.specs.declared.journal.Act.{Act}
 use Rattle.arena_core.specs.declared.journal.Act.TheVariants.{Open}
 use Rattle.arena_core.specs.declared.journal.Ended.TheVariants as ends
 use Rattle.arena_core.specs.Arenas.{recorded}
-use Rattle.arena_core.specs.Opening.{asked_ways, closed_arena}
 use Rattle.arena_core.specs.declared.journal.Who.{Who}
 use Rattle.arena_core.specs.declared.journal.Ended.{Ended}
 use Rattle.arena_core.specs.Journal.{Recorded}

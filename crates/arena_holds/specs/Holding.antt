@@ -13,12 +13,12 @@ use Rattle.arena_rules.specs.PlainArena.{Plain}
 use Rattle.arena_rules.specs.Rules.{block_of}
 use Rattle.consolidate_trim.specs.Holds.{no_chunk, one_chunk}
 use Rattle.consolidate_trim.specs.Outside.{Means}
+use Rattle.search_steps.specs.Steps.{IsEnough}
+use Rattle.arena_growth.specs.declared.found.Found.{Found}
+use Rattle.arena_growth.specs.declared.found.Found.TheVariants as finds
 use Rattle.arena_core.specs.Arenas.{Held, Records, RecordsShort, held, mapped_block, need_of}
 use Rattle.arena_core.specs.Journal.{Recorded}
 use Rattle.arena_core.specs.Replay.{chunk_at}
-use Rattle.arena_core.specs.Steps.{IsEnough}
-use Rattle.arena_core.specs.declared.found.Found.{Found}
-use Rattle.arena_core.specs.declared.found.Found.TheVariants as finds
 use Rattle.arena_core.specs.declared.journal.Act.{Act}
 use Rattle.arena_core.specs.declared.journal.Act.TheVariants.{Give, Resize, Align}
 use Rattle.arena_core.specs.declared.journal.Who.{Who}

@@ -12,11 +12,11 @@ use Rattle.thread_cache.specs.Caches.{CacheValue, blocks_of, structure_of}
 use Rattle.arena_rules.specs.PlainArena.{Plain, IsSound, is_main, empty_main, times_used}
 use Rattle.arena_rules.specs.MainPlaces.{covers, IsPlaced}
 use Rattle.arena_rules.specs.Rules.{windows_of, heap_windows_of}
+use Rattle.arena_growth.specs.FirstHeap.{closed_arena}
 use Rattle.arena_core.specs.declared.arena.Arena.{Arena}
 use Rattle.arena_core.specs.Journal.{Recorded}
 use Rattle.arena_core.specs.Replay.{IsReplay}
 use Rattle.arena_core.specs.Shown.{MappedShown, ShowsMapped}
-use Rattle.arena_core.specs.Opening.{closed_arena}
 use Rattle.arena_choice.specs.Books.{BookValue}
 use Rattle.arena_holds.specs.BookChanges.{BookChange}
 use Rattle.consolidate_trim.specs.Holds.{is_block_of}

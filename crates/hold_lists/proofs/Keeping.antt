@@ -30,17 +30,17 @@ use Rattle.arena_rules.proofs.MainPlaces.{empty_placed}
 use Rattle.consolidate_trim.specs.Holds.{Chunks, no_chunk, one_chunk, is_block_of, times_cached, IsBacked}
 use Rattle.consolidate_trim.specs.Outside.{Means, means}
 use Rattle.consolidate_trim.proofs.HoldSteps.{block_is, fast_chunk_is}
-use Rattle.arena_core.specs.declared.found.Found.{Found}
-use Rattle.arena_core.specs.declared.found.Found.TheVariants as finds
+use Rattle.search_steps.specs.Ledgers.{stage, Balances, full}
+use Rattle.arena_growth.specs.declared.found.Found.{Found}
+use Rattle.arena_growth.specs.declared.found.Found.TheVariants as finds
+use Rattle.arena_growth.specs.Asking.{IsReady, beside_arena, chunks_found}
+use Rattle.arena_growth.proofs.Growing.{walks_windows}
 use Rattle.arena_core.specs.declared.journal.Act.TheVariants as acts
 use Rattle.arena_core.specs.declared.journal.Who.{Who}
 use Rattle.arena_core.specs.declared.take.Take.{Take}
 use Rattle.arena_core.specs.declared.take.Take.TheVariants as takes
 use Rattle.arena_core.specs.Arenas.{held, Takes, Records, take_of, mapped_block, chunks_got}
-use Rattle.arena_core.specs.Asking.{IsReady, beside_arena, chunks_found}
-use Rattle.arena_core.specs.Ledgers.{stage, Balances, full}
 use Rattle.arena_core.specs.Replay.{chunk_at}
-use Rattle.arena_core.proofs.Growing.{walks_windows}
 use Rattle.realloc_align.specs.declared.to_size.Resized.{Resized}
 use Rattle.realloc_align.specs.declared.to_size.Resized.TheVariants.{Kept, Moved, Refused}
 use Rattle.realloc_align.specs.Calls.{ResizesBlock, AlignsBlock, resize_to, aligned_take}

@@ -6,7 +6,7 @@ ghost use Rattle.chunk_tags.specs.Tunables.{IsTuned};
 ghost use Rattle.thread_cache.specs.Held.{IsSound as IsSoundCache};
 ghost use Rattle.mapped_chunks.specs.Mappings.{IsMapped};
 ghost use Rattle.arena_rules.specs.Align.{IsAlignment};
-ghost use Rattle.arena_core.specs.Asking.{AllowsMaps};
+ghost use Rattle.arena_growth.specs.Asking.{AllowsMaps};
 ghost use Rattle.consolidate_trim.specs.Holds.{no_chunk};
 ghost use Rattle.hold_lists.specs.Kept.{IsKept, chunks_of};
 ghost use Rattle.hold_lists.specs.Ports.{port_dials};

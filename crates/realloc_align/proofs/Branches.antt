@@ -23,11 +23,11 @@ use Rattle.arena_rules.proofs.Walks.{short_behind}
 use Rattle.consolidate_trim.specs.Holds.{no_chunk, one_chunk, IsBacked}
 use Rattle.consolidate_trim.specs.Outside.{Means, Outside}
 use Rattle.consolidate_trim.proofs.HoldSteps.{hand_own}
-use Rattle.arena_core.specs.declared.found.Found.{Found}
-use Rattle.arena_core.specs.declared.found.Found.TheVariants.{InArena, InMapping, Nowhere}
-use Rattle.arena_core.specs.Asking.{Finds, took, chunks_found}
-use Rattle.arena_core.specs.Ledgers.{Stage, stage, Balances, full}
-use Rattle.arena_core.proofs.Balance.{balances_then, balances_as}
+use Rattle.search_steps.specs.Ledgers.{Stage, stage, Balances, full}
+use Rattle.search_steps.proofs.Balance.{balances_then, balances_as}
+use Rattle.arena_growth.specs.declared.found.Found.{Found}
+use Rattle.arena_growth.specs.declared.found.Found.TheVariants.{InArena, InMapping, Nowhere}
+use Rattle.arena_growth.specs.Asking.{Finds, took, chunks_found}
 use Rattle.realloc_align.specs.declared.cutting.Reshaped.{Reshaped}
 use Rattle.realloc_align.specs.Resizes.{Comes, Spares, Reshapes, whole_of, cut_of, arena_cut, placed_of, arena_placed, rest_released, chunks_reshaped}
 use Rattle.realloc_align.proofs.Accounts.{balances_move, balances_still, backed_with, backed_less, spares_then, comes_as, comes_then, comes_behind}

@@ -12,19 +12,19 @@ use Rattle.arena_rules.specs.PlainArena.{Plain}
 use Rattle.arena_rules.specs.Resize.{is_kept, is_moved}
 use Rattle.consolidate_trim.specs.Holds.{no_chunk, one_chunk}
 use Rattle.consolidate_trim.specs.Outside.{Means, Outside}
-use Rattle.arena_core.specs.declared.found.Found.{Found}
-use Rattle.arena_core.specs.declared.found.Found.TheVariants as finds
+use Rattle.search_steps.specs.Ledgers.{stage, full}
+use Rattle.search_steps.specs.Steps.{IsEnough}
+use Rattle.search_steps.proofs.Balance.{balances_as}
+use Rattle.arena_growth.specs.declared.found.Found.{Found}
+use Rattle.arena_growth.specs.declared.found.Found.TheVariants as finds
+use Rattle.arena_growth.specs.Asking.{Finds, FitsFound, beside_arena, found_of}
 use Rattle.arena_core.specs.declared.journal.Act.TheVariants as acts
 use Rattle.arena_core.specs.declared.journal.Ended.TheVariants.{Short}
 use Rattle.arena_core.specs.declared.journal.Who.{Who}
 use Rattle.arena_core.specs.declared.take.Take.{Take}
 use Rattle.arena_core.specs.Arenas.{Held, Records, RecordsShort, chunks_got, held, need_of, recorded}
-use Rattle.arena_core.specs.Asking.{Finds, FitsFound, beside_arena, found_of}
 use Rattle.arena_core.specs.Journal.{Recorded}
-use Rattle.arena_core.specs.Ledgers.{stage, full}
 use Rattle.arena_core.specs.Replay.{IsReplay, chunk_at, ended_found, ended_aligned}
-use Rattle.arena_core.specs.Steps.{IsEnough}
-use Rattle.arena_core.proofs.Balance.{balances_as}
 use Rattle.arena_core.proofs.Recording.{CanAct, short_replay}
 use Rattle.realloc_align.specs.declared.resizing.Stranded.{Stranded}
 use Rattle.realloc_align.specs.declared.to_size.Resized.{Resized}

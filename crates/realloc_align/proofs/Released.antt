@@ -11,13 +11,13 @@ use Rattle.arena_rules.specs.Rules.{Rules, Stop}
 use Rattle.arena_rules.proofs.Walks.{reaches_then, reaches_behind, short_then, short_behind}
 use Rattle.consolidate_trim.specs.Holds.{no_chunk, one_chunk, IsBacked}
 use Rattle.consolidate_trim.specs.Outside.{Means, Outside}
-use Rattle.arena_core.specs.declared.found.Found.{Found}
-use Rattle.arena_core.specs.declared.found.Found.TheVariants.{InMapping, Nowhere}
-use Rattle.arena_core.specs.Asking.{IsReady, Closes, took, chunks_in}
-use Rattle.arena_core.specs.Ledgers.{Stage, full}
-use Rattle.arena_core.proofs.Balance.{balances_then, balances_as}
-use Rattle.arena_core.proofs.Parts.{renumbered, renumbered_short}
-use Rattle.arena_core.proofs.Refusals.{refusals_of, reached_refusals, rose_on}
+use Rattle.search_steps.specs.Ledgers.{Stage, full}
+use Rattle.search_steps.proofs.Balance.{balances_then, balances_as}
+use Rattle.search_steps.proofs.Parts.{renumbered, renumbered_short}
+use Rattle.arena_growth.specs.declared.found.Found.{Found}
+use Rattle.arena_growth.specs.declared.found.Found.TheVariants.{InMapping, Nowhere}
+use Rattle.arena_growth.specs.Asking.{IsReady, Closes, took, chunks_in}
+use Rattle.arena_growth.proofs.Refusals.{refusals_of, reached_refusals, rose_on}
 use Rattle.realloc_align.specs.declared.cutting.Reshaped.{Reshaped}
 use Rattle.realloc_align.specs.declared.resizing.Stranded.{Stranded}
 use Rattle.realloc_align.specs.Resizes.{Reshapes, Resizes, Spares, StopsInMapping, rest_released, chunks_kept, chunks_reshaped}

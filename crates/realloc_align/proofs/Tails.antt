@@ -25,13 +25,13 @@ use Rattle.fast_bins.specs.FastPorts.{Fast}
 use Rattle.consolidate_trim.specs.Holds.{no_chunk, one_chunk, IsBacked}
 use Rattle.consolidate_trim.specs.Outside.{Means, Outside}
 use Rattle.consolidate_trim.proofs.HoldSteps.{hand_own}
-use Rattle.arena_core.specs.declared.found.Found.{Found}
-use Rattle.arena_core.specs.declared.found.Found.TheVariants.{InArena, InMapping}
-use Rattle.arena_core.specs.Asking.{Closes, Finds, IsEnoughMapped, took, chunks_found}
-use Rattle.arena_core.specs.Ledgers.{Stage, stage, Balances, Works, full}
-use Rattle.arena_core.specs.Steps.{IsEnough}
-use Rattle.arena_core.proofs.Balance.{works_ok, balances_as}
-use Rattle.arena_core.proofs.Parts.{short_behind_works}
+use Rattle.search_steps.specs.Ledgers.{Stage, stage, Balances, Works, full}
+use Rattle.search_steps.specs.Steps.{IsEnough}
+use Rattle.search_steps.proofs.Balance.{works_ok, balances_as}
+use Rattle.search_steps.proofs.Parts.{short_behind_works}
+use Rattle.arena_growth.specs.declared.found.Found.{Found}
+use Rattle.arena_growth.specs.declared.found.Found.TheVariants.{InArena, InMapping}
+use Rattle.arena_growth.specs.Asking.{Closes, Finds, IsEnoughMapped, took, chunks_found}
 use Rattle.realloc_align.specs.Aligns.{AlignsChunk, CutsLead, FitsAt, FitsAligned}
 use Rattle.realloc_align.specs.Resizes.{Comes}
 use Rattle.realloc_align.proofs.Accounts.{balances_move, balances_still, backed_with, backed_less, comes_behind, works_comes, comes_released, short_released}

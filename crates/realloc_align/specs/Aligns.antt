@@ -10,11 +10,11 @@ use Rattle.arena_rules.specs.Moves.{parted}
 use Rattle.arena_rules.specs.Rules.{Rules}
 use Rattle.consolidate_trim.specs.Holds.{one_chunk}
 use Rattle.consolidate_trim.specs.Outside.{Means, Outside}
-use Rattle.arena_core.specs.declared.found.Found.{Found}
-use Rattle.arena_core.specs.declared.found.Found.TheVariants.{InArena, InMapping, Nowhere}
-use Rattle.arena_core.specs.Asking.{Closes}
-use Rattle.arena_core.specs.Ledgers.{Stage, stage, Works, full}
-use Rattle.arena_core.specs.Steps.{IsEnough}
+use Rattle.search_steps.specs.Ledgers.{Stage, stage, Works, full}
+use Rattle.search_steps.specs.Steps.{IsEnough}
+use Rattle.arena_growth.specs.declared.found.Found.{Found}
+use Rattle.arena_growth.specs.declared.found.Found.TheVariants.{InArena, InMapping, Nowhere}
+use Rattle.arena_growth.specs.Asking.{Closes}
 
 -- A chunk of the arena goes through these rules, and part of it is kept.
 abbrev pub AlignsChunk : {P K : Type 0} → Means P K → Tunables → Rules Took → Chunk → Stage (Outside P K) → Result Chunk NoMemory → Stage (Outside P K) → Type 0

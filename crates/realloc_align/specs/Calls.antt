@@ -10,18 +10,18 @@ use Rattle.arena_rules.specs.Rules.{block_of}
 use Rattle.arena_rules.specs.Walks.{StopsShort}
 use Rattle.consolidate_trim.specs.Holds.{no_chunk, one_chunk}
 use Rattle.consolidate_trim.specs.Outside.{Means, ways}
-use Rattle.arena_core.specs.declared.found.Found.{Found}
-use Rattle.arena_core.specs.declared.found.Found.TheVariants as finds
+use Rattle.search_steps.specs.Ledgers.{stage, full}
+use Rattle.search_steps.specs.Steps.{IsEnough}
+use Rattle.arena_growth.specs.declared.found.Found.{Found}
+use Rattle.arena_growth.specs.declared.found.Found.TheVariants as finds
+use Rattle.arena_growth.specs.Asking.{found_of}
 use Rattle.arena_core.specs.declared.journal.Act.TheVariants as acts
 use Rattle.arena_core.specs.declared.journal.Ended.TheVariants.{Short}
 use Rattle.arena_core.specs.declared.journal.Who.{Who}
 use Rattle.arena_core.specs.declared.take.Take.{Take}
 use Rattle.arena_core.specs.declared.take.Take.TheVariants as takes
 use Rattle.arena_core.specs.Arenas.{Held, Records, FailsShort, mapped_block, need_of, recorded}
-use Rattle.arena_core.specs.Asking.{found_of}
-use Rattle.arena_core.specs.Ledgers.{stage, full}
 use Rattle.arena_core.specs.Replay.{rules_of, chunk_at}
-use Rattle.arena_core.specs.Steps.{IsEnough}
 use Rattle.realloc_align.specs.declared.to_size.Resized.{Resized}
 use Rattle.realloc_align.specs.declared.to_size.Resized.TheVariants.{Kept, Moved, Refused}
 use Rattle.realloc_align.specs.Aligns.{FitsAt}

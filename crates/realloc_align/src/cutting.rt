@@ -6,7 +6,7 @@ ghost use Rattle.arena_rules.specs.PlainArena.{IsSound, is_own};
 ghost use Rattle.arena_rules.specs.Resize.{front_of};
 ghost use Rattle.realloc_align.specs.Resizes.{cut_of, arena_cut};
 
-use arena_core::Found;
+use arena_growth::Found;
 use arena_rules::Moves;
 use chunk_tags::{Chunk, Size};
 

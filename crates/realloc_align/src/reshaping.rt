@@ -8,13 +8,14 @@ ghost use Rattle.arena_rules.specs.PlainArena.{IsSound, is_own};
 ghost use Rattle.arena_rules.specs.Resize.{fits_with_top, fits_with_free, is_next_to};
 ghost use Rattle.consolidate_trim.specs.Holds.{IsBacked, one_chunk};
 ghost use Rattle.consolidate_trim.specs.Outside.{Apart, means};
-ghost use Rattle.arena_core.specs.Ledgers.{stage};
-ghost use Rattle.arena_core.specs.Asking.{IsSearchable, IsReady, AllowsMaps, FitsFound, beside_arena};
+ghost use Rattle.search_steps.specs.Ledgers.{stage};
+ghost use Rattle.arena_growth.specs.Asking.{IsSearchable, IsReady, AllowsMaps, FitsFound, beside_arena};
 ghost use Rattle.realloc_align.specs.Resizes.{Reshapes, placed_of, arena_placed};
 
 use crate::cutting::{MIN_CHUNK, Reshaped, cut, front_of};
 use address_space::{Kernel, Space};
-use arena_core::{Found, search};
+use arena_core::search;
+use arena_growth::Found;
 use arena_rules::{Moves, Said};
 use chunk_tags::{Chunk, NoMemory, Size, TileKind, Tunables};
 use fast_bins::FastPort;

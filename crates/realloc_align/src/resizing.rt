@@ -6,13 +6,13 @@ ghost use Rattle.address_space.specs.Ports.{Rose};
 ghost use Rattle.address_space.specs.Spaces.{space_refusals};
 ghost use Rattle.consolidate_trim.specs.Holds.{IsBacked, one_chunk};
 ghost use Rattle.consolidate_trim.specs.Outside.{Apart, means};
-ghost use Rattle.arena_core.specs.Ledgers.{stage};
-ghost use Rattle.arena_core.specs.Asking.{IsSearchable, IsReady, AllowsMaps, Closes, FitsFound, beside_arena, chunks_in};
+ghost use Rattle.search_steps.specs.Ledgers.{stage};
+ghost use Rattle.arena_growth.specs.Asking.{IsSearchable, IsReady, AllowsMaps, Closes, FitsFound, beside_arena, chunks_in};
 ghost use Rattle.realloc_align.specs.Resizes.{Resizes};
 
 use crate::reshaping::reshape;
 use address_space::{Kernel, Space};
-use arena_core::Found;
+use arena_growth::Found;
 use arena_rules::{Moves, Said};
 use chunk_tags::{Chunk, NoMemory, Size, Tunables};
 use consolidate_trim::release;

@@ -7,8 +7,8 @@ ghost use Rattle.address_space.specs.Spaces.{space_refusals};
 ghost use Rattle.arena_rules.specs.PlainArena.{Plain};
 ghost use Rattle.arena_rules.specs.Align.{IsAlignment, aligned_block};
 ghost use Rattle.consolidate_trim.specs.Outside.{Apart, means};
-ghost use Rattle.arena_core.specs.Ledgers.{stage};
-ghost use Rattle.arena_core.specs.Asking.{IsSearchable, IsReady, AllowsMaps, beside_arena, found_of};
+ghost use Rattle.search_steps.specs.Ledgers.{stage};
+ghost use Rattle.arena_growth.specs.Asking.{IsSearchable, IsReady, AllowsMaps, beside_arena, found_of};
 ghost use Rattle.arena_core.specs.Arenas.{held};
 ghost use Rattle.arena_core.specs.Replay.{IsReplay, ended_aligned};
 ghost use Rattle.realloc_align.specs.Aligns.{FitsMapping, FitsAligned};
@@ -16,7 +16,8 @@ ghost use Rattle.realloc_align.specs.Calls.{AlignsBlock, FailsAlign, FitsTake, a
 
 use crate::aligning::{align_in_arena, lead_of};
 use address_space::{Kernel, Space};
-use arena_core::{Act, Arena, Ended, Found, GiveShort, Take, Who, append};
+use arena_core::{Act, Arena, Ended, GiveShort, Take, Who, append};
+use arena_growth::Found;
 use arena_rules::Moves;
 use chunk_tags::{Addr, Block, Chunk, NoMemory, Size, Tunables};
 use consolidate_trim::make_room;

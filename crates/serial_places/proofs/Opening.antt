@@ -11,7 +11,7 @@ use Rattle.arena_rules.specs.Walks as walks
 use Rattle.arena_rules.specs.Walks.{Walks}
 use Rattle.arena_rules.specs.declared.said.Said.{Said}
 use Rattle.arena_rules.specs.declared.said.Said.TheVariants as told
-use Rattle.arena_core.specs.Opening.{SpaceAnswers, asked_ways}
+use Rattle.arena_growth.specs.FirstHeap.{SpaceAnswers, asked_ways}
 use Rattle.serial_places.specs.Playing.{HoldWorld, world_answer, world_told, PlayedHold, told_first, played_hold}
 use Rattle.serial_places.proofs.Playing.{same_asked, first_true}
 

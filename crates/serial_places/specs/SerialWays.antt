@@ -25,6 +25,7 @@ use Rattle.arena_rules.specs.Growth.{Took, opened}
 use Rattle.arena_rules.specs.Rules.{heap_windows_of}
 use Rattle.arena_rules.specs.declared.said.Said.{Said}
 use Rattle.arena_ground.specs.Grounds.{GroundView}
+use Rattle.arena_growth.specs.FirstHeap.{closed_arena}
 use Rattle.arena_core.specs.Arenas.{recorded}
 use Rattle.arena_core.specs.declared.arena.Arena.{Arena}
 use Rattle.arena_core.specs.declared.journal.Act.{Act}
@@ -32,7 +33,6 @@ use Rattle.arena_core.specs.declared.journal.Act.TheVariants.{Open}
 use Rattle.arena_core.specs.declared.journal.Ended.TheVariants as ends
 use Rattle.arena_core.specs.declared.journal.Who.{Who}
 use Rattle.arena_core.specs.Journal.{Recorded}
-use Rattle.arena_core.specs.Opening.{closed_arena}
 use Rattle.arena_core.specs.Replay.{rules_of, ended_of, IsReplay}
 use Rattle.arena_core.specs.Shown.{MappedShown}
 use Rattle.arena_choice.specs.Numbers.{has}

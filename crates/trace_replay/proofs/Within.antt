@@ -13,7 +13,7 @@ use Rattle.arena_rules.specs.Walks as walks
 use Rattle.arena_rules.specs.Walks.{Walks}
 use Rattle.arena_rules.specs.declared.said.Said.{Said}
 use Rattle.arena_rules.specs.declared.said.Said.TheVariants as told
-use Rattle.arena_core.specs.Opening.{asked_ways}
+use Rattle.arena_growth.specs.FirstHeap.{asked_ways}
 use Rattle.consolidate_trim.specs.Outside as outside
 use Rattle.consolidate_trim.specs.Outside.{Means, Outside, Goes, ways}
 

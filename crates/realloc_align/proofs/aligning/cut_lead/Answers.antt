@@ -1,6 +1,6 @@
 use Rattle.std.proofs.Common.{arith}
 use Rattle.consolidate_trim.proofs.HoldSteps.{hand_own}
-use Rattle.arena_core.proofs.MainGrowth.{closes_some}
+use Rattle.arena_growth.proofs.MainGrowth.{closes_some}
 use Rattle.realloc_align.proofs.Accounts.{backed_less}
 use Rattle.realloc_align.proofs.Tails.{can_cut, parts_backed, cuts_short}
 use Rattle.realloc_align.proofs.aligning.cut_lead.Goals as goal

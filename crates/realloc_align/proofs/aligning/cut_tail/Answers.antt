@@ -1,7 +1,7 @@
 use Rattle.std.proofs.Common.{◌≡◌, ◌+◌, ◌≤◌, true, false, sym, ◌∙◌, arith, rules}
 use Rattle.std.proofs.lemmas.Bool.{ltb-true}
 use Rattle.consolidate_trim.proofs.HoldSteps.{hand_own}
-use Rattle.arena_core.proofs.MainGrowth.{closes_some}
+use Rattle.arena_growth.proofs.MainGrowth.{closes_some}
 use Rattle.realloc_align.proofs.Accounts.{backed_less}
 use Rattle.realloc_align.proofs.Tails.{can_cut, parts_backed, enough_hand, tail_stays, tail_goes, tail_short}
 use Rattle.realloc_align.proofs.aligning.cut_tail.Goals as goal

@@ -1,4 +1,4 @@
-use Rattle.arena_core.proofs.MainGrowth.{closes_none, closes_some}
+use Rattle.arena_growth.proofs.MainGrowth.{closes_none, closes_some}
 use Rattle.realloc_align.proofs.resizing.release_rest.Goals as goal
 
 pub returns-in-Some : goal.returns-in-Some

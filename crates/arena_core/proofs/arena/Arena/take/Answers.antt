@@ -1,7 +1,6 @@
 use Rattle.std.proofs.Common.{inr, sym, subst}
 use Rattle.arena_core.specs.Arenas.{FitsRequest}
-use Rattle.arena_core.proofs.Enough.{enough_taken}
-use Rattle.arena_core.proofs.Recording.{takes, takes_short, records_replay, short_replay, can_take}
+use Rattle.arena_core.proofs.Recording.{enough_taken, takes, takes_short, records_replay, short_replay, can_take}
 use Rattle.arena_core.proofs.arena.Arena.take.Goals as goal
 
 pub returns-in-Ok-clause-taken : goal.returns-in-Ok-clause-taken
