@@ -52,7 +52,7 @@ use Rattle.arena_core.specs.declared.journal.Act.{Act}
 use Rattle.arena_core.specs.declared.journal.Act.TheVariants as acts
 use Rattle.arena_core.specs.declared.journal.Who.{Who}
 use Rattle.arena_holds.specs.Places.{KeptArena, PlaceWays, both_of, weight_of, in_cache, as_chunk_of, as_mapped, as_mapped_bytes, as_mapped_byte, last_byte, given_byte}
-use Rattle.arena_holds.specs.Blocks.{IsHeld}
+use Rattle.block_names.specs.Blocks.{IsHeld}
 use Rattle.arena_holds.specs.Returning.{IsAccounted, IsNoted}
 use Rattle.arena_holds.proofs.Holds.{chunk_is, chunk_other, mapped_none, bytes_none, byte_none, cached_is, covers_any, IsShort, short_mapped, cache_same, cache_mapped, cache_mapped_bytes, framed_window}
 

@@ -47,7 +47,7 @@ use Rattle.arena_holds.specs.Holding.{SearchesArena, SearchesHeld, block_mapped,
 use Rattle.arena_holds.specs.Holding.{block_found as found_for}
 use Rattle.arena_holds.specs.Searching.{IsSearch, IsAligned, size_wanted}
 use Rattle.search_steps.specs.Steps.{IsEnough}
-use Rattle.arena_holds.specs.Blocks.{IsHeld}
+use Rattle.block_names.specs.Blocks.{IsHeld}
 use Rattle.arena_holds.specs.Holding.{resized_to}
 use Rattle.arena_holds.specs.Places.{KeptArena, with_journal, PlaceWays, PlaceLaws, IsLent, IsServed, Carries, Setting, Standing, standing, Hands, both_of, weight_of, in_cache, as_chunk_of, as_mapped_byte}
 use Rattle.arena_holds.specs.Returning.{IsUnlocked, IsAccounted}

@@ -28,7 +28,7 @@ use Rattle.arena_core.specs.declared.journal.Ended.{Ended}
 use Rattle.realloc_align.specs.Calls.{FitsResize}
 use Rattle.realloc_align.specs.declared.to_size.Resized.{Resized}
 use Rattle.realloc_align.specs.declared.to_size.Resized.TheVariants as sizes
-use Rattle.arena_holds.specs.Blocks.{IsHeld}
+use Rattle.block_names.specs.Blocks.{IsHeld}
 use Rattle.arena_holds.specs.Searching.{Searched, Chosen, searched, size_searched, size_wanted, IsAligned}
 use Rattle.arena_holds.specs.declared.searching.Tried.{Tried}
 use Rattle.arena_holds.specs.Calls.{Call, Done, Opens, hold_of, hold_end, taken_of}

@@ -1,4 +1,4 @@
-pub mod Blocks
+pub use Rattle.block_names.specs.Blocks
 pub mod BookChanges
 pub mod Calls
 pub mod Searching

@@ -15,7 +15,7 @@ use Rattle.arena_choice.specs.Books.{BookValue}
 use Rattle.arena_choice.specs.Choices.{choice_of}
 use Rattle.arena_choice.specs.declared.choice.Choice.{Choice}
 use Rattle.arena_choice.specs.declared.choice.Choice.TheVariants.{Attached, Free, New, Reuse}
-use Rattle.arena_holds.specs.Blocks.{IsHeld}
+use Rattle.block_names.specs.Blocks.{IsHeld}
 use Rattle.arena_holds.specs.declared.trays.Full.{Full}
 use Rattle.arena_holds.specs.declared.trays.Empty.{Empty}
 use Rattle.arena_holds.specs.BookChanges.{BookChange, Chooses}

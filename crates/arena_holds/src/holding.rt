@@ -12,7 +12,7 @@ ghost use Rattle.arena_growth.specs.Asking.{IsSearchable, IsReady, AllowsMaps, b
 ghost use Rattle.arena_core.specs.Arenas.{FailsShort, held};
 ghost use Rattle.arena_core.specs.Replay.{IsReplay};
 ghost use Rattle.arena_holds.specs.Places.{setting, IsServed, Carries, standing, both_of, in_cache, kept_of};
-ghost use Rattle.arena_holds.specs.Blocks.{IsHeld};
+ghost use Rattle.block_names.specs.Blocks.{IsHeld};
 ghost use Rattle.arena_holds.specs.Searching.{IsSearch};
 ghost use Rattle.arena_holds.specs.Holding.{SearchesArena, SearchesHeld, IsLentTo, Gives, GivesShort, Resizes, ResizesShort, block_in};
 

@@ -5,7 +5,7 @@ ghost use Rattle.chunk_tags.specs.Sizes.{IsChunkSize};
 ghost use Rattle.chunk_tags.specs.declared.block.Block.{Block};
 ghost use Rattle.arena_holds.specs.Places.{PlaceWays, PlaceLaws, Hands, both_of, kept_of};
 ghost use Rattle.arena_holds.specs.Returning.{IsReturn, Unlocks, AreReturn, ReturnsWords, IsUnseen, IsBooked, IsChosen, IsNew, IsAdded, IsPosted, IsTaken, seen_full, found_in_tray};
-ghost use Rattle.arena_holds.specs.Blocks.{IsHeld};
+ghost use Rattle.block_names.specs.Blocks.{IsHeld};
 ghost use Rattle.arena_holds.specs.BookChanges.{Undoes, Reuses, Leaves};
 
 use crate::trays::{Empty, Full};

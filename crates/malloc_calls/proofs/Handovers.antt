@@ -9,15 +9,15 @@ use Rattle.arena_holds.specs.Going as going
 use Rattle.arena_holds.specs.Going.{Does, here}
 use Rattle.arena_holds.specs.Places.{PlaceWays, Setting, standing, Hands, both_of}
 use Rattle.arena_holds.specs.Returning.{IsUnseen, IsPosted, IsTaken}
-use Rattle.malloc_calls.specs.Names.{NameTable, has_place, block_at, with_block, without_block}
-use Rattle.malloc_calls.specs.Own.{in_own}
+use Rattle.block_names.specs.Names.{NameTable, has_place, block_at, with_block, without_block}
+use Rattle.own_blocks.specs.Own.{in_own}
 use Rattle.malloc_calls.specs.Trays.{post_call, take_call}
-use Rattle.malloc_calls.specs.declared.own.Own.{Own}
-use Rattle.malloc_calls.specs.declared.reply.Reply.TheVariants.{Posted, Taken, Missed}
+use Rattle.own_blocks.specs.declared.own.Own.{Own}
+use Rattle.own_blocks.specs.declared.reply.Reply.TheVariants.{Posted, Taken, Missed}
 use Rattle.arena_holds.proofs.Carrying.{SameLaw}
-use Rattle.malloc_calls.proofs.Calling.{own_unnamed}
-use Rattle.malloc_calls.proofs.Tables.{put_back}
-use Rattle.malloc_calls.proofs.Weights.{in_names-with}
+use Rattle.own_blocks.proofs.Calling.{own_unnamed}
+use Rattle.block_names.proofs.Tables.{put_back}
+use Rattle.own_blocks.proofs.Weights.{in_names-with}
 
 -- beside others
 unseen_beside : {P H D : Type 0} {ways : PlaceWays P H D} {p q : P} {given got : Hands} → SameLaw ways → (others given' got' : Hands) →

@@ -1,9 +1,3 @@
-pub mod Keyed
-pub mod Tables
-pub mod Weights
-pub mod Calling
-pub mod Supplies
-pub mod Releases
+pub mod Namings
 pub mod Resettlings
-pub mod Exits
 pub mod Handovers

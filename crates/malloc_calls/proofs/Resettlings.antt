@@ -10,40 +10,40 @@ use Rattle.thread_cache.specs.Caches.{CacheValue}
 use Rattle.arena_core.specs.Arenas.{need_of}
 use Rattle.arena_core.specs.declared.journal.Act.TheVariants as acts
 use Rattle.arena_core.specs.declared.journal.Who.{Who}
-use Rattle.arena_holds.specs.Blocks.{IsHeld}
-use Rattle.malloc_calls.specs.Names.{block_at, with_block, without_block, NameTable}
+use Rattle.block_names.specs.Blocks.{IsHeld}
+use Rattle.block_names.specs.Names.{block_at, with_block, without_block, NameTable}
 use Rattle.arena_holds.specs.Calls.{Call, Done, then_call, hold_of, hold_end, taken_of}
-use Rattle.malloc_calls.specs.Calls.{Supplied, origin_of, plain_supply, releasing, FitsName, HoldsStill}
+use Rattle.own_blocks.specs.Calls.{Supplied, origin_of, plain_supply, releasing, FitsName, HoldsStill}
 use Rattle.chunk_tags.specs.Sizes.{padded_request}
-use Rattle.malloc_calls.specs.Frees.{IsFreed, HoldsOrLoses}
+use Rattle.own_blocks.specs.Frees.{IsFreed, HoldsOrLoses}
 use Rattle.malloc_calls.specs.Reallocs.{realloc_call, Resettled, kept_block, got_block, refused_block, moved_from_arena, moved_from_mapping, after_resize, resize_in_arena, remapped, not_remapped, realloc_in_mapping, settled, IfAnswered}
 use Rattle.arena_holds.specs.Holding.{resized_to, placed_block}
-use Rattle.malloc_calls.specs.declared.own.Own.{Own}
+use Rattle.own_blocks.specs.declared.own.Own.{Own}
 use Rattle.malloc_calls.specs.declared.realloc.Reallocated.{Reallocated}
-use Rattle.malloc_calls.specs.declared.reply.Reply.{Reply}
-use Rattle.malloc_calls.specs.declared.reply.Reply.TheVariants as replies
-use Rattle.malloc_calls.specs.declared.reply.Reply.TheVariants.{Got, Kept, Null, Freed, NotYours, Posted, Taken, Missed}
-use Rattle.malloc_calls.specs.declared.reply.Origin.{Origin}
-use Rattle.malloc_calls.specs.declared.reply.Origin.TheVariants as origins
+use Rattle.own_blocks.specs.declared.reply.Reply.{Reply}
+use Rattle.own_blocks.specs.declared.reply.Reply.TheVariants as replies
+use Rattle.own_blocks.specs.declared.reply.Reply.TheVariants.{Got, Kept, Null, Freed, NotYours, Posted, Taken, Missed}
+use Rattle.own_blocks.specs.declared.reply.Origin.{Origin}
+use Rattle.own_blocks.specs.declared.reply.Origin.TheVariants as origins
 use Rattle.realloc_align.specs.declared.to_size.Resized.{Resized}
 use Rattle.realloc_align.specs.declared.to_size.Resized.TheVariants as sizes
 use Rattle.arena_core.specs.declared.journal.Ended.{Ended}
 use Rattle.arena_rules.specs.Rules.{windows_of}
 use Rattle.mapped_chunks.specs.Mappings.{remap_length, mapping_bytes, mapping_start, chunk_with_lead}
-use Rattle.malloc_calls.specs.declared.reply.Why.TheVariants.{Big, Refused}
-use Rattle.malloc_calls.specs.declared.reply.To.{To}
-use Rattle.malloc_calls.specs.declared.supplying.Supply.{Supply}
+use Rattle.own_blocks.specs.declared.reply.Why.TheVariants.{Big, Refused}
+use Rattle.own_blocks.specs.declared.reply.To.{To}
+use Rattle.own_blocks.specs.declared.supplying.Supply.{Supply}
 use Rattle.arena_holds.specs.Going as going
 use Rattle.arena_holds.specs.Going.{Does, Goes, here}
 use Rattle.arena_holds.specs.Holding.{Resizes, ResizesShort, UnmapsMapped, RemapsMapped}
 use Rattle.arena_holds.specs.Places.{PlaceWays, Setting, Standing, Carries, Hands, IsServed, both_of, weight_of, in_cache}
 use Rattle.malloc_calls.specs.Resettling.{Resettles}
-use Rattle.malloc_calls.specs.Supplying.{Supplies, Releases, ReleasesShort, block_of}
-use Rattle.malloc_calls.proofs.Calling.{carries_hand}
+use Rattle.own_blocks.specs.Supplying.{Supplies, Releases, ReleasesShort, block_of}
+use Rattle.own_blocks.proofs.Calling.{carries_hand}
 use Rattle.arena_holds.proofs.Carrying.{SameLaw, FewerLaw, carries_here, carries_as, carries_then, carries_beside, carries_fewer, served_after, served_fewer}
 use Rattle.arena_holds.proofs.Going.{does_here, does_last, does_then}
-use Rattle.malloc_calls.proofs.Tables.{at_other, set_twice, without_none, at_same, place_of}
-use Rattle.malloc_calls.proofs.Supplies.{rose_later}
+use Rattle.block_names.proofs.Tables.{at_other, set_twice, without_none, at_same, place_of}
+use Rattle.own_blocks.proofs.Supplies.{rose_later}
 
 -- ---- malloc in the place of a resize
 

@@ -9,10 +9,10 @@ use Rattle.arena_rules.specs.Rules.{windows_of}
 use Rattle.arena_holds.specs.Calls.{Call}
 use Rattle.serial_places.specs.SerialWays.{SerialWorld, first_world, played_call}
 use Rattle.serial_places.specs.declared.tray.Tray.TheVariants.{Empty}
-use Rattle.malloc_calls.specs.Names.{no_names, with_place}
-use Rattle.malloc_calls.specs.Own.{new_own}
-use Rattle.malloc_calls.specs.declared.own.Own.{Own}
-use Rattle.malloc_calls.specs.declared.reply.Reply.{Reply}
+use Rattle.block_names.specs.Names.{no_names, with_place}
+use Rattle.own_blocks.specs.Own.{new_own}
+use Rattle.own_blocks.specs.declared.own.Own.{Own}
+use Rattle.own_blocks.specs.declared.reply.Reply.{Reply}
 
 -- a kernel that grants every ask
 abbrev pub grants_all : Port (Unit {0})

@@ -9,13 +9,13 @@ use Rattle.chunk_tags.specs.declared.tunables.Tunables.{Tunables}
 use Rattle.arena_core.specs.Replay.{has_lead_in_range}
 use Rattle.arena_core.specs.declared.journal.Act.TheVariants.{Align}
 use Rattle.arena_holds.specs.Calls.{Call, Done}
-use Rattle.malloc_calls.specs.Calls.{from_arena, plain_supply, fresh_supply, named}
-use Rattle.malloc_calls.specs.Names.{NameTable, block_at}
-use Rattle.malloc_calls.specs.declared.own.Own.{Own}
-use Rattle.malloc_calls.specs.declared.reply.Reply.{Reply}
-use Rattle.malloc_calls.specs.declared.reply.Reply.TheVariants.{Null}
-use Rattle.malloc_calls.specs.declared.reply.Why.{Why}
-use Rattle.malloc_calls.specs.declared.reply.Why.TheVariants as whys
+use Rattle.own_blocks.specs.Calls.{from_arena, plain_supply, fresh_supply, named}
+use Rattle.block_names.specs.Names.{NameTable, block_at}
+use Rattle.own_blocks.specs.declared.own.Own.{Own}
+use Rattle.own_blocks.specs.declared.reply.Reply.{Reply}
+use Rattle.own_blocks.specs.declared.reply.Reply.TheVariants.{Null}
+use Rattle.own_blocks.specs.declared.reply.Why.{Why}
+use Rattle.own_blocks.specs.declared.reply.Why.TheVariants as whys
 
 -- no block, and nothing changes
 abbrev pub refuse : Why → Own → Call (Reply × Own)

@@ -11,17 +11,17 @@ use Rattle.thread_cache.specs.Caches.{CacheValue}
 use Rattle.arena_core.specs.declared.journal.Act.TheVariants.{Resize}
 use Rattle.arena_holds.specs.Calls.{Call, Done, Unmaps, Remaps, then_call, hold_of}
 use Rattle.arena_holds.specs.Holding.{resized_to}
-use Rattle.malloc_calls.specs.Calls.{origin_of, opening, plain_supply, Supplied, releasing, own_with}
-use Rattle.malloc_calls.specs.Frees.{free_of_block}
+use Rattle.own_blocks.specs.Calls.{origin_of, opening, plain_supply, Supplied, releasing, own_with}
+use Rattle.own_blocks.specs.Frees.{free_of_block}
 use Rattle.malloc_calls.specs.Mallocs.{refuse}
-use Rattle.malloc_calls.specs.Names.{block_at}
-use Rattle.malloc_calls.specs.declared.own.Own.{Own}
+use Rattle.block_names.specs.Names.{block_at}
+use Rattle.own_blocks.specs.declared.own.Own.{Own}
 use Rattle.malloc_calls.specs.declared.realloc.Reallocated.{Reallocated}
-use Rattle.malloc_calls.specs.declared.reply.Reply.{Reply}
-use Rattle.malloc_calls.specs.declared.reply.Reply.TheVariants.{Got, Kept, Null, NotYours}
-use Rattle.malloc_calls.specs.declared.reply.Origin.{Origin}
-use Rattle.malloc_calls.specs.declared.reply.Origin.TheVariants as origins
-use Rattle.malloc_calls.specs.declared.reply.Why.TheVariants as whys
+use Rattle.own_blocks.specs.declared.reply.Reply.{Reply}
+use Rattle.own_blocks.specs.declared.reply.Reply.TheVariants.{Got, Kept, Null, NotYours}
+use Rattle.own_blocks.specs.declared.reply.Origin.{Origin}
+use Rattle.own_blocks.specs.declared.reply.Origin.TheVariants as origins
+use Rattle.own_blocks.specs.declared.reply.Why.TheVariants as whys
 
 -- what a realloc comes to: the answer, the block that the name then has, and the thread's cache
 abbrev pub Resettled : Type 0

@@ -7,14 +7,14 @@ use Rattle.address_space.specs.Spaces.{space_refusals}
 use Rattle.thread_cache.specs.Caches.{CacheValue}
 use Rattle.arena_core.specs.Arenas.{need_of}
 use Rattle.arena_core.specs.declared.journal.Who.{Who}
-use Rattle.arena_holds.specs.Blocks.{IsHeld}
+use Rattle.block_names.specs.Blocks.{IsHeld}
 use Rattle.arena_holds.specs.Calls.{Call}
 use Rattle.malloc_calls.specs.Reallocs.{Resettled, IfAnswered}
 use Rattle.arena_holds.specs.Going.{Does}
 use Rattle.arena_holds.specs.Places.{Setting, Standing, Carries, both_of, in_cache}
 use Rattle.malloc_calls.specs.declared.realloc.Reallocated.{Reallocated}
-use Rattle.malloc_calls.specs.declared.reply.Reply.TheVariants.{Null}
-use Rattle.malloc_calls.specs.declared.reply.Why.TheVariants.{Refused}
+use Rattle.own_blocks.specs.declared.reply.Reply.TheVariants.{Null}
+use Rattle.own_blocks.specs.declared.reply.Why.TheVariants.{Refused}
 
 -- A block in hand was to get nb bytes by these rules: the block that is in hand then is large enough, or the answer is null.
 pub record Resettles {P H D K : Type 0} (s : Setting P H D K) (t : Tunables) (who : Who) (rules : Call Resettled) (nb : ℕ) (b : Block) (cache : CacheValue)

@@ -2,11 +2,11 @@
 use Rattle.std.specs.Prelude.{ℕ, Option, Some, None, Result, Ok, Err}
 use Rattle.chunk_tags.specs.declared.block.Block.{Block}
 use Rattle.arena_holds.specs.Calls.{Call, Done, Posts, Takes}
-use Rattle.malloc_calls.specs.Frees.{without_name}
-use Rattle.malloc_calls.specs.Names.{block_at, with_block}
-use Rattle.malloc_calls.specs.declared.own.Own.{Own}
-use Rattle.malloc_calls.specs.declared.reply.Reply.{Reply}
-use Rattle.malloc_calls.specs.declared.reply.Reply.TheVariants.{NotYours, Posted, Taken, Missed}
+use Rattle.own_blocks.specs.Frees.{without_name}
+use Rattle.block_names.specs.Names.{block_at, with_block}
+use Rattle.own_blocks.specs.declared.own.Own.{Own}
+use Rattle.own_blocks.specs.declared.reply.Reply.{Reply}
+use Rattle.own_blocks.specs.declared.reply.Reply.TheVariants.{NotYours, Posted, Taken, Missed}
 
 -- a name's block is posted; where the tray isn't empty the name keeps it
 abbrev pub post_end : ℕ → Own → Option ℕ → Reply × Own

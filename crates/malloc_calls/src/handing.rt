@@ -7,20 +7,21 @@ ghost use Rattle.consolidate_trim.specs.Outside.{means};
 ghost use Rattle.arena_holds.specs.Going.{Does};
 ghost use Rattle.arena_holds.specs.Places.{setting, standing};
 ghost use Rattle.arena_holds.specs.Returning.{IsUnseen};
-ghost use Rattle.malloc_calls.specs.Names.{has_place, block_at};
-ghost use Rattle.malloc_calls.specs.Own.{in_own, own_of, names_of, number_of, space_of};
+ghost use Rattle.block_names.specs.Names.{has_place, block_at};
+ghost use Rattle.own_blocks.specs.Own.{in_own};
+ghost use Rattle.malloc_calls.specs.Threads.{own_of, names_of, number_of, space_of};
 ghost use Rattle.malloc_calls.specs.Trays.{post_call, take_call};
-ghost use Rattle.malloc_calls.specs.declared.reply.Reply.TheVariants.{NotYours};
+ghost use Rattle.own_blocks.specs.declared.reply.Reply.TheVariants.{NotYours};
 
-use crate::reply::Reply;
 use crate::thread::Thread;
 use address_space::Kernel;
 use arena_holds::Places;
+use own_blocks::Reply;
 
 impl<K: Kernel> Thread<K> {
     /// Posts a name's block to a tray. `NotYours` exactly where the name holds nothing; `Missed` where the tray isn't empty, and
     /// then the name keeps its block.
-    #[tactic(auto, using(crate::proofs::Tables::place_left, crate::proofs::Tables::without_none))]
+    #[tactic(auto, using(block_names::proofs::Tables::place_left, block_names::proofs::Tables::without_none))]
     pub fn post<P: Places>(&mut self, p: &mut P, name: u32, tray: u32) -> Reply
         requires tray { tray < 65536 }
         requires served { P.ways.serves false p.old (in_own (own_of self.old)) }

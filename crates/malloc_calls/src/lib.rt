@@ -3,28 +3,15 @@
 //! (`Mallocs`, `Reallocs`, `Frees`, `Exits`, `Trays`) over any `Places`.
 #![tactic(auto)]
 
-mod cached;
 #[cfg(test)]
 mod examples;
-mod exit;
-mod free;
 mod handing;
 mod malloc;
-mod names;
-mod opening;
-mod own;
-mod own_cache;
 mod realloc;
-mod releasing;
-mod reply;
-mod supplying;
 mod thread;
 
-pub use cached::CachedFree;
-pub use names::Names;
-pub use own::Own;
-pub use own_cache::OwnCache;
-pub use reply::{Origin, Reply, To, Why};
+pub use block_names::Names;
+pub use own_blocks::{CachedFree, Origin, Own, OwnCache, Reply, To, Why};
 pub use thread::Thread;
 
 #[cfg(test)]

@@ -7,24 +7,22 @@ ghost use Rattle.address_space.specs.Ports.{Rose};
 ghost use Rattle.address_space.specs.Spaces.{space_refusals};
 ghost use Rattle.arena_core.specs.Replay.{has_lead_in_range};
 ghost use Rattle.consolidate_trim.specs.Outside.{means};
-ghost use Rattle.arena_holds.specs.Blocks.{IsHeld};
-ghost use Rattle.malloc_calls.specs.Names.{has_place, block_at};
-ghost use Rattle.malloc_calls.specs.Calls.{FitsName, reply_of, names_with};
+ghost use Rattle.block_names.specs.Blocks.{IsHeld};
+ghost use Rattle.block_names.specs.Names.{has_place, block_at};
+ghost use Rattle.own_blocks.specs.Calls.{FitsName, reply_of, names_with};
 ghost use Rattle.malloc_calls.specs.Mallocs.{malloc_call, calloc_call, posix_memalign_call, is_memalign, IsAlignedName};
-ghost use Rattle.malloc_calls.specs.declared.reply.Reply.TheVariants.{Null};
-ghost use Rattle.malloc_calls.specs.declared.reply.Why.TheVariants.{Big, Align, Refused};
+ghost use Rattle.own_blocks.specs.declared.reply.Reply.TheVariants.{Null};
+ghost use Rattle.own_blocks.specs.declared.reply.Why.TheVariants.{Big, Align, Refused};
 ghost use Rattle.arena_holds.specs.Going.{Does};
 ghost use Rattle.arena_holds.specs.Places.{setting, IsServed, Carries, standing};
-ghost use Rattle.malloc_calls.specs.Own.{in_own, cached_for};
+ghost use Rattle.own_blocks.specs.Own.{in_own, cached_for};
 
-use crate::names::Names;
-use crate::own::Own;
-use crate::reply::{Reply, Why};
-use crate::supplying::{Supply, fresh_supply, plain_supply, supply_from_arena};
 use address_space::{Kernel, Space};
 use arena_core::{Act, Who};
 use arena_holds::Places;
+use block_names::Names;
 use chunk_tags::{MAX_REQUEST, NoMemory, Size, Tunables, request_size};
+use own_blocks::{Own, Reply, Supply, Why, fresh_supply, plain_supply, supply_from_arena};
 use std::alloc::Global;
 
 /// The alignment of each chunk's user address.

@@ -7,32 +7,27 @@ ghost use Rattle.address_space.specs.Ports.{Rose};
 ghost use Rattle.address_space.specs.Spaces.{space_refusals};
 ghost use Rattle.chunk_tags.specs.declared.block.Block.{Block as Piece};
 ghost use Rattle.consolidate_trim.specs.Outside.{means};
-ghost use Rattle.arena_holds.specs.Blocks.{IsHeld};
-ghost use Rattle.malloc_calls.specs.Names.{block_at};
+ghost use Rattle.block_names.specs.Blocks.{IsHeld};
+ghost use Rattle.block_names.specs.Names.{block_at};
 ghost use Rattle.arena_holds.specs.Calls.{Done, then_call};
-ghost use Rattle.malloc_calls.specs.Calls.{plain_supply, FitsName, HoldsStill};
-ghost use Rattle.malloc_calls.specs.Frees.{HoldsOrLoses};
+ghost use Rattle.own_blocks.specs.Calls.{plain_supply, FitsName, HoldsStill};
+ghost use Rattle.own_blocks.specs.Frees.{HoldsOrLoses};
 ghost use Rattle.malloc_calls.specs.Reallocs.{realloc_call, realloc_in, resize_in_arena, realloc_in_arena, realloc_in_mapping, moved_from_arena, moved_from_mapping, not_remapped, remapped, kept_block, got_block, refused_block, settled, IfAnswered, has_what_it_needs};
 ghost use Rattle.malloc_calls.specs.Resettling.{Resettles};
 ghost use Rattle.arena_holds.specs.Holding.{ResizesShort};
-ghost use Rattle.malloc_calls.specs.declared.reply.Reply.TheVariants.{NotYours, Null, Freed};
-ghost use Rattle.malloc_calls.specs.declared.reply.To.TheVariants.{Unmapped};
-ghost use Rattle.malloc_calls.specs.declared.reply.Why.TheVariants.{Big, Refused};
+ghost use Rattle.own_blocks.specs.declared.reply.Reply.TheVariants.{NotYours, Null, Freed};
+ghost use Rattle.own_blocks.specs.declared.reply.To.TheVariants.{Unmapped};
+ghost use Rattle.own_blocks.specs.declared.reply.Why.TheVariants.{Big, Refused};
 ghost use Rattle.arena_holds.specs.Going.{Does};
 ghost use Rattle.arena_holds.specs.Places.{setting, IsServed, Carries, standing, both_of, in_cache};
-ghost use Rattle.malloc_calls.specs.Own.{in_own};
+ghost use Rattle.own_blocks.specs.Own.{in_own};
 
-use crate::free::free;
-use crate::opening::open_cache;
-use crate::own::Own;
-use crate::own_cache::OwnCache;
-use crate::releasing::release;
-use crate::reply::{Origin, Reply, Why};
-use crate::supplying::{origin, plain_supply};
 use address_space::{Kernel, Space};
 use arena_core::Who;
 use arena_holds::{HeldResize, Places, has_length, has_room, remap_mapped, unmap_mapped};
 use chunk_tags::{Addr, Block, NoMemory, Size, Tunables, request_size};
+use own_blocks::free::free;
+use own_blocks::{Origin, Own, OwnCache, Reply, Why, open_cache, origin, plain_supply, release};
 use realloc_align::Resized;
 use std::alloc::Global;
 
@@ -360,7 +355,7 @@ fn realloc_block<P: Places, K: Kernel>(
 }
 
 /// realloc of a name's block to a size that is neither 0 nor too big.
-#[tactic(auto, using(crate::proofs::Tables::at_same, crate::proofs::Tables::at_other, crate::proofs::Tables::place_left, crate::proofs::Tables::without_none))]
+#[tactic(auto, using(block_names::proofs::Tables::at_same, block_names::proofs::Tables::at_other, block_names::proofs::Tables::place_left, block_names::proofs::Tables::without_none))]
 fn realloc_name<P: Places, K: Kernel>(
     own: &mut Own,
     alloc: Global,

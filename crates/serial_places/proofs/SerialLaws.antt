@@ -23,7 +23,7 @@ use Rattle.arena_choice.specs.Choices.{attached_book, choice_of}
 use Rattle.arena_choice.specs.declared.choice.Choice.{Choice}
 use Rattle.consolidate_trim.proofs.HoldSteps.{block_is, block_other}
 use Rattle.arena_holds.specs.BookChanges.{BookChange, Chooses, book_after}
-use Rattle.arena_holds.specs.Blocks.{IsHeld}
+use Rattle.block_names.specs.Blocks.{IsHeld}
 use Rattle.arena_holds.specs.Places.{KeptArena, Hands, both_of, as_chunk_of, as_mapped, as_mapped_bytes, Covers}
 use Rattle.arena_holds.specs.Returning.{IsUnlocked, AreReturned, IsUnseen, IsBooked, IsChosen, IsNew, IsAdded, IsPosted, IsTaken, maps_in, unmaps_in}
 use Rattle.serial_places.specs.Joined.{joined_fast}

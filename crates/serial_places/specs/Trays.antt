@@ -2,7 +2,7 @@
 -- 3 taken; 1 is claimed, which nobody finds in one order of calls.
 use Rattle.std.specs.Prelude.{ℕ, ◌+◌, List, [], ◌∷◌, Option, Some, None, Result, Ok, Err, replicate, slice_index_or, slice_set, sum_by}
 use Rattle.chunk_tags.specs.declared.block.Block.{Block}
-use Rattle.arena_holds.specs.Blocks.{IsHeld}
+use Rattle.block_names.specs.Blocks.{IsHeld}
 use Rattle.arena_holds.specs.Places.{Hands}
 use Rattle.serial_places.specs.declared.tray.Tray.{Tray}
 use Rattle.serial_places.specs.declared.tray.Tray.TheVariants.{Empty, Full, Taken}

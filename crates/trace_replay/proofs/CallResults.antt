@@ -2,7 +2,7 @@
 use Rattle.std.proofs.Common.{◌≡◌, ℕ, zero, suc, ◌-◌, ◌*◌, Bool, true, false, cond, List, [], ◌∷◌, Option, Some, None, refl, sym, ap, ◌∙◌, subst}
 use Rattle.std.specs.Prelude.{nat_le, nat_eq, is_some}
 use Rattle.std.proofs.lemmas.Bool.{eq-eqb}
-use Rattle.malloc_calls.proofs.Tables.{at_same, at_other, place_of, without_none}
+use Rattle.block_names.proofs.Tables.{at_same, at_other, place_of, without_none}
 use Rattle.chunk_tags.specs.Sizes.{padded_request}
 use Rattle.chunk_tags.specs.declared.block.Block.{Block}
 use Rattle.chunk_tags.specs.declared.tunables.Tunables.{Tunables}
@@ -19,26 +19,26 @@ use Rattle.arena_core.specs.declared.journal.Ended.TheVariants as ends
 use Rattle.arena_choice.specs.Books.{BookValue}
 use Rattle.arena_choice.specs.declared.choice.Choice.{Choice}
 use Rattle.arena_choice.specs.declared.choice.Choice.TheVariants.{Attached, Free, New, Reuse}
-use Rattle.malloc_calls.specs.declared.own.Own.{Own}
-use Rattle.malloc_calls.specs.declared.reply.Reply.{Reply}
-use Rattle.malloc_calls.specs.declared.reply.Reply.TheVariants.{Got, Kept, Null, Freed}
-use Rattle.malloc_calls.specs.declared.reply.Origin.{Origin}
-use Rattle.malloc_calls.specs.declared.reply.Origin.TheVariants as origins
-use Rattle.malloc_calls.specs.declared.reply.To.{To}
-use Rattle.malloc_calls.specs.declared.reply.To.TheVariants as sinks
-use Rattle.malloc_calls.specs.declared.reply.Why.{Why}
-use Rattle.malloc_calls.specs.declared.supplying.Supply.{Supply}
-use Rattle.malloc_calls.specs.Names.{NameTable, block_at, with_block, without_block}
+use Rattle.own_blocks.specs.declared.own.Own.{Own}
+use Rattle.own_blocks.specs.declared.reply.Reply.{Reply}
+use Rattle.own_blocks.specs.declared.reply.Reply.TheVariants.{Got, Kept, Null, Freed}
+use Rattle.own_blocks.specs.declared.reply.Origin.{Origin}
+use Rattle.own_blocks.specs.declared.reply.Origin.TheVariants as origins
+use Rattle.own_blocks.specs.declared.reply.To.{To}
+use Rattle.own_blocks.specs.declared.reply.To.TheVariants as sinks
+use Rattle.own_blocks.specs.declared.reply.Why.{Why}
+use Rattle.own_blocks.specs.declared.supplying.Supply.{Supply}
+use Rattle.block_names.specs.Names.{NameTable, block_at, with_block, without_block}
 use Rattle.arena_holds.specs.Calls.{Call, Done, Holds, HoldsFree, Opens, Books, Maps, Pushes, Frees, Unmaps, Remaps, Posts, Takes, then_call}
 use Rattle.arena_holds.specs.Holding.{resized_to}
 use Rattle.arena_holds.specs.Searching.{Chosen, search, search_by_choice, choose_and_search, or_in_mapping, search_again, tried_again}
 use Rattle.arena_choice.specs.Choices.{choice_of}
-use Rattle.malloc_calls.specs.Calls.{structure_bytes, opening, Supplied, plain_supply, fresh_supply, from_arena, from_cache, names_with, answer_with, named, past_cache, releasing, with_cache, cache_with_structure, supplied_by}
-use Rattle.malloc_calls.specs.Own.{newest_of_size}
+use Rattle.own_blocks.specs.Calls.{structure_bytes, opening, Supplied, plain_supply, fresh_supply, from_arena, from_cache, names_with, answer_with, named, past_cache, releasing, with_cache, cache_with_structure, supplied_by}
+use Rattle.own_blocks.specs.Own.{newest_of_size}
 use Rattle.malloc_calls.specs.Mallocs.{padded_malloc, malloc_call, padded_calloc, calloc_call, is_memalign, aligned_malloc, padded_memalign, posix_memalign_call}
-use Rattle.malloc_calls.specs.Frees.{without_name, free_to, free_of_block, free_of_name, free_call}
+use Rattle.own_blocks.specs.Frees.{without_name, free_to, free_of_block, free_of_name, free_call}
 use Rattle.malloc_calls.specs.Reallocs.{Resettled, kept_block, got_block, moved_from_arena, moved_from_mapping, after_resize, resize_in_arena, realloc_in_arena, not_remapped, after_remap, realloc_in_mapping, realloc_in, settled, padded_realloc, realloc_of_block, realloc_of_name, realloc_call}
-use Rattle.malloc_calls.specs.Exits.{released_past_cache, released_in_turn, cache_in_turn, exit_call}
+use Rattle.own_blocks.specs.Exits.{released_past_cache, released_in_turn, cache_in_turn, exit_call}
 use Rattle.chunk_tags.specs.Sizes.{structure_size}
 use Rattle.trace_replay.specs.Naming.{EmptiesName}
 

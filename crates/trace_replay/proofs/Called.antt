@@ -4,9 +4,9 @@ use Rattle.std.specs.Prelude.{IfOk}
 use Rattle.chunk_tags.specs.declared.refusals.NoMemory.{NoMemory}
 use Rattle.chunk_tags.specs.declared.tunables.Tunables.{Tunables}
 use Rattle.address_space.specs.Ports.{Port}
-use Rattle.malloc_calls.specs.declared.reply.Reply.{Reply}
+use Rattle.own_blocks.specs.declared.reply.Reply.{Reply}
 use Rattle.malloc_calls.specs.declared.thread.Thread.{Thread}
-use Rattle.malloc_calls.specs.Own.{own_of, names_of, number_of}
+use Rattle.malloc_calls.specs.Threads.{own_of, names_of, number_of}
 use Rattle.serial_places.specs.SerialWays.{SerialState}
 use Rattle.trace_text.specs.declared.trace.Call.{Call}
 use Rattle.trace_text.specs.declared.trace.Line.{Line}

@@ -12,9 +12,10 @@ use Rattle.address_space.specs.Spaces.{new_space, space_tells}
 use Rattle.arena_rules.specs.Rules.{windows_of}
 use Rattle.mapped_chunks.specs.declared.plain.DialState.{DialState}
 use Rattle.malloc_calls.specs.declared.thread.Thread.{Thread}
-use Rattle.malloc_calls.specs.Names.{block_at}
-use Rattle.malloc_calls.proofs.Tables.{none_at, none_weigh, table_none}
-use Rattle.malloc_calls.specs.Own.{new_thread, own_of, in_own}
+use Rattle.block_names.specs.Names.{block_at}
+use Rattle.block_names.proofs.Tables.{none_at, none_weigh, table_none}
+use Rattle.own_blocks.specs.Own.{in_own}
+use Rattle.malloc_calls.specs.Threads.{new_thread, own_of}
 use Rattle.arena_holds.specs.Places.{as_mapped_byte, weight_of}
 use Rattle.serial_places.specs.SerialWays.{SerialState, IsFirst, first_slots}
 use Rattle.serial_places.specs.SerialPlaces.{serial_laws}

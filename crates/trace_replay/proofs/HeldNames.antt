@@ -8,16 +8,16 @@ use Rattle.chunk_tags.specs.Pages.{user_address}
 use Rattle.chunk_tags.specs.Sizes.{chunk_size_of}
 use Rattle.chunk_tags.specs.declared.block.Block.{Block}
 use Rattle.arena_core.specs.Arenas.{need_of}
-use Rattle.malloc_calls.specs.Names.{NameTable, has_place, block_at, with_place}
-use Rattle.malloc_calls.proofs.Tables.{at_placed, place_made}
-use Rattle.malloc_calls.specs.Calls.{FitsName}
+use Rattle.block_names.specs.Names.{NameTable, has_place, block_at, with_place}
+use Rattle.block_names.proofs.Tables.{at_placed, place_made}
+use Rattle.own_blocks.specs.Calls.{FitsName}
 use Rattle.malloc_calls.specs.Mallocs.{IsAlignedName}
 use Rattle.malloc_calls.specs.Reallocs.{IfAnswered}
-use Rattle.malloc_calls.specs.Own.{names_of, own_of}
+use Rattle.malloc_calls.specs.Threads.{names_of, own_of}
 use Rattle.malloc_calls.specs.declared.thread.Thread.{Thread}
-use Rattle.malloc_calls.specs.declared.reply.Reply.{Reply}
-use Rattle.malloc_calls.specs.declared.reply.Reply.TheVariants.{Got, Kept, Null, Freed, NotYours, Posted, Taken, Missed, Ended}
-use Rattle.malloc_calls.specs.declared.reply.Why.{Why}
+use Rattle.own_blocks.specs.declared.reply.Reply.{Reply}
+use Rattle.own_blocks.specs.declared.reply.Reply.TheVariants.{Got, Kept, Null, Freed, NotYours, Posted, Taken, Missed, Ended}
+use Rattle.own_blocks.specs.declared.reply.Why.{Why}
 use Rattle.serial_places.specs.Trays.{tray_at}
 use Rattle.serial_places.specs.declared.tray.Tray.{Tray}
 use Rattle.serial_places.specs.declared.tray.Tray.TheVariants.{Empty, Full}

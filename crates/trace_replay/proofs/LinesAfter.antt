@@ -6,8 +6,8 @@ use Rattle.std.proofs.lemmas.Bool.Decides.{nat_tests}
 use Rattle.std.proofs.lemmas.List.{take_more}
 use Rattle.std.proofs.lemmas.List.Sums.{fold-append}
 use Rattle.std.proofs.lemmas.Option.{slice_get_within}
-use Rattle.malloc_calls.specs.Names.{block_at}
-use Rattle.malloc_calls.specs.declared.reply.Reply.{Reply}
+use Rattle.block_names.specs.Names.{block_at}
+use Rattle.own_blocks.specs.declared.reply.Reply.{Reply}
 use Rattle.trace_text.specs.declared.trace.Call.{Call}
 use Rattle.trace_text.specs.declared.trace.Call.TheVariants.{Malloc, Calloc, Align, Post, Take}
 use Rattle.trace_text.specs.declared.trace.Line.{Line}

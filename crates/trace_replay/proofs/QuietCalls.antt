@@ -4,10 +4,11 @@ use Rattle.std.specs.Prelude.{is_ok, IfOk}
 use Rattle.chunk_tags.specs.declared.refusals.NoMemory.{NoMemory}
 use Rattle.chunk_tags.specs.declared.tunables.Tunables.{Tunables}
 use Rattle.address_space.specs.Ports.{Port}
-use Rattle.malloc_calls.specs.declared.own.Own.{Own}
-use Rattle.malloc_calls.specs.declared.reply.Reply.{Reply}
+use Rattle.own_blocks.specs.declared.own.Own.{Own}
+use Rattle.own_blocks.specs.declared.reply.Reply.{Reply}
 use Rattle.malloc_calls.specs.declared.thread.Thread.{Thread}
-use Rattle.malloc_calls.specs.Own.{own_of, space_of, number_of, who_of, in_own}
+use Rattle.own_blocks.specs.Own.{in_own}
+use Rattle.malloc_calls.specs.Threads.{own_of, space_of, number_of, who_of}
 use Rattle.arena_holds.specs.Calls.{Call}
 use Rattle.arena_holds.specs.Places.{standing, Carries}
 use Rattle.serial_places.specs.SerialWays.{SerialState, state_ways}

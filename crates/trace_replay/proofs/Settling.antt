@@ -8,8 +8,9 @@ use Rattle.chunk_tags.specs.declared.block.Block.{Block}
 use Rattle.chunk_tags.specs.declared.tunables.Tunables.{Tunables}
 use Rattle.address_space.specs.Spaces.{map_length}
 use Rattle.malloc_calls.specs.declared.thread.Thread.{Thread}
-use Rattle.malloc_calls.specs.Names.{IsTable}
-use Rattle.malloc_calls.specs.Own.{own_of, names_of, space_of, in_own}
+use Rattle.block_names.specs.Names.{IsTable}
+use Rattle.own_blocks.specs.Own.{in_own}
+use Rattle.malloc_calls.specs.Threads.{own_of, names_of, space_of}
 use Rattle.arena_holds.specs.Places.{Hands, both_of, as_mapped_byte, given_byte}
 use Rattle.serial_places.specs.SerialWays.{SerialState, Serves, Notes}
 use Rattle.serial_places.specs.SerialPlaces.{serial_laws}

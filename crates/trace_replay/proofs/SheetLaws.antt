@@ -1,7 +1,7 @@
 -- What a sheet has goes with the replies that are noted.
 use Rattle.std.proofs.Common.{◌≡◌, ℕ, suc, ◌+◌, ◌^◌, ◌<◌, ◌≤◌, Bool, true, false, List, [], ◌∷◌, ◌++◌, length, refl, sym, ap, ◌∙◌, append_assoc, append-nil, arith}
 use Rattle.std.specs.Prelude.{codes}
-use Rattle.malloc_calls.specs.declared.reply.Reply.{Reply}
+use Rattle.own_blocks.specs.declared.reply.Reply.{Reply}
 use Rattle.stats_text.specs.declared.records.Outcome.{Outcome}
 use Rattle.stats_text.specs.declared.summary.Counts.{Counts}
 use Rattle.stats_text.specs.Records.{record_text}

@@ -14,9 +14,9 @@ use Rattle.arena_ground.specs.Grounds.{GroundView}
 use Rattle.arena_holds.specs.Places.{KeptArena}
 use Rattle.arena_rules.specs.PlainArena.{Plain}
 use Rattle.fast_bins.specs.PlainBins.{RoomyBin}
-use Rattle.malloc_calls.specs.declared.own.Own.{Own}
+use Rattle.own_blocks.specs.declared.own.Own.{Own}
 use Rattle.malloc_calls.specs.declared.thread.Thread.{Thread}
-use Rattle.malloc_calls.specs.Own.{own_of, space_of}
+use Rattle.malloc_calls.specs.Threads.{own_of, space_of}
 use Rattle.mapped_chunks.specs.declared.plain.DialState.{DialState}
 use Rattle.serial_places.specs.SerialWays.{SerialState, KeptSlot, IsSerial, EndsAs, slot_in, those_in, seen_slots, kept_ground, fast_lists}
 use Rattle.serial_places.specs.Trays.{full_trays}

@@ -9,11 +9,11 @@ use Rattle.std.proofs.lemmas.Option.{slice_get-get_or, slice_get-map, slice_get_
 use Rattle.chunk_tags.specs.declared.tunables.Tunables.{Tunables}
 use Rattle.address_space.specs.Ports.{Port}
 use Rattle.arena_core.specs.declared.journal.Who.{Who}
-use Rattle.malloc_calls.specs.declared.reply.Reply.{Reply}
+use Rattle.own_blocks.specs.declared.reply.Reply.{Reply}
 use Rattle.malloc_calls.specs.declared.thread.Thread.{Thread}
-use Rattle.malloc_calls.specs.Own.{own_of, space_of, number_of, who_of}
-use Rattle.malloc_calls.specs.Names.{IsTable}
-use Rattle.malloc_calls.specs.Own.{names_of}
+use Rattle.malloc_calls.specs.Threads.{own_of, space_of, number_of, who_of}
+use Rattle.block_names.specs.Names.{IsTable}
+use Rattle.malloc_calls.specs.Threads.{names_of}
 use Rattle.arena_holds.specs.Going.{Does}
 use Rattle.arena_holds.specs.Places.{standing}
 use Rattle.serial_places.specs.SerialWays.{SerialState, serial_setting, world_at}

@@ -18,10 +18,11 @@ use Rattle.arena_rules.proofs.Counts.{at_most_once}
 use Rattle.arena_rules.proofs.Own.{own_tile}
 use Rattle.fast_bins.specs.PlainBins.{RoomyBin}
 use Rattle.malloc_calls.specs.declared.thread.Thread.{Thread}
-use Rattle.malloc_calls.specs.Names.{NameTable, block_at}
-use Rattle.malloc_calls.proofs.Tables.{held_weighs}
-use Rattle.malloc_calls.specs.Own.{own_of, names_of, space_of, in_names, in_own}
-use Rattle.arena_holds.specs.Blocks.{IsHeld}
+use Rattle.block_names.specs.Names.{NameTable, block_at}
+use Rattle.block_names.proofs.Tables.{held_weighs}
+use Rattle.own_blocks.specs.Own.{in_names, in_own}
+use Rattle.malloc_calls.specs.Threads.{own_of, names_of, space_of}
+use Rattle.block_names.specs.Blocks.{IsHeld}
 use Rattle.arena_holds.specs.Places.{weight_of, as_chunk_of, as_mapped, as_mapped_bytes, as_mapped_byte, given_byte}
 use Rattle.serial_places.specs.SerialPlaces.{chunk_in, own_chunk}
 use Rattle.serial_places.specs.SerialWays.{SerialState, KeptSlot, IsSerial, IsKept, slot_in, those_in, seen_slot, seen_slots, stock_in, used_in}

@@ -3,12 +3,12 @@ use Rattle.std.proofs.Common.{◌≡◌, ℕ, zero, suc, ◌+◌, ◌<◌, true,
 use Rattle.std.proofs.lemmas.List.{get_or-set_same, get_or-set_other, length-set}
 use Rattle.std.proofs.lemmas.List.Sums.{sum_by-set}
 use Rattle.chunk_tags.specs.declared.block.Block.{Block}
-use Rattle.malloc_calls.specs.declared.own.Own.{Own}
-use Rattle.malloc_calls.specs.declared.reply.Reply.{Reply}
-use Rattle.malloc_calls.specs.declared.reply.Reply.TheVariants.{Posted, Taken}
-use Rattle.malloc_calls.specs.Names.{NameTable, has_place, block_at, with_at, with_block, without_block}
-use Rattle.malloc_calls.proofs.Tables.{at_same, at_other, place_of, set_weighs}
-use Rattle.malloc_calls.specs.Own.{in_names, in_own}
+use Rattle.own_blocks.specs.declared.own.Own.{Own}
+use Rattle.own_blocks.specs.declared.reply.Reply.{Reply}
+use Rattle.own_blocks.specs.declared.reply.Reply.TheVariants.{Posted, Taken}
+use Rattle.block_names.specs.Names.{NameTable, has_place, block_at, with_at, with_block, without_block}
+use Rattle.block_names.proofs.Tables.{at_same, at_other, place_of, set_weighs}
+use Rattle.own_blocks.specs.Own.{in_names, in_own}
 use Rattle.malloc_calls.specs.Trays.{post_call, post_of_name, post_end, take_call, take_end}
 use Rattle.arena_holds.specs.Places.{weight_of}
 use Rattle.serial_places.specs.Trays.{tray_at, in_tray, in_trays, posted_tray, taken_tray, seen_by_post, found_by_take}

@@ -3,12 +3,12 @@
 use Rattle.std.specs.Prelude.{◌≡◌, ℕ, ◌≤◌, Bool, false, List, Option, Some, None, slice_get, slice_set}
 use Rattle.chunk_tags.specs.Sizes.{chunk_size_of}
 use Rattle.chunk_tags.specs.declared.block.Block.{Block}
-use Rattle.malloc_calls.specs.Names.{NameTable, block_at}
-use Rattle.malloc_calls.specs.Calls.{FitsName}
+use Rattle.block_names.specs.Names.{NameTable, block_at}
+use Rattle.own_blocks.specs.Calls.{FitsName}
 use Rattle.malloc_calls.specs.Reallocs.{IfAnswered}
-use Rattle.malloc_calls.specs.declared.reply.Reply.{Reply}
-use Rattle.malloc_calls.specs.declared.reply.Reply.TheVariants.{Null, Posted, Taken}
-use Rattle.malloc_calls.specs.declared.reply.Why.{Why}
+use Rattle.own_blocks.specs.declared.reply.Reply.{Reply}
+use Rattle.own_blocks.specs.declared.reply.Reply.TheVariants.{Null, Posted, Taken}
+use Rattle.own_blocks.specs.declared.reply.Why.{Why}
 use Rattle.serial_places.specs.Trays.{tray_at}
 use Rattle.serial_places.specs.declared.tray.Tray.{Tray}
 use Rattle.serial_places.specs.declared.tray.Tray.TheVariants.{Empty, Full}

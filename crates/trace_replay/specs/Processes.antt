@@ -5,11 +5,12 @@ use Rattle.chunk_tags.specs.declared.tunables.Tunables.{Tunables}
 use Rattle.address_space.specs.Ports.{Port}
 use Rattle.address_space.specs.Spaces.{space_tells, map_length, new_space}
 use Rattle.arena_rules.specs.Rules.{windows_of}
-use Rattle.malloc_calls.specs.declared.own.Own.{Own}
-use Rattle.malloc_calls.specs.declared.reply.Reply.{Reply}
+use Rattle.own_blocks.specs.declared.own.Own.{Own}
+use Rattle.own_blocks.specs.declared.reply.Reply.{Reply}
 use Rattle.malloc_calls.specs.declared.thread.Thread.{Thread}
-use Rattle.malloc_calls.specs.Names.{IsTable}
-use Rattle.malloc_calls.specs.Own.{new_thread, own_of, names_of, space_of, number_of, who_of, in_own, IsSpaceOf}
+use Rattle.block_names.specs.Names.{IsTable}
+use Rattle.own_blocks.specs.Own.{in_own}
+use Rattle.malloc_calls.specs.Threads.{new_thread, own_of, names_of, space_of, number_of, who_of, IsSpaceOf}
 use Rattle.arena_holds.specs.Calls.{Call}
 use Rattle.arena_holds.specs.Going.{Does}
 use Rattle.arena_holds.specs.Places.{Hands, both_of, as_mapped_byte, given_byte, IsServed, standing}

@@ -1,14 +1,14 @@
 -- What a reply is in a report (this project's own).
 use Rattle.std.specs.Prelude.{ℕ, Bool, true, false, List, map, Option, Some, None, if◌then◌else◌}
 use Rattle.std.specs.List.{flat_map}
-use Rattle.malloc_calls.specs.declared.reply.Reply.{Reply}
-use Rattle.malloc_calls.specs.declared.reply.Reply.TheVariants.{Got, Kept, Null, Freed, NotYours, Posted, Taken, Missed, Ended}
-use Rattle.malloc_calls.specs.declared.reply.Origin.{Origin}
-use Rattle.malloc_calls.specs.declared.reply.Origin.TheVariants as origins
-use Rattle.malloc_calls.specs.declared.reply.To.{To}
-use Rattle.malloc_calls.specs.declared.reply.To.TheVariants as tos
-use Rattle.malloc_calls.specs.declared.reply.Why.{Why}
-use Rattle.malloc_calls.specs.declared.reply.Why.TheVariants as whys
+use Rattle.own_blocks.specs.declared.reply.Reply.{Reply}
+use Rattle.own_blocks.specs.declared.reply.Reply.TheVariants.{Got, Kept, Null, Freed, NotYours, Posted, Taken, Missed, Ended}
+use Rattle.own_blocks.specs.declared.reply.Origin.{Origin}
+use Rattle.own_blocks.specs.declared.reply.Origin.TheVariants as origins
+use Rattle.own_blocks.specs.declared.reply.To.{To}
+use Rattle.own_blocks.specs.declared.reply.To.TheVariants as tos
+use Rattle.own_blocks.specs.declared.reply.Why.{Why}
+use Rattle.own_blocks.specs.declared.reply.Why.TheVariants as whys
 use Rattle.stats_text.specs.declared.records.Outcome.{Outcome}
 use Rattle.stats_text.specs.declared.records.Outcome.TheVariants as outcomes
 use Rattle.stats_text.specs.declared.records.Source3.{Source3}

@@ -2,7 +2,7 @@
 use Rattle.std.specs.Prelude.{List, [], ◌∷◌, Option, Some, None, Result, Ok, Err}
 use Rattle.chunk_tags.specs.declared.tunables.Tunables.{Tunables}
 use Rattle.address_space.specs.Ports.{Port}
-use Rattle.malloc_calls.specs.declared.reply.Reply.{Reply}
+use Rattle.own_blocks.specs.declared.reply.Reply.{Reply}
 use Rattle.trace_text.specs.declared.trace.Line.{Line}
 use Rattle.trace_replay.specs.declared.exit.Exit.{Exit}
 use Rattle.trace_replay.specs.declared.exit.Exit.TheVariants.{Done}

@@ -1,7 +1,7 @@
 -- What is written of a run, line by line: the records of a report, or the counts of a summary (this project's own). No
 -- public clause cites this file.
 use Rattle.std.specs.Prelude.{◌≡◌, ℕ, ◌+◌, ◌^◌, ◌<◌, Bool, true, false, List, [], ◌∷◌, ◌++◌, length, codes, Result, Ok}
-use Rattle.malloc_calls.specs.declared.reply.Reply.{Reply}
+use Rattle.own_blocks.specs.declared.reply.Reply.{Reply}
 use Rattle.stats_text.specs.declared.summary.Counts.{Counts}
 use Rattle.stats_text.specs.Summary.{HasRoom, counts_of, summary_of}
 use Rattle.stats_text.specs.Views.{Shown}

@@ -8,9 +8,9 @@ use Rattle.chunk_tags.specs.declared.block.Block.{Block}
 use Rattle.chunk_tags.specs.declared.tunables.Tunables.{Tunables}
 use Rattle.address_space.specs.Ports.{Port}
 use Rattle.arena_core.specs.Arenas.{need_of}
-use Rattle.malloc_calls.specs.declared.reply.Reply.{Reply}
-use Rattle.malloc_calls.specs.declared.reply.Reply.TheVariants.{Null, Posted, Taken}
-use Rattle.malloc_calls.specs.Names.{block_at}
+use Rattle.own_blocks.specs.declared.reply.Reply.{Reply}
+use Rattle.own_blocks.specs.declared.reply.Reply.TheVariants.{Null, Posted, Taken}
+use Rattle.block_names.specs.Names.{block_at}
 use Rattle.arena_holds.specs.Places.{as_mapped, as_mapped_bytes, as_mapped_byte, given_byte}
 use Rattle.serial_places.specs.Trays.{tray_at}
 use Rattle.serial_places.specs.declared.tray.Tray.TheVariants.{Full}

@@ -11,15 +11,15 @@ use Rattle.mapped_chunks.specs.declared.plain.DialState.{DialState}
 use Rattle.arena_rules.specs.Rules.{windows_of}
 use Rattle.arena_core.specs.declared.journal.Who.{Who}
 use Rattle.arena_choice.specs.Books.{BookValue, first_book}
-use Rattle.malloc_calls.specs.declared.own.Own.{Own}
-use Rattle.malloc_calls.specs.declared.reply.Reply.{Reply}
-use Rattle.malloc_calls.specs.Names.{with_place}
-use Rattle.malloc_calls.specs.Own.{new_own}
+use Rattle.own_blocks.specs.declared.own.Own.{Own}
+use Rattle.own_blocks.specs.declared.reply.Reply.{Reply}
+use Rattle.block_names.specs.Names.{with_place}
+use Rattle.own_blocks.specs.Own.{new_own}
 use Rattle.arena_holds.specs.Calls.{Call}
 use Rattle.malloc_calls.specs.Mallocs.{malloc_call, calloc_call, posix_memalign_call}
 use Rattle.malloc_calls.specs.Reallocs.{realloc_call}
-use Rattle.malloc_calls.specs.Frees.{free_call}
-use Rattle.malloc_calls.specs.Exits.{exit_call}
+use Rattle.own_blocks.specs.Frees.{free_call}
+use Rattle.own_blocks.specs.Exits.{exit_call}
 use Rattle.malloc_calls.specs.Trays.{post_call, take_call}
 use Rattle.serial_places.specs.SerialWays.{SerialWorld, WorldSlot, first_slots, first_words, played_call}
 use Rattle.serial_places.specs.Trays.{empty_trays}

@@ -2,8 +2,8 @@
 
 ghost use Rattle.std.specs.Prelude.{◌≡◌, ◌≤◌, ◌*◌, ℕ, None, IfOk, length};
 ghost use Rattle.chunk_tags.specs.Tunables.{IsTuned};
-ghost use Rattle.malloc_calls.specs.Names.{block_at, IsTable};
-ghost use Rattle.malloc_calls.specs.Own.{names_of, number_of, own_of, who_of};
+ghost use Rattle.block_names.specs.Names.{block_at, IsTable};
+ghost use Rattle.malloc_calls.specs.Threads.{names_of, number_of, own_of, who_of};
 ghost use Rattle.serial_places.specs.Trays.{tray_at};
 ghost use Rattle.serial_places.specs.declared.tray.Tray.TheVariants.{Empty};
 ghost use Rattle.trace_text.specs.declared.trace.Call.TheVariants.{Malloc, Calloc, Realloc, Align, Free, Post, Take, Exit};

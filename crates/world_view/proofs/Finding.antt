@@ -20,11 +20,11 @@ use Rattle.fast_bins.specs.PlainBins.{FastState, FastBin, listed, chunks_from}
 use Rattle.arena_rules.specs.PlainArena.{Plain, is_chunk, times_listed, times_tiled, times_used}
 use Rattle.arena_rules.proofs.Counts.{weight}
 use Rattle.arena_holds.specs.Places.{weight_of, as_chunk_of}
-use Rattle.malloc_calls.specs.declared.own.Own.{Own}
-use Rattle.malloc_calls.specs.Names.{NameTable}
-use Rattle.malloc_calls.proofs.Tables.{in_both_parts}
+use Rattle.own_blocks.specs.declared.own.Own.{Own}
+use Rattle.block_names.specs.Names.{NameTable}
+use Rattle.block_names.proofs.Tables.{in_both_parts}
 use Rattle.std.specs.Map.{values_of}
-use Rattle.malloc_calls.specs.Own.{in_names, in_own}
+use Rattle.own_blocks.specs.Own.{in_names, in_own}
 use Rattle.stats_text.specs.declared.views.Place.{Place}
 use Rattle.stats_text.specs.declared.views.Place.TheVariants as places
 use Rattle.world_view.specs.declared.finds.Find.{Find}

@@ -10,13 +10,13 @@ use Rattle.chunk_tags.specs.declared.block.Block.{Block}
 use Rattle.chunk_tags.specs.declared.tiles.Tile.{Tile}
 use Rattle.thread_cache.specs.Caches.{structure_of, tiles_of}
 use Rattle.arena_holds.specs.Places.{weight_of, as_mapped_byte}
-use Rattle.malloc_calls.specs.declared.own.Own.{Own}
-use Rattle.malloc_calls.specs.Names.{NameTable, block_at, is_name}
-use Rattle.malloc_calls.proofs.Keyed.{name_is}
-use Rattle.malloc_calls.proofs.Tables.{in_both_parts, either_part}
+use Rattle.own_blocks.specs.declared.own.Own.{Own}
+use Rattle.block_names.specs.Names.{NameTable, block_at, is_name}
+use Rattle.block_names.proofs.Keyed.{name_is}
+use Rattle.block_names.proofs.Tables.{in_both_parts, either_part}
 use Rattle.std.specs.Map.{lookup, values_of}
 use Rattle.std.proofs.lemmas.Bool.{cases_Bool}
-use Rattle.malloc_calls.specs.Own.{in_names, in_own}
+use Rattle.own_blocks.specs.Own.{in_names, in_own}
 use Rattle.stats_text.specs.declared.views.Place.{Place}
 use Rattle.stats_text.specs.declared.views.Place.TheVariants as places
 use Rattle.stats_text.specs.declared.views.TileView.{TileView}

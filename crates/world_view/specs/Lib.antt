@@ -1,5 +1,6 @@
 pub use Rattle.stats_text.specs.Totals
-pub use Rattle.malloc_calls.specs.Own
+pub use Rattle.own_blocks.specs.Own
+pub use Rattle.malloc_calls.specs.Threads
 pub mod Places
 pub mod Scenes
 pub mod Rows

@@ -12,8 +12,8 @@ use Rattle.chunk_tags.specs.declared.tiles.TileKind.TheVariants as kinds
 use Rattle.thread_cache.specs.Caches.{tiles_of, structure_of}
 use Rattle.fast_bins.specs.PlainBins.{FastState, listed}
 use Rattle.arena_rules.specs.PlainArena.{Plain, bin_at}
-use Rattle.malloc_calls.specs.declared.own.Own.{Own}
-use Rattle.malloc_calls.specs.Names.{NameTable}
+use Rattle.own_blocks.specs.declared.own.Own.{Own}
+use Rattle.block_names.specs.Names.{NameTable}
 use Rattle.stats_text.specs.declared.views.Place.{Place}
 use Rattle.stats_text.specs.declared.views.Place.TheVariants as places
 use Rattle.stats_text.specs.declared.views.TileView.{TileView}

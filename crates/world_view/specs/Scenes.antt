@@ -7,7 +7,7 @@ use Rattle.fast_bins.specs.PlainBins.{FastState}
 use Rattle.mapped_chunks.specs.declared.plain.DialState as words
 use Rattle.arena_rules.specs.PlainArena.{Plain}
 use Rattle.arena_choice.specs.Books.{BookValue, arena_of}
-use Rattle.malloc_calls.specs.declared.own.Own.{Own}
+use Rattle.own_blocks.specs.declared.own.Own.{Own}
 use Rattle.stats_text.specs.declared.views.TileView.{TileView}
 use Rattle.stats_text.specs.declared.views.DialState.{DialState}
 use Rattle.stats_text.specs.Views.{Arena, CacheList, Shown}

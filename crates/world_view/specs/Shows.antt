@@ -12,9 +12,9 @@ use Rattle.arena_rules.specs.MainPlaces.{IsPlaced, times_covered}
 use Rattle.arena_rules.specs.Heaps.{header_bytes, last_heap}
 use Rattle.arena_rules.specs.HeapPlaces.{IsHeapPlaced}
 use Rattle.arena_holds.specs.Places.{Hands, as_chunk_of, as_mapped_byte}
-use Rattle.malloc_calls.specs.declared.own.Own.{Own}
-use Rattle.malloc_calls.specs.Names.{block_at}
-use Rattle.malloc_calls.specs.Own.{in_own}
+use Rattle.own_blocks.specs.declared.own.Own.{Own}
+use Rattle.block_names.specs.Names.{block_at}
+use Rattle.own_blocks.specs.Own.{in_own}
 use Rattle.stats_text.specs.declared.views.Place.{Place}
 use Rattle.stats_text.specs.declared.views.Place.TheVariants.{Live, Structure, Tray}
 use Rattle.stats_text.specs.declared.views.TileView.{TileView}

@@ -2,7 +2,7 @@
 
 ghost use Rattle.std.specs.Prelude.{◌≡◌, ◌≤◌, ◌++◌, length, map, not, is_some, IfOk, OnOk};
 ghost use Rattle.thread_cache.specs.Caches.{tiles_of, structure_of};
-ghost use Rattle.malloc_calls.specs.Own.{own_of, names_of};
+ghost use Rattle.malloc_calls.specs.Threads.{own_of, names_of};
 ghost use Rattle.world_view.specs.Places.{tile_at, block_find, named_from, far_finds, cached_find, structure_finds, thread_finds, threads_finds, tray_find, finds_of};
 
 use address_space::Kernel;

@@ -2,7 +2,7 @@
 
 ghost use Rattle.std.specs.Prelude.{◌≡◌, ◌≤◌, ◌<◌, ◌+◌, ◌^◌, ◌++◌, List, length, map, fold, IfOk, OnOk};
 ghost use Rattle.arena_choice.specs.Books.{arena_of};
-ghost use Rattle.malloc_calls.specs.Own.{own_of};
+ghost use Rattle.malloc_calls.specs.Threads.{own_of};
 ghost use Rattle.stats_text.specs.Totals.{HasTotals};
 ghost use Rattle.world_view.specs.Places.{put_tile, by_address, mapped_finds};
 ghost use Rattle.world_view.specs.Scenes.{ArenaScene, AreArenas, cache_lists, caches_from, dials_of, shown_of};

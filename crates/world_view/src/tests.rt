@@ -3,7 +3,7 @@
 ghost use Rattle.std.specs.Prelude.{◌≡◌, ◌+◌, ◌%◌, ◌<◌, ◌≤◌, length, IfOk, vec_len};
 ghost use Rattle.std.specs.Option.{ForSome};
 ghost use Rattle.address_space.specs.Spaces.{map_limit};
-ghost use Rattle.arena_holds.specs.Blocks.{IsHeld};
+ghost use Rattle.block_names.specs.Blocks.{IsHeld};
 
 use super::*;
 use address_space::{Always, HEAPS_START, MAP_START, Space, Windows};

@@ -1,8 +1,8 @@
 use Rattle.std.proofs.Common.{◌*◌, sym, ◌∙◌, arith}
-use Rattle.malloc_calls.proofs.Calling.{carries_cache}
+use Rattle.own_blocks.proofs.Calling.{carries_cache}
 use Rattle.arena_holds.proofs.Carrying.{carries_err}
 use Rattle.arena_holds.proofs.Going.{does_here}
-use Rattle.malloc_calls.proofs.Supplies.{named_does, named_carries, padded_small, named_fits}
+use Rattle.malloc_calls.proofs.Namings.{named_does, named_carries, padded_small, named_fits}
 use Rattle.malloc_calls.proofs.malloc.calloc.Goals as goal
 
 pub returns-in_default-clause-does : goal.returns-in_default-clause-does

@@ -5,10 +5,10 @@ use Rattle.std.proofs.lemmas.Bool.{leb-true}
 use Rattle.std.proofs.lemmas.Bool.Decides.{nat_tests}
 use Rattle.std.specs.Prelude.{nat_le}
 use Rattle.arena_rules.specs.Align.{request_with_lead}
-use Rattle.malloc_calls.proofs.Calling.{carries_cache}
+use Rattle.own_blocks.proofs.Calling.{carries_cache}
 use Rattle.arena_holds.proofs.Carrying.{carries_err}
 use Rattle.arena_holds.proofs.Going.{does_here}
-use Rattle.malloc_calls.proofs.Supplies.{named_does, named_carries, is_alignment, padded_chunk, named_fits, named_is}
+use Rattle.malloc_calls.proofs.Namings.{named_does, named_carries, is_alignment, padded_chunk, named_fits, named_is}
 use Rattle.malloc_calls.proofs.malloc.posix_memalign.Goals as goal
 
 pub returns-in_default-clause-does : goal.returns-in_default-clause-does

@@ -1,7 +1,7 @@
 use Rattle.std.proofs.Common.{arith}
 use Rattle.arena_holds.specs.Places.{in_cache}
 use Rattle.malloc_calls.specs.Reallocs.{resize_in_arena}
-use Rattle.malloc_calls.proofs.Calling.{carries_hand}
+use Rattle.own_blocks.proofs.Calling.{carries_hand}
 use Rattle.arena_holds.proofs.Carrying.{served_after, served_fewer}
 use Rattle.malloc_calls.proofs.Resettlings.{settles_then, short_then, short_before}
 use Rattle.malloc_calls.proofs.realloc.realloc_in_arena.Goals as goal

@@ -1,9 +1,9 @@
 use Rattle.std.proofs.Common.{◌≡◌, true, Some, refl, sym, subst, arith}
-use Rattle.malloc_calls.specs.Names.{NameTable, has_place, block_at}
-use Rattle.malloc_calls.proofs.Tables.{place_left}
+use Rattle.block_names.specs.Names.{NameTable, has_place, block_at}
+use Rattle.block_names.proofs.Tables.{place_left}
 use Rattle.arena_holds.specs.Places.{both_of, in_cache}
 use Rattle.malloc_calls.specs.Reallocs.{realloc_in}
-use Rattle.malloc_calls.proofs.Calling.{own_unnamed, carries_renamed}
+use Rattle.own_blocks.proofs.Calling.{own_unnamed, carries_renamed}
 use Rattle.arena_holds.proofs.Carrying.{served_fewer}
 use Rattle.malloc_calls.proofs.Resettlings.{settled_does, holds_still, settled_fits}
 use Rattle.malloc_calls.proofs.realloc.realloc_name.Goals as goal

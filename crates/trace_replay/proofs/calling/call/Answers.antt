@@ -1,4 +1,4 @@
-use Rattle.malloc_calls.specs.Own.{names_of}
+use Rattle.malloc_calls.specs.Threads.{names_of}
 use Rattle.trace_text.specs.declared.trace.Call.TheVariants.{Malloc, Calloc, Realloc, Align, Free, Post, Take, Exit}
 use Rattle.trace_replay.proofs.Called.{called}
 use Rattle.trace_replay.proofs.HeldNames.{malloc_leaves, calloc_leaves, memalign_leaves, realloc_leaves, free_leaves, post_leaves, take_leaves, exit_leaves}

@@ -1,5 +1,5 @@
-use Rattle.malloc_calls.specs.Own.{own_of, number_of}
-use Rattle.malloc_calls.specs.Exits.{exit_call}
+use Rattle.malloc_calls.specs.Threads.{own_of, number_of}
+use Rattle.own_blocks.specs.Exits.{exit_call}
 use Rattle.trace_replay.proofs.CallResults.{quiet_exit}
 use Rattle.trace_replay.proofs.QuietCalls.{quiet_end}
 use Rattle.trace_replay.proofs.Results.{if_ok}

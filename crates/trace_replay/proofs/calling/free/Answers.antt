@@ -1,6 +1,6 @@
 use Rattle.trace_replay.proofs.Keeping.{served_there}
-use Rattle.malloc_calls.specs.Own.{own_of, names_of, number_of}
-use Rattle.malloc_calls.specs.Frees.{free_call}
+use Rattle.malloc_calls.specs.Threads.{own_of, names_of, number_of}
+use Rattle.own_blocks.specs.Frees.{free_call}
 use Rattle.trace_replay.proofs.CallResults.{Empties, free_empties}
 use Rattle.trace_replay.proofs.HeldNames.{empties_name}
 use Rattle.trace_replay.proofs.QuietCalls.{quiet_call}

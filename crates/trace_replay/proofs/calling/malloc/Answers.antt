@@ -1,5 +1,5 @@
 use Rattle.trace_replay.proofs.Keeping.{served_there}
-use Rattle.malloc_calls.specs.Own.{own_of, names_of, number_of}
+use Rattle.malloc_calls.specs.Threads.{own_of, names_of, number_of}
 use Rattle.malloc_calls.specs.Mallocs.{malloc_call}
 use Rattle.trace_replay.proofs.CallResults.{KeepsOthers, malloc_keeps}
 use Rattle.trace_replay.proofs.HeldNames.{makes_bytes, nothing_there, room_there}

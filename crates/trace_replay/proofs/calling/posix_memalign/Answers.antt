@@ -1,6 +1,6 @@
 use Rattle.trace_replay.proofs.Keeping.{served_there}
 use Rattle.std.proofs.Common.{◌<◌}
-use Rattle.malloc_calls.specs.Own.{own_of, names_of, number_of}
+use Rattle.malloc_calls.specs.Threads.{own_of, names_of, number_of}
 use Rattle.malloc_calls.specs.Mallocs.{posix_memalign_call, IsAlignedName}
 use Rattle.trace_replay.proofs.CallResults.{KeepsOthers, memalign_keeps}
 use Rattle.trace_replay.proofs.HeldNames.{makes_aligned, nothing_there, room_there}

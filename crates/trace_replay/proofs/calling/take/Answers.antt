@@ -1,5 +1,5 @@
 use Rattle.std.proofs.Common.{arith}
-use Rattle.malloc_calls.specs.Own.{own_of}
+use Rattle.malloc_calls.specs.Threads.{own_of}
 use Rattle.malloc_calls.specs.Trays.{take_call}
 use Rattle.trace_replay.proofs.HeldNames.{takes_name, nothing_there, room_there}
 use Rattle.trace_replay.proofs.Keeping.{keeps_unseen}

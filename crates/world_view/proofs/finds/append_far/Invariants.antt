@@ -1,5 +1,5 @@
 use Rattle.std.proofs.Common.{◌≡◌, ◌++◌}
-use Rattle.malloc_calls.specs.Own.{names_of}
+use Rattle.malloc_calls.specs.Threads.{names_of}
 use Rattle.world_view.specs.Places.{far_finds}
 use Rattle.world_view.proofs.finds.append_far.Given as goal
 

@@ -1,5 +1,5 @@
 use Rattle.std.proofs.Common.{◌≡◌, ◌++◌, drop}
-use Rattle.malloc_calls.specs.Own.{names_of}
+use Rattle.malloc_calls.specs.Threads.{names_of}
 use Rattle.world_view.specs.Places.{named_from}
 use Rattle.world_view.proofs.finds.append_row.Given as goal
 

@@ -1,5 +1,5 @@
 use Rattle.std.proofs.Common.{◌≡◌, ◌++◌, map, drop}
-use Rattle.malloc_calls.specs.Own.{own_of}
+use Rattle.malloc_calls.specs.Threads.{own_of}
 use Rattle.world_view.specs.Scenes.{caches_from}
 use Rattle.world_view.proofs.shown.cache_views.Given as goal
 

@@ -1,5 +1,5 @@
 use Rattle.std.proofs.Common.{◌≡◌, ℕ, List, map, Option, ap, ◌∙◌}
-use Rattle.malloc_calls.specs.Own.{own_of}
+use Rattle.malloc_calls.specs.Threads.{own_of}
 use Rattle.stats_text.specs.declared.views.TileView.{TileView}
 use Rattle.stats_text.specs.declared.views.DialState.{DialState}
 use Rattle.stats_text.specs.Views.{Arena, CacheList, Shown}

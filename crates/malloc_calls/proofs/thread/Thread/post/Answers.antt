@@ -1,7 +1,7 @@
-use Rattle.malloc_calls.specs.Own.{in_own}
-use Rattle.malloc_calls.proofs.Weights.{in_names-without}
+use Rattle.own_blocks.specs.Own.{in_own}
+use Rattle.own_blocks.proofs.Weights.{in_names-without}
 use Rattle.std.proofs.Common.{◌≡◌, Some, sym, arith}
-use Rattle.malloc_calls.specs.Names.{block_at}
+use Rattle.block_names.specs.Names.{block_at}
 use Rattle.arena_holds.proofs.Going.{does_here}
 use Rattle.malloc_calls.proofs.Handovers.{kept_names, post_does, post_unseen, full_does, full_unseen}
 use Rattle.malloc_calls.proofs.thread.Thread.post.Goals as goal

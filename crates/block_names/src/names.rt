@@ -1,0 +1,163 @@
+//! The blocks of a thread, by name.
+
+ghost use Rattle.std.specs.Prelude.{◌≡◌, ◌-◌, ◌^◌, ◌<◌, ◌≤◌, [], ◌++◌, length, replicate, IsTrue, false, None, Some, IsSome, IfSome, OnOk, OnErr, option_copied, slice_set, slice_index_or};
+ghost use Rattle.block_names.specs.Blocks.{IsHeld};
+ghost use Rattle.block_names.specs.Names.{IsTable, no_names, has_place, block_at, with_place, with_block, without_block};
+
+use chunk_tags::{Block, NoMemory};
+use std::alloc::Global;
+use std::collections::BTreeMap;
+use std::marker::Model;
+
+/// The names below this have their places in a row (this project's own).
+const NEAR_NAMES: u32 = 65536;
+
+/// The blocks of a thread, each under a name; a name is a number. Below 65,536 the table has a place for each up to the
+/// largest that was made ready, and of the others one for each that was (this project's own).
+#[derive(Debug, Drop)]
+pub struct Names {
+    near: Vec<Option<Block>>,
+    far: BTreeMap<u32, Option<Block>, Global>,
+}
+
+impl Model for Names {
+    ghost use Rattle.block_names.specs.Names.{NameTable, IsTable};
+
+    ghost Value = { NameTable };
+
+    ghost view = { λ n. record { near = n.near.items; far = n.far.entries } };
+
+    ghost invariant = { λ n. IsTable (record { near = n.near.items; far = n.far.entries }) };
+}
+
+/// Appends so many places without a block. After `NoMemory` nothing changed.
+fn append_empty(slots: &mut Vec<Option<Block>>, count: usize) -> Result<(), NoMemory>
+    ensures ok { OnOk result (slots.new.items ≡ slots.old.items ++ replicate count None) }
+    ensures err { OnErr result (slots.new.items ≡ slots.old.items) }
+{
+    slots.reserve(count)?;
+    for _n in 0..count {
+        slots.push(None).unwrap();
+    }
+    Ok(())
+}
+
+impl Names {
+    /// A table without a place.
+    #[tactic(auto, unfolding(crate::specs::Names::no_names, crate::specs::Names::block_at))]
+    pub fn new(alloc: Global) -> Names
+        ensures { result ≡ no_names }
+    {
+        Names {
+            near: Vec::new(alloc),
+            far: BTreeMap::new(alloc),
+        }
+    }
+
+    /// A law; the call does nothing. Each name that holds something holds a chunk.
+    pub fn laws(&self)
+        ensures { IsTable self.now }
+    {
+        let _ = &self.near;
+    }
+
+    /// Whether a name has a place.
+    #[tactic(auto, unfolding(crate::specs::Names::has_place))]
+    pub fn has_room(&self, name: u32) -> bool
+        ensures { result ≡ has_place self.now name }
+    {
+        if name < NEAR_NAMES {
+            (name as usize) < self.near.len()
+        } else {
+            self.far.contains_key(&name)
+        }
+    }
+
+    /// Makes a place for a name, a near one's with those of all names below it. After `NoMemory` nothing changed.
+    #[tactic(auto, unfolding(crate::specs::Names::has_place, crate::specs::Names::block_at, crate::specs::Names::with_place))]
+    pub fn ready(&mut self, name: u32) -> Result<(), NoMemory>
+        ensures ok { OnOk result (self.new ≡ with_place name self.old) }
+        ensures err { OnErr result (self.new ≡ self.old) }
+        ensures full { OnErr result (has_place self.old name ≡ false) }
+    {
+        if self.has_room(name) {
+            return Ok(());
+        }
+        if name < NEAR_NAMES {
+            let missing = name as usize + 1 - self.near.len();
+            append_empty(&mut self.near, missing)
+        } else {
+            self.far.insert(name, None)?;
+            Ok(())
+        }
+    }
+
+    /// The places of the names from 65,536 on, by name.
+    pub fn far(&self) -> &BTreeMap<u32, Option<Block>, Global>
+        ensures { result.now.entries ≡ self.now.far }
+    {
+        &self.far
+    }
+
+    /// How many names have their places in the row: those below this.
+    pub fn row(&self) -> u32
+        ensures { result ≡ length self.now.near }
+    {
+        self.near.len() as u32
+    }
+
+    /// The block of a name in the row.
+    pub fn in_row(&self, name: u32) -> Option<&Block>
+        ensures { option_copied result ≡ slice_index_or self.now.near name None }
+    {
+        self.near.get(name as usize)?.as_ref()
+    }
+
+    /// The block of a name. `None` exactly where the name holds nothing.
+    #[tactic(auto, unfolding(crate::specs::Names::block_at))]
+    pub fn get(&self, name: u32) -> Option<&Block>
+        ensures block { option_copied result ≡ block_at self.now name }
+        ensures held { IfSome result (λ b. IsHeld b.now) }
+    {
+        if name < NEAR_NAMES {
+            self.near.get(name as usize)?.as_ref()
+        } else {
+            self.far.get(&name)?.as_ref()
+        }
+    }
+
+    /// Gives a block a name that holds nothing.
+    #[tactic(auto, unfolding(crate::specs::Names::has_place, crate::specs::Names::block_at, crate::specs::Names::with_at))]
+    pub fn put(&mut self, name: u32, block: Block)
+        requires room { IsTrue (has_place self.old name) }
+        requires empty { block_at self.old name ≡ None }
+        requires held { IsHeld block }
+        ensures { self.new ≡ with_block name block self.old }
+    {
+        if name < NEAR_NAMES {
+            self.near[name as usize] = Some(block);
+        } else {
+            *self.far.get_mut(&name).unwrap() = Some(block);
+        }
+    }
+
+    /// The block of a name, which then holds nothing. `None` exactly where it held nothing.
+    #[tactic(auto, unfolding(crate::specs::Names::block_at, crate::specs::Names::with_at))]
+    pub fn take(&mut self, name: u32) -> Option<Block>
+        ensures block { result ≡ block_at self.old name }
+        ensures rest { self.new ≡ without_block name self.old }
+        ensures held { IfSome result IsHeld }
+    {
+        if name < NEAR_NAMES {
+            let place = name as usize;
+            if place < self.near.len() {
+                return self.near[place].take();
+            }
+            return None;
+        }
+        let Some(place) = self.far.get_mut(&name) else {
+            return None;
+        };
+        place.take()
+    }
+}

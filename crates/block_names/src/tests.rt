@@ -1,0 +1,63 @@
+ghost use Rattle.std.specs.Prelude.{◌≡◌};
+ghost use Rattle.chunk_tags.specs.Sizes.{IsChunkSize};
+ghost use Rattle.block_names.specs.Blocks.{IsHeld};
+
+use super::*;
+use chunk_tags::{Addr, Block, Size};
+use std::test::Fail;
+
+#[test]
+fn names_have_places(rt: HostRuntime) -> Result<(), Fail> {
+    let mut names = Names::new(rt.alloc());
+    assert!(rt; !names.has_room(0));
+    assert!(rt; names.get(0).is_none());
+    names.ready(2)?;
+    assert!(rt; names.has_room(1) && names.has_room(2));
+    assert!(rt; !names.has_room(3));
+    names.ready(1)?;
+    assert!(rt; !names.has_room(3));
+    assert!(rt; names.get(2).is_none());
+    assert!(rt; names.take(2).is_none());
+    Ok(())
+}
+
+/// A chunk of main in somebody's hand.
+fn chunk(addr: u64, size: u64) -> Block
+    requires { IsChunkSize size }
+    ensures held { IsHeld result }
+{
+    Block {
+        addr: Addr(addr),
+        size: Size(size),
+        lead: 0,
+        arena: Some(0),
+    }
+}
+
+/// Gives a block a name, where the name has a place and holds nothing.
+fn give(names: &mut Names, name: u32, block: Block)
+    requires { IsHeld block }
+{
+    if names.has_room(name) && names.get(name).is_none() {
+        names.put(name, block);
+    }
+}
+
+#[test]
+fn far_names_have_places_of_their_own(rt: HostRuntime) -> Result<(), Fail> {
+    let mut names = Names::new(rt.alloc());
+    names.ready(4_294_967_295)?;
+    assert!(rt; names.has_room(4_294_967_295));
+    assert!(rt; !names.has_room(4_294_967_294) && !names.has_room(65_535));
+    assert_eq!(rt; names.row(), 0);
+    names.ready(65_536)?;
+    names.ready(4_294_967_295)?;
+    assert_eq!(rt; names.far().len(), 2);
+    give(&mut names, 65_536, chunk(0x5555_5555_9290, 32));
+    give(&mut names, 65_535, chunk(0x5555_5555_92b0, 32));
+    assert!(rt; names.get(65_535).is_none() && names.get(4_294_967_295).is_none());
+    let block = names.take(65_536).ok_or("a block")?;
+    assert_eq!(rt; block.addr, Addr(0x5555_5555_9290));
+    assert!(rt; names.take(65_536).is_none());
+    Ok(())
+}

@@ -1,0 +1,5 @@
+pub mod Weights
+pub mod Calling
+pub mod Supplies
+pub mod Releases
+pub mod Exits

@@ -1,0 +1,18 @@
+use Rattle.own_blocks.specs.Calls.{from_arena}
+use Rattle.arena_core.specs.declared.journal.Act.TheVariants as acts
+use Rattle.arena_holds.proofs.Carrying.{served_after}
+use Rattle.own_blocks.proofs.Supplies.{supplies_opened, short_opened}
+use Rattle.own_blocks.proofs.supplying.fresh_supply.Goals as goal
+
+pub supply_from_arena-requires-clause-served : goal.supply_from_arena-requires-clause-served
+supply_from_arena-requires-clause-served g c = λ k l. served_after g.met.P.Places.laws.same c.requires.served c.in_ok-open_cache.ensures.carries
+
+pub returns-clause-supplies : goal.returns-clause-supplies
+returns-clause-supplies g c =
+    supplies_opened c.args.who.now.thread c.args.nb c.args.cache.now c.open_cache.new.cache c.supply_from_arena.new.cache _
+    (λ x. from_arena c.args.t.now c.args.who.now.thread c.args.bytes c.args.bytes (acts.Take c.args.nb) x)
+    c.supply_from_arena.result c.in_ok-open_cache.ensures.does c.in_ok-open_cache.ensures.later c.in_ok-open_cache.ensures.carries
+    c.supply_from_arena.ensures.supplies
+
+pub returns-clause-short : goal.returns-clause-short
+returns-clause-short g c = short_opened _ _ c.supply_from_arena.result c.in_ok-open_cache.ensures.carries c.supply_from_arena.ensures.short
