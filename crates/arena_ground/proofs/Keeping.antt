@@ -11,7 +11,6 @@ use Rattle.chunk_image.specs.Rows.{TileRow}
 use Rattle.address_space.specs.Spaces.{main_start}
 use Rattle.arena_rules.specs.PlainArena.{Plain, HeapWindows, IsSound, beside, is_main}
 use Rattle.arena_rules.specs.Heaps.{heap_start}
-use Rattle.arena_rules.specs.HeapPlaces.{IsHeapPlaced}
 use Rattle.arena_rules.specs.Moves.{top_end}
 use Rattle.arena_rules.specs.MainPlaces.{times_covered, IsMainPlaced}
 use Rattle.arena_rules.proofs.Changes.{tile_is}

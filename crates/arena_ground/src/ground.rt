@@ -1,6 +1,6 @@
 //! An arena in its words.
 
-ghost use Rattle.std.specs.Prelude.{◌≡◌, ℕ, ◌≤◌, ◌+◌, map, ◌<◌, false, List, IfOk, OnOk};
+ghost use Rattle.std.specs.Prelude.{◌≡◌, ℕ, ◌≤◌, ◌+◌, map, ◌<◌, false, List, IfOk, OnOk, OnErr};
 ghost use Rattle.chunk_tags.specs.Tunables.{main_limit};
 ghost use Rattle.address_space.specs.Spaces.{main_start, piece_start};
 ghost use Rattle.part_words.specs.Extents.{AreOpen, IsWithinPart};
@@ -106,8 +106,11 @@ impl Ground {
 
     /// Opens the words of a range: those of links first, so that each tile's address has one.
     fn open_words(&mut self, at: u64, len: u64) -> Result<(), NoMemory>
-        requires { IsWithinPart self.old.extent at len }
+        requires within { IsWithinPart self.old.extent at len }
+        requires some { 0 < len }
         ensures room { OnOk result (AreOpen self.new.extent at len) }
+        ensures full { OnErr result
+            ((AreOpen self.old.extent at len → ⊥) × (AreOpen self.new.extent at len → ⊥)) }
         ensures arena { self.new.arena ≡ self.old.arena }
     {
         self.links.open(self.alloc, Addr(at), len)?;

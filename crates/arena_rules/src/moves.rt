@@ -194,13 +194,16 @@ pub trait Moves {
     fn next_piece(&self) -> u64
         ensures { result ≡ (plain self.now).next_piece };
 
-    /// Makes room for a growth of the break inside main's window. Nothing else changes.
+    /// Makes room for a growth of the break inside main's window. Nothing else changes. It is refused only where there is
+    /// no such room.
     fn make_break_room(&mut self, growth: u64) -> Result<(), NoMemory>
         requires main { IsTrue (is_main (plain self.old)) }
         requires some { 0 < growth }
         requires pages { growth % 4096 ≡ 0 }
         requires window { (plain self.old).break_at + growth ≤ main_start + main_limit }
         ensures room { OnOk result (break_room self.new growth) }
+        ensures full { OnErr result
+            ((break_room self.old growth → ⊥) × (break_room self.new growth → ⊥)) }
         ensures arena { plain self.new ≡ plain self.old };
 
     /// Takes a growth of the break, which was granted, and gives what is to be released of an old top.
@@ -211,13 +214,16 @@ pub trait Moves {
         ensures rest { result ≡ break_rest (plain self.old) }
         ensures arena { plain self.new ≡ break_taken (plain self.old) growth };
 
-    /// Makes room for a piece inside main's window for pieces. Nothing else changes.
+    /// Makes room for a piece inside main's window for pieces. Nothing else changes. It is refused only where there is no
+    /// such room.
     fn make_piece_room(&mut self, len: u64) -> Result<(), NoMemory>
         requires main { IsTrue (is_main (plain self.old)) }
         requires some { 0 < len }
         requires pages { len % 4096 ≡ 0 }
         requires window { (plain self.old).next_piece + len ≤ piece_start + main_limit }
         ensures room { OnOk result (piece_room self.new len) }
+        ensures full { OnErr result
+            ((piece_room self.old len → ⊥) × (piece_room self.new len → ⊥)) }
         ensures arena { plain self.new ≡ plain self.old };
 
     /// Takes a piece, which was granted, as top, and gives what is to be released of an old one.
@@ -290,13 +296,16 @@ pub trait Moves {
         ensures window { result ≤ (plain self.now).windows.heap_max }
         ensures most { result ≤ 67108864 };
 
-    /// Makes room for an extension of the last heap inside its window. Nothing else changes.
+    /// Makes room for an extension of the last heap inside its window. Nothing else changes. It is refused only where there
+    /// is no such room.
     fn make_extension_room(&mut self, growth: u64) -> Result<(), NoMemory>
         requires other { is_main (plain self.old) ≡ false }
         requires some { 0 < growth }
         requires pages { growth % 4096 ≡ 0 }
         requires window { last_length (plain self.old) + growth ≤ (plain self.old).windows.heap_max }
         ensures room { OnOk result (extension_room self.new growth) }
+        ensures full { OnErr result
+            ((extension_room self.old growth → ⊥) × (extension_room self.new growth → ⊥)) }
         ensures arena { plain self.new ≡ plain self.old };
 
     /// Takes an extension of the last heap, which was granted (glibc's `grow_heap`).
@@ -307,12 +316,14 @@ pub trait Moves {
         ensures arena { plain self.new ≡ heap_extended (plain self.old) growth }
         ensures gains { Gains (plain self.old) None (plain self.new) };
 
-    /// Makes room for one heap more. Nothing else changes.
+    /// Makes room for one heap more. Nothing else changes. It is refused only where there is no such room.
     fn make_heap_room(&mut self, len: u64) -> Result<(), NoMemory>
         requires other { is_main (plain self.old) ≡ false }
         requires length { IsHeapLength (plain self.old).windows len }
         requires window { last_heap (plain self.old) + 1 < (plain self.old).windows.heaps }
         ensures room { OnOk result (heap_room self.new len) }
+        ensures full { OnErr result
+            ((heap_room self.old len → ⊥) × (heap_room self.new len → ⊥)) }
         ensures arena { plain self.new ≡ plain self.old };
 
     /// Takes one heap more, which was granted: behind its header all is top. Gives what is to be released of the old top

@@ -1,6 +1,6 @@
 //! The bins' lists through their links.
 
-ghost use Rattle.std.specs.Prelude.{◌≡◌, ℕ, ◌+◌, ◌<◌, ◌≤◌, [], ◌∷◌, ◌++◌, List, nat_eq, length, map, slice_set, OnOk, OnErr, IfOk};
+ghost use Rattle.std.specs.Prelude.{◌≡◌, ◌≢◌, ℕ, ◌+◌, ◌<◌, ◌≤◌, [], ◌∷◌, ◌++◌, List, nat_eq, length, map, slice_set, OnOk, OnErr, IfOk};
 ghost use Rattle.part_words.specs.Extents.{IsOpen, IsWithinPart, extended};
 ghost use Rattle.bin_links.specs.Rings.{chunk_of as chunk_at_node};
 ghost use Rattle.bin_links.specs.Lists.{bin_count, empty_lists, no_extent, list_at, times_listed, first_of, last_of, put_front, without};
@@ -144,12 +144,14 @@ impl LinkWords {
         self.nodes.skip(at.0);
     }
 
-    /// Opens the link words of a range. Nothing changes where memory is short.
+    /// Opens the link words of a range. Nothing changes where memory is short, which is so only where there is something
+    /// to open.
     pub fn open(&mut self, alloc: Global, at: Addr, len: u64) -> Result<(), NoMemory>
         requires { IsWithinPart self.old.extent at len }
         ensures lists { self.new.lists ≡ self.old.lists }
         ensures extent { OnOk result (self.new.extent ≡ extended self.old.extent at len) }
         ensures err { OnErr result (self.new ≡ self.old) }
+        ensures full { OnErr result (extended self.old.extent at len ≢ self.old.extent) }
     {
         self.nodes.open(alloc, at.0, len)?;
         Ok(())

@@ -135,12 +135,13 @@ impl Nodes {
         self.set_back(behind, node);
     }
 
-    /// Opens the link words of a range; no link changes.
+    /// Opens the link words of a range; no link changes. It is refused only where there is something to open.
     pub fn open(&mut self, alloc: Global, at: u64, len: u64) -> Result<(), AllocError>
         requires { IsWithinPart (extent self.old) at len }
         ensures links { (n : ℕ) → links_at self.new n ≡ links_at self.old n }
         ensures extent { OnOk result (extent self.new ≡ extended (extent self.old) at len) }
         ensures err { OnErr result (extent self.new ≡ extent self.old) }
+        ensures full { OnErr result (extended (extent self.old) at len ≢ extent self.old) }
     {
         self.words.open(alloc, at, len, Links { fd: 0, bk: 0 })
     }

@@ -1,5 +1,6 @@
 -- Heads and feet in words.
-use Rattle.std.proofs.Common.{◌≡◌, ℕ, ◌*◌, sym, ap, ◌∙◌, refl}
+use Rattle.std.proofs.Common.{◌≡◌, ℕ, ◌*◌, Result, Ok, Err, sym, ap, ◌∙◌, refl, subst}
+use Rattle.std.specs.Prelude.{OnErr}
 use Rattle.part_words.specs.Extents.{IsOpen, extended}
 use Rattle.part_words.specs.Parts.{Parts, word_at, update, extent_of}
 use Rattle.part_words.proofs.Seeing.{word_at-seen_through, extent_of-seen_through, written_through, same_through}
@@ -33,6 +34,11 @@ heads_extended cells cells' at len e =
 pub feet_extended : (cells cells' : Parts Cell) (at len : ℕ) → extent_of cells' ≡ extended (extent_of cells) at len → extent_of (feet_of cells') ≡ extended (extent_of (feet_of cells)) at len
 feet_extended cells cells' at len e =
     extent_of-feet cells' ∙ (e ∙ ap (λ x. extended x at len) (sym (extent_of-feet cells)))
+
+-- and where there is a word to open, there is a head to open
+pub heads_unopened : {T E : Type 0} (cells : Parts Cell) (at len : ℕ) (r : Result T E) → (extended (extent_of cells) at len ≡ extent_of cells → ⊥) → OnErr r (extended (extent_of (heads_of cells)) at len ≡ extent_of (heads_of cells) → ⊥)
+heads_unopened cells at len (Ok x) some = tt
+heads_unopened cells at len (Err x) some = subst (λ e. extended e at len ≡ e → ⊥) (sym (extent_of-heads cells)) some
 
 -- what a word says
 pub head_at-cells : (cells : Parts Cell) (at : ℕ) → head_at (heads_of cells) at ≡ head_in (word_at cells no_cell at).head

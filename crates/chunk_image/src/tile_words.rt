@@ -43,12 +43,14 @@ impl TileWords {
         }
     }
 
-    /// Opens the words of a range of one part. The tiles stay as they are; where memory is short, all does.
+    /// Opens the words of a range of one part. The tiles stay as they are; where memory is short, all does, and that is so
+    /// only where there is something to open.
     pub fn open(&mut self, alloc: Global, at: Addr, len: u64) -> Result<(), NoMemory>
         requires { IsWithinPart self.old.extent at len }
         ensures ok { OnOk result
             (self.new ≡ record self.old { extent = extended self.old.extent at len }) }
         ensures err { OnErr result (self.new ≡ self.old) }
+        ensures full { OnErr result (extended self.old.extent at len ≢ self.old.extent) }
     {
         self.cells.open(alloc, at.0, len, Cell::NONE)?;
         Ok(())

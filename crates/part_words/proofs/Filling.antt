@@ -1,9 +1,9 @@
 -- Parts that are opened.
-use Rattle.std.proofs.Common.{◌≡◌, ℕ, ◌+◌, ◌-◌, ◌/◌, ◌%◌, ◌≤◌, max, List, [], ◌∷◌, ◌++◌, length, map, take, replicate, get_or, set, sym, ap, ◌∙◌, refl, inl, inr, arith, zero, suc}
+use Rattle.std.proofs.Common.{◌≡◌, ℕ, ◌+◌, ◌-◌, ◌/◌, ◌%◌, ◌<◌, ◌≤◌, max, List, [], ◌∷◌, ◌++◌, length, map, take, replicate, get_or, set, sym, ap, ◌∙◌, refl, inl, inr, arith, zero, suc}
 use Rattle.std.specs.Prelude.{Result, Ok, Err, OnOk, OnErr}
 use Rattle.std.proofs.Math.Path.{fun_ext}
 use Rattle.std.proofs.lemmas.Bool.{cases_eq}
-use Rattle.std.proofs.lemmas.List.{append-nil, append_assoc, map-append, map-set, length-append, length-set, length-map, length-replicate, replicate-append-replicate, set-get_or, take_at, take-map, get_or-map}
+use Rattle.std.proofs.lemmas.List.{append-nil, append_assoc, map-append, map-set, length-append, length-set, length-map, length-replicate, replicate-append-replicate, set-get_or, take_at, take-map, get_or-map, get_or_append_left}
 use Rattle.part_words.specs.Extents.{index_of, changed_at}
 use Rattle.part_words.specs.Parts.{Parts, word_at, filled}
 use Rattle.part_words.proofs.Opening.{get_or-changed_same, get_or-changed_other}
@@ -85,3 +85,29 @@ length-filled zero n fill [] = ap (λ m. m ∷ []) (length_filled n fill [])
 length-filled zero n fill (p ∷ ps) = ap (λ m. m ∷ map length ps) (length_filled n fill p)
 length-filled (suc k) n fill [] = ap (λ ns. 0 ∷ ns) (length-filled k n fill [])
 length-filled (suc k) n fill (p ∷ ps) = ap (λ ns. length p ∷ ns) (length-filled k n fill ps)
+
+length-changed : (k : ℕ) (f : ℕ → ℕ) (xs : List ℕ) → k < length (changed_at 0 k f xs)
+length-changed zero f [] = omega arith
+length-changed zero f (x ∷ xs) = omega arith
+length-changed (suc k) f [] = omega (arith, length-changed k f [])
+length-changed (suc k) f (x ∷ xs) = omega (arith, length-changed k f xs)
+
+-- a part that wouldn't get longer is there, and has as many words
+long_enough : (k n : ℕ) (xs : List ℕ) → changed_at 0 k (max n) xs ≡ xs → (k < length xs) × (n ≤ get_or xs k 0)
+long_enough k n xs same =
+    (omega (arith, length-changed k (max n) xs, ap length same), omega (arith, get_or-changed_same 0 k (max n) xs, ap (λ ys. get_or ys k 0) same))
+
+-- so there are changes to make where the part isn't there
+pub missing_part : {V T E : Type 0} (items : V → List T) (vs : List V) (k n : ℕ) (r : Result (Unit {0}) E) → length vs < k + 1 → OnErr r (changed_at 0 k (max n) (map length (map items vs)) ≡ map length (map items vs) → ⊥)
+missing_part items vs k n (Ok u) few = tt
+missing_part items vs k n (Err e) few = λ same.
+    omega (arith, few, (long_enough k n (map length (map items vs)) same).0, length-map (map items vs) length, length-map vs items)
+
+-- and where it is too short
+pub short_part : {V T E : Type 0} (items : V → List T) (vs ws : List V) (k n : ℕ) (w : V) (r : Result (Unit {0}) E) → Fills items vs ws k w → OnErr r (length (items w) < n) → OnErr r (changed_at 0 k (max n) (map length (map items vs)) ≡ map length (map items vs) → ⊥)
+short_part items vs ws k n w (Ok u) h short = short
+short_part items vs ws k n w (Err e) h short = λ same.
+    let long = long_enough k n (map length (map items vs)) same in
+    let there : k < length (map items vs) = omega (arith, long.0, length-map (map items vs) length) in
+    let read : get_or (map items vs) k [] ≡ items w = sym (get_or_append_left (map items vs) (replicate (length ws - length vs) []) [] k there) ∙ (ap (λ ps. get_or ps k []) (sym h.added) ∙ part_is items vs ws k w h) in
+    omega (arith, short, long.1, get_or-map length (map items vs) k [] 0 there, ap length read)

@@ -93,6 +93,13 @@ IsOpen-covers e f a c at_a =
       below = rw (c.base, c.width) (omega (arith, at_a.below, c.words (index_of e.base a / e.width)));
     }
 
+pub IsWithinPart-covers : (e f : Extent) (at len : ℕ) → Covers e f → IsWithinPart e at len → IsWithinPart f at len
+IsWithinPart-covers e f at len c range =
+    record { place = rw c.base range.place; whole = range.whole; fits = rw (c.base, c.width) range.fits }
+
+pub AreOpen-covers : (e f : Extent) (at len : ℕ) → Covers e f → AreOpen e at len → AreOpen f at len
+AreOpen-covers e f at len c all = λ n h. IsOpen-covers e f (at + 16 * n) c (all n h)
+
 words_more : (k n : ℕ) (xs ys : List ℕ) → ((i : ℕ) → get_or xs i 0 ≤ get_or ys i 0) → (i : ℕ) → get_or (changed_at 0 k (max n) xs) i 0 ≤ get_or (changed_at 0 k (max n) ys) i 0
 words_more k n xs ys le i =
     elim (cases_eq i k) [
@@ -143,6 +150,22 @@ pub within : (xs : List ℕ) (q a : ℕ) → a < get_or xs q 0 → q < length xs
 within [] q a h = absurd (omega arith)
 within (x ∷ xs) zero a h = omega arith
 within (x ∷ xs) (suc q) a h = omega (arith, within xs q a h)
+
+unchanged : (k n : ℕ) (xs : List ℕ) → k < length xs → n ≤ get_or xs k 0 → changed_at 0 k (max n) xs ≡ xs
+unchanged k n [] below le = absurd (omega arith)
+unchanged zero n (x ∷ xs) below le = let same : max n x ≡ x = omega arith in ap (λ y. y ∷ xs) same
+unchanged (suc k) n (x ∷ xs) below le = ap (λ ys. x ∷ ys) (unchanged k n xs (omega arith) le)
+
+-- nothing is opened where each word of the range is open
+pub extended-open : (e : Extent) (at len : ℕ) → IsWithinPart e at len → 0 < len → AreOpen e at len → extended e at len ≡ e
+extended-open e at len range some all =
+    let i = index_of e.base at in
+    let n = len / 16 - 1 in
+    let last = all n (omega (arith, range.whole, some)) in
+    let moved : index_of e.base (at + 16 * n) ≡ i + n = omega (arith, range.place) in
+    let same = same_part e.width i n (omega (arith, range.fits, range.whole, some)) in
+    let below : i % e.width + n < get_or e.words (i / e.width) 0 = rw (moved, same.0, same.1) at last.below in
+    ap (λ ws. record e { words = ws }) (unchanged (i / e.width) (i % e.width + len / 16) e.words (within e.words (i / e.width) (i % e.width + n) below) (omega (arith, below, range.whole, some)))
 
 -- a range of a part, by its distance from the beginning of the part
 pub IsWithinPart-part : (e : Extent) (part offset len : ℕ) → offset % 16 ≡ 0 → len % 16 ≡ 0 → 0 < len → offset + len ≤ 16 * e.width → IsWithinPart e (e.base + 16 * (part * e.width) + offset) len

@@ -1,6 +1,6 @@
 //! Words by address.
 
-ghost use Rattle.std.specs.Prelude.{◌≡◌, ℕ, ◌*◌, ◌/◌, ◌%◌, MatchOption, IfSome, IfNone, ◌+◌, ◌-◌, ◌<◌, ◌≤◌, ◌^◌, ◌++◌, [], max, length, map, replicate, OnOk, OnErr};
+ghost use Rattle.std.specs.Prelude.{◌≡◌, ◌≢◌, ℕ, ◌*◌, ◌/◌, ◌%◌, MatchOption, IfSome, IfNone, ◌+◌, ◌-◌, ◌<◌, ◌≤◌, ◌^◌, ◌++◌, [], max, length, map, replicate, OnOk, OnErr};
 ghost use Rattle.part_words.specs.Extents.{extended, changed_at, IsOpen, IsWithinPart};
 ghost use Rattle.part_words.specs.Parts.{no_words, word_at, update, extent_of, filled};
 
@@ -66,12 +66,14 @@ impl<T: Copy> Words<T> {
         words[place] = value;
     }
 
-    /// Opens the words of a range, with `fill` in those that weren't open. Nothing changes where memory is short.
+    /// Opens the words of a range, with `fill` in those that weren't open. Nothing changes where memory is short, which
+    /// is so only where there is something to open.
     pub fn open(&mut self, alloc: Global, at: u64, len: u64, fill: T) -> Result<(), AllocError>
         requires { IsWithinPart (extent_of self.old) at len }
         ensures words { word_at self.new fill ≡ word_at self.old fill }
         ensures extent { OnOk result (extent_of self.new ≡ extended (extent_of self.old) at len) }
         ensures err { OnErr result (self.new ≡ self.old) }
+        ensures full { OnErr result (extended (extent_of self.old) at len ≢ extent_of self.old) }
     {
         let word = (at - self.base) / 16;
         let part = (word / self.width) as usize;
@@ -146,6 +148,9 @@ fn open_part<T: Copy>(
     ensures err { OnErr result (map (λ v. v.items) parts.new.items
         ≡ map (λ v. v.items) parts.old.items
         ++ replicate (length parts.new.items - length parts.old.items) []) }
+    ensures full { OnErr result
+        (changed_at 0 part (max end) (map length (map (λ v. v.items) parts.old.items))
+        ≢ map length (map (λ v. v.items) parts.old.items)) }
 {
     add_parts(parts, alloc, part + 1)?;
     let words = &mut parts[part];
@@ -162,6 +167,7 @@ fn add_parts<T: Copy>(
     ensures items { map (λ v. v.items) parts.new.items
         ≡ map (λ v. v.items) parts.old.items
         ++ replicate (length parts.new.items - length parts.old.items) [] }
+    ensures full { OnErr result (length parts.old.items < count) }
 {
     for _added in parts.len()..count {
         parts.push(Vec::new(alloc))?;
@@ -173,6 +179,7 @@ fn add_parts<T: Copy>(
 fn fill_part<T: Copy>(words: &mut Vec<T>, end: usize, fill: T) -> Result<(), AllocError>
     ensures ok { OnOk result (words.new.items ≡ filled end fill words.old.items) }
     ensures err { OnErr result (words.new.items ≡ words.old.items) }
+    ensures full { OnErr result (length words.old.items < end) }
 {
     if words.len() < end {
         words.resize(end, fill)

@@ -1,5 +1,5 @@
 use Rattle.part_words.specs.Parts.{filled}
-use Rattle.part_words.proofs.Filling.{Fills, filled_part, same_part}
+use Rattle.part_words.proofs.Filling.{Fills, filled_part, same_part, missing_part, short_part}
 use Rattle.part_words.proofs.words.open_part.Goals as goal
 use Rattle.part_words.proofs.words.open_part.Goals.{After-parts-1}
 
@@ -14,3 +14,11 @@ returns-clause-ok g c =
 pub returns-clause-err : goal.returns-clause-err
 returns-clause-err g c =
     same_part (λ v. v.items) _ _ _ _ _ c.fill_part.result (fills g c) c.fill_part.ensures.err
+
+pub returns-clause-full : goal.returns-clause-full
+returns-clause-full g c =
+    short_part (λ v. v.items) _ _ _ c.args.end _ c.fill_part.result (fills g c) c.fill_part.ensures.full
+
+pub returns-in_err-add_parts-clause-full : goal.returns-in_err-add_parts-clause-full
+returns-in_err-add_parts-clause-full g c =
+    missing_part (λ v. v.items) _ _ c.args.end c.from_residual.result c.in_err-add_parts.ensures.full

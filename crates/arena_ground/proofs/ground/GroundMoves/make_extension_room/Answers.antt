@@ -4,10 +4,11 @@ use Rattle.arena_rules.specs.Heaps.{heap_start, last_length}
 use Rattle.arena_rules.specs.Moves.{top_end}
 use Rattle.arena_ground.specs.Grounds.{GroundView, arena_with}
 use Rattle.arena_ground.proofs.Heaping.{extension_at, extension_room, heap_within}
+use Rattle.arena_ground.proofs.Opened.{growth_missing}
 use Rattle.arena_ground.proofs.ground.GroundMoves.make_extension_room.Goals as goal
 
-pub open_words-requires : goal.open_words-requires
-open_words-requires c =
+pub open_words-requires-clause-within : goal.open_words-requires-clause-within
+open_words-requires-clause-within c =
     let a = arena_with c.self.inside.regions c.self.inside.tiles c.self.inside.links c.self.inside.last in
     let closed = c.self.inside.regions.closed.items in
     let other = rw (← c.self.view_is) at c.requires.other in
@@ -27,3 +28,13 @@ returns-clause-room c =
     let size : c.last_length.result ≡ last_length a = c.last_length.ensures in
     let at : c.heap_start.result + c.last_length.result ≡ top_end c.args.self.now.arena = (λ i. start i + size i) ∙ (extension_at a closed placed ∙ ap (λ (v : GroundView). top_end v.arena) c.self.view_is) in
     extension_room c.open_words.result _ c.args.self.now.arena _ _ c.args.growth at c.open_words.ensures.arena c.requires.some c.requires.pages c.requires.window c.open_words.ensures.room
+
+pub returns-clause-full : goal.returns-clause-full
+returns-clause-full c =
+    let a = arena_with c.self.inside.regions c.self.inside.tiles c.self.inside.links c.self.inside.last in
+    let closed = c.self.inside.regions.closed.items in
+    let placed = c.self.invariant.placed.other (rw (← c.self.view_is) at c.requires.other) in
+    let start : c.heap_start.result ≡ heap_start a (length closed) = c.heap_start.ensures ∙ ap (heap_start a) (c.from-heap.ensures ∙ c.last_heap.ensures) in
+    let size : c.last_length.result ≡ last_length a = c.last_length.ensures in
+    let at : c.heap_start.result + c.last_length.result ≡ top_end c.args.self.now.arena = (λ i. start i + size i) ∙ (extension_at a closed placed ∙ ap (λ (v : GroundView). top_end v.arena) c.self.view_is) in
+    growth_missing c.open_words.result _ _ _ c.args.self.now.arena _ c.args.growth at c.open_words.ensures.arena c.open_words.ensures.full

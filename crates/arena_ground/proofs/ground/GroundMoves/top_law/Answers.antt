@@ -1,4 +1,4 @@
-use Rattle.std.proofs.Common.{◌≡◌, ap, subst}
+use Rattle.std.proofs.Common.{ap, subst}
 use Rattle.std.specs.Prelude.{is_some, IsSome}
 use Rattle.chunk_tags.specs.Tiles.{top_of}
 use Rattle.arena_rules.proofs.HeapTiles.{last_top}

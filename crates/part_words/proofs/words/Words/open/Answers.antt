@@ -1,4 +1,5 @@
 use Rattle.std.proofs.Common.{ap, arith}
+use Rattle.part_words.specs.Extents.{Extent}
 use Rattle.part_words.specs.Parts.{word_at}
 use Rattle.part_words.proofs.Filling.{cut_back, word_at-filled, length-filled}
 use Rattle.part_words.proofs.words.Words.open.Goals as goal
@@ -16,3 +17,7 @@ returns-in-Err-clause-err g c =
 
 pub returns-in-Err-clause-words : goal.returns-in-Err-clause-words
 returns-in-Err-clause-words g c = ap (λ ws. word_at ws c.args.fill) (returns-in-Err-clause-err g c)
+
+pub returns-in-Err-clause-full : goal.returns-in-Err-clause-full
+returns-in-Err-clause-full g c =
+    rw (← c.self.view_is) (λ same. c.in-Err.ensures.full (ap (λ (e : Extent). e.words) same))
