@@ -15,6 +15,3 @@ pub use reading::{Unread, read_input};
 pub use standard::{StdSink, StdSource};
 pub use streams::{Fetch, Flush, Put, Sink, Source};
 pub use writing::{Writing, write_text};
-
-#[cfg(test)]
-mod tests;

@@ -11,10 +11,3 @@ mod words;
 
 pub use asked::{Asked, Generated};
 pub use words::read_words;
-
-#[cfg(test)]
-mod clap_tests;
-#[cfg(test)]
-mod examples;
-#[cfg(test)]
-mod tests;

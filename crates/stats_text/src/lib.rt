@@ -16,10 +16,3 @@ pub use report::{append_places, places_text};
 pub use summary::{Counts, append_summary, count_outcomes};
 pub use totals::{append_stats, append_totals, in_use, stats_text};
 pub use views::{ArenaView, CacheView, DialState, Place, Snapshot, TileView};
-
-#[cfg(test)]
-mod snapshots;
-#[cfg(test)]
-mod tests;
-#[cfg(test)]
-mod texts;

@@ -9,6 +9,3 @@ mod making;
 mod queue;
 
 pub use making::generate;
-
-#[cfg(test)]
-mod tests;

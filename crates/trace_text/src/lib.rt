@@ -20,8 +20,3 @@ pub use read::read_trace;
 pub use texts::Texts;
 pub use trace::{Call, Line, THREADS, Trace};
 pub use write::{append_line, print_trace};
-
-#[cfg(test)]
-mod examples;
-#[cfg(test)]
-mod tests;

@@ -1,4 +1,6 @@
-use super::*;
+//! A text that goes in and out again.
+
+use byte_edge::{MemSink, SureSource, Writing, read_input, write_text};
 use std::test::Fail;
 
 #[test]

@@ -4,7 +4,7 @@ use Rattle.trace_text.specs.Numbers.{number_of}
 use Rattle.command_words.specs.Asked.{are_taken}
 use Rattle.command_words.specs.Options.{setting_named}
 use Rattle.command_words.specs.Parts.{parts_from}
-use Rattle.command_words.proofs.examples.words_are_taken.Goals as goal
+use Rattle.text_tests.proofs.word_examples.words_are_taken.Goals as goal
 
 pub returns : goal.returns
 unfolding ones number_of are_taken setting_named parts_from

@@ -1,9 +1,10 @@
-use super::*;
+//! Traces that are read and printed. What is expected of each text comes from an independent implementation of the
+//! rules.
+
 use std::alloc::Global;
 use std::process::Abort;
 use std::test::Fail;
-
-// What is expected of each text comes from an independent implementation of the rules.
+use trace_text::{BadWhy, Call, Line, TraceFault, append_line, print_trace, read_trace};
 
 fn check_fault(rt: &impl Abort, alloc: Global, text: &[u8], line: u64, why: BadWhy) {
     let read = read_trace(alloc, text).err();

@@ -1,7 +1,7 @@
 //! Snapshots made by hand, one for each thing that a report shows.
 
-use crate::views::{ArenaView, CacheView, DialState, Place, Snapshot, TileView};
 use chunk_tags::{Addr, NoMemory, Size};
+use stats_text::{ArenaView, CacheView, DialState, Place, Snapshot, TileView};
 use std::alloc::Global;
 
 /// The addresses of chunks.

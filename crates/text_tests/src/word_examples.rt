@@ -4,8 +4,8 @@ ghost use Rattle.std.specs.Prelude.{◌≡◌, ◌∷◌, [], codes, Some, None,
 ghost use Rattle.chunk_tags.specs.Tunables.{serial_values, defaults_of};
 ghost use Rattle.command_words.specs.Asked.{asked_by};
 
-use crate::asked::{Asked, Generated};
 use chunk_tags::{Mode, Tunables};
+use command_words::{Asked, Generated};
 
 /// Words that are taken.
 #[tactic(none)]

@@ -3,7 +3,7 @@ use Rattle.std.proofs.lemmas.List.{take_all}
 use Rattle.std.proofs.lemmas.List.Elements.{All-more}
 use Rattle.stats_text.specs.Views.{Arena}
 use Rattle.stats_text.specs.Totals.{idle_bytes_of, AreWithinSystem}
-use Rattle.stats_text.proofs.tests.are_within.Goals as goal
+use Rattle.text_tests.proofs.report_tests.are_within.Goals as goal
 
 pub loop-arena-preserved : goal.loop-arena-preserved
 loop-arena-preserved c =

@@ -2,11 +2,11 @@
 
 ghost use Rattle.std.specs.Prelude.{◌≤◌};
 
-use super::*;
 use chunk_tags::NoMemory;
 use std::alloc::Global;
 use std::process::Abort;
 use std::test::Fail;
+use trace_maker::generate;
 use trace_text::print_trace;
 
 const FIRST_OF_1: &[u8] = b"\

@@ -1,8 +1,7 @@
-//! Tests: what no clause says.
+//! Words that are read.
 
-use crate::asked::Generated;
-use crate::words::read_words;
 use chunk_tags::{Mode, Tunables};
+use command_words::{Generated, read_words};
 use std::test::Fail;
 
 #[test]

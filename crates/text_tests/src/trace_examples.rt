@@ -1,12 +1,11 @@
 //! Worked examples: how texts are read, stated on the definitions alone. Nothing runs; the check computes them.
-#![tactic(auto, unfolding(crate::specs::Before::is_held, crate::specs::Before::has_ended, crate::specs::Before::was_posted, crate::specs::Before::was_taken, crate::specs::Grammar::thread_of, crate::specs::Grammar::command_of, crate::specs::Grammar::number_at, crate::specs::Grammar::name_at, crate::specs::Grammar::tray_at, crate::specs::Grammar::one_number, crate::specs::Grammar::two_numbers, crate::specs::Grammar::three_numbers, crate::specs::Grammar::call_of, crate::specs::Grammar::fitting, crate::specs::Grammar::filled_line, crate::specs::Grammar::line_of, crate::specs::Grammar::lines_after, crate::specs::Grammar::version_of, crate::specs::Grammar::reading_of, crate::specs::Numbers::number_of))]
+#![tactic(auto, unfolding(trace_text::specs::Before::is_held, trace_text::specs::Before::has_ended, trace_text::specs::Before::was_posted, trace_text::specs::Before::was_taken, trace_text::specs::Grammar::thread_of, trace_text::specs::Grammar::command_of, trace_text::specs::Grammar::number_at, trace_text::specs::Grammar::name_at, trace_text::specs::Grammar::tray_at, trace_text::specs::Grammar::one_number, trace_text::specs::Grammar::two_numbers, trace_text::specs::Grammar::three_numbers, trace_text::specs::Grammar::call_of, trace_text::specs::Grammar::fitting, trace_text::specs::Grammar::filled_line, trace_text::specs::Grammar::line_of, trace_text::specs::Grammar::lines_after, trace_text::specs::Grammar::version_of, trace_text::specs::Grammar::reading_of, trace_text::specs::Numbers::number_of))]
 
 ghost use Rattle.std.specs.Prelude.{◌≡◌, ◌∷◌, [], ◌-◌, ◌^◌, codes, Some, None, IsOk};
 ghost use Rattle.trace_text.specs.Grammar.{whole, faulty, reading_of};
 ghost use Rattle.trace_text.specs.Numbers.{number_of};
 
-use crate::fault::BadWhy;
-use crate::trace::Call;
+use trace_text::{BadWhy, Call};
 
 /// Fields that are numbers.
 fn numbers_are_decimal()

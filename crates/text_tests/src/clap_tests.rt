@@ -1,8 +1,8 @@
 //! The words that are taken are those that clap takes, the kit's reader of command lines, as words of the same command.
 //! Values are numbers of their ranges here, so that only the form of the words decides.
 
-use crate::words::read_words;
 use clap::{Arg, ArgAction, Command};
+use command_words::read_words;
 use std::alloc::Global;
 use std::test::Fail;
 

@@ -2,18 +2,28 @@
 //! those of a second implementation of the rules.
 
 ghost use Rattle.std.specs.Prelude.{◌≡◌, ◌<◌, ◌≤◌, ◌+◌, ◌^◌, true};
-ghost use Rattle.stats_text.specs.Totals.{HasTotals, AreWithinSystem, idle_bytes_of, system_bytes_of};
+ghost use Rattle.stats_text.specs.Totals.{HasTotals, AreWithinSystem, is_idle_place, idle_bytes_of, system_bytes_of};
 
-use super::*;
-use crate::totals::is_idle;
-use crate::{snapshots, texts};
+use crate::{report_texts as texts, snapshots};
 use chunk_tags::{Addr, NoMemory, Size};
+use stats_text::{
+    ArenaView, Outcome, Place, Record, Sink3, Snapshot, Source3, TileView, append_places,
+    append_record, append_stats, append_summary, append_totals, count_outcomes, in_use,
+    places_text, record_line, stats_text,
+};
 use std::alloc::Global;
 use std::process::Abort;
 use std::test::Fail;
 
+/// Whether a chunk's bytes aren't in use.
+fn is_idle(place: Place) -> bool
+    ensures { result ≡ is_idle_place place }
+{
+    matches!(place, Place::Fast { .. } | Place::Bin { .. } | Place::Top)
+}
+
 /// Whether the idle bytes of these chunks are at most the system bytes.
-#[tactic(auto, unfolding(crate::specs::Totals::idle_bytes_of, crate::specs::Totals::tile_bytes_of))]
+#[tactic(auto, unfolding(stats_text::specs::Totals::idle_bytes_of, stats_text::specs::Totals::tile_bytes_of))]
 fn are_idle_within(tiles: &[TileView], system: u64) -> bool
     ensures { result ≡ true → idle_bytes_of tiles.now ≤ system }
 {
@@ -49,7 +59,7 @@ fn are_within(arenas: &[ArenaView]) -> bool
 }
 
 /// Whether the bytes from the system and these are below 2^64 together.
-#[tactic(auto, unfolding(crate::specs::Totals::system_bytes_of))]
+#[tactic(auto, unfolding(stats_text::specs::Totals::system_bytes_of))]
 fn fit(arenas: &[ArenaView], bytes: u64) -> bool
     ensures { result ≡ true → system_bytes_of arenas.now + bytes < 2 ^ 64 }
 {
