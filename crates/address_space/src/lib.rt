@@ -13,6 +13,3 @@ pub use budget::Budget;
 pub use kernel::{Always, Kernel};
 pub use mappings::MAP_LENGTH;
 pub use space::{HEAPS_START, MAIN_START, MAP_LIMIT, MAP_START, PIECE_START, Space, Windows};
-
-#[cfg(test)]
-mod tests;

@@ -9,6 +9,3 @@ mod row;
 
 pub use book::Book;
 pub use choice::Choice;
-
-#[cfg(test)]
-mod tests;

@@ -7,8 +7,3 @@ mod links;
 mod nodes;
 
 pub use links::LinkWords;
-
-#[cfg(test)]
-mod examples;
-#[cfg(test)]
-mod tests;

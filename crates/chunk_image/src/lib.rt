@@ -6,6 +6,3 @@ mod heads;
 mod tile_words;
 
 pub use tile_words::TileWords;
-
-#[cfg(test)]
-mod tests;

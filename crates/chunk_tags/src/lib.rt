@@ -19,8 +19,3 @@ pub use sizes::{
 };
 pub use tiles::{Chunk, Tile, TileKind};
 pub use tunables::{Mode, Tunables};
-
-#[cfg(test)]
-mod examples;
-#[cfg(test)]
-mod tests;

@@ -8,6 +8,3 @@ mod stack;
 
 pub use plain::PlainFast;
 pub use port::FastPort;
-
-#[cfg(test)]
-mod tests;

@@ -2,4 +2,3 @@ mod Fitting
 mod Insertion
 pub mod LargeLaws
 mod Turns
-mod Scenes

@@ -4,8 +4,3 @@
 mod bins;
 
 pub use bins::{best, insert};
-
-#[cfg(test)]
-mod examples;
-#[cfg(test)]
-mod tests;

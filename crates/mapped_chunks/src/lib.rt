@@ -9,6 +9,3 @@ mod port;
 pub use mapping::{map, remap, unmap, unmap_freed};
 pub use plain::{DialState, PlainDials};
 pub use port::Dials;
-
-#[cfg(test)]
-mod tests;

@@ -7,8 +7,3 @@ mod bins;
 pub use bins::{
     first_bin_from, oldest_unsorted, only_unsorted, push_unsorted, put_small, take_small,
 };
-
-#[cfg(test)]
-mod examples;
-#[cfg(test)]
-mod tests;

@@ -5,6 +5,3 @@
 mod words;
 
 pub use words::Words;
-
-#[cfg(test)]
-mod tests;

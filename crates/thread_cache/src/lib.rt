@@ -8,6 +8,3 @@ mod open;
 mod stack;
 
 pub use cache::{Cache, CacheShort, STRUCTURE_SIZE};
-
-#[cfg(test)]
-mod tests;

@@ -1,4 +1,4 @@
-//! The calls with ample memory, over the bin of 1,984 to 2,047 bytes.
+//! The large bin of 1,984 to 2,047 bytes.
 
 ghost use Rattle.std.specs.Prelude.{◌≡◌, ℕ, ◌+◌, ◌<◌, ◌≤◌, [], ◌∷◌, None, IsSome, IfOk, nat_eq, if◌then◌else◌};
 ghost use Rattle.chunk_tags.specs.BinOrder.{IsFalling};
@@ -8,10 +8,10 @@ ghost use Rattle.chunk_image.specs.Rows.{IsRoom, IsWordSize};
 ghost use Rattle.bin_links.specs.Lists.{bin_count, empty_lists, list_at, times_listed};
 ghost use Rattle.large_bins.specs.SeenChunks.{size_at, chunks_by, HaveTiles};
 
-use super::*;
 use bin_links::LinkWords;
 use chunk_image::TileWords;
 use chunk_tags::{Addr, NoMemory, Size, Tile, TileKind};
+use large_bins::{best, insert};
 use std::alloc::Global;
 use std::test::Fail;
 

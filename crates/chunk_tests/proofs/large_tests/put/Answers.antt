@@ -1,7 +1,7 @@
 use Rattle.std.proofs.Common.{◌≡◌, ◌<◌, ◌≤◌, ap, subst, sym}
 use Rattle.large_bins.specs.SeenChunks.{size_at, size_in}
-use Rattle.large_bins.proofs.Scenes.{IsPut, put}
-use Rattle.large_bins.proofs.tests.put.Goals as goal
+use Rattle.chunk_tests.proofs.LargeScenes.{IsPut, put}
+use Rattle.chunk_tests.proofs.large_tests.put.Goals as goal
 
 pub returns : goal.returns
 returns c =

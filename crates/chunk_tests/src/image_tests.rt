@@ -1,8 +1,8 @@
-//! The calls with ample memory.
+//! Tiles in words, and how they are found.
 
 ghost use Rattle.std.specs.Prelude.{◌≡◌};
 
-use crate::TileWords;
+use chunk_image::TileWords;
 use chunk_tags::{Addr, Size, Tile, TileKind};
 use std::test::Fail;
 

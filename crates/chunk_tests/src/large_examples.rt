@@ -1,4 +1,4 @@
-//! Worked examples, stated on the definitions alone. Nothing runs; the check computes them.
+//! Worked examples: the order of a large bin, stated on the definitions alone. Nothing runs; the check computes them.
 
 ghost use Rattle.std.specs.Prelude.{◌≡◌, ℕ, ◌*◌, [], ◌∷◌, Some, None};
 ghost use Rattle.chunk_tags.specs.BinOrder.{inserted, best_of};

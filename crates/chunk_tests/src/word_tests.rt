@@ -1,6 +1,6 @@
-//! The calls with ample memory, in two parts.
+//! Words of 16 bytes, in two parts.
 
-use crate::words::Words;
+use part_words::Words;
 use std::test::Fail;
 
 #[test]

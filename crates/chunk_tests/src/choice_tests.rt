@@ -1,4 +1,6 @@
-use super::*;
+//! Which arena each thread uses.
+
+use arena_choice::{Book, Choice};
 use chunk_tags::{Mode, Tunables};
 use std::test::Fail;
 

@@ -1,8 +1,10 @@
-//! The calls with ample memory.
+//! Unsorted, and a small bin.
 
-use super::*;
 use bin_links::LinkWords;
 use chunk_tags::{Addr, Size};
+use ordinary_bins::{
+    first_bin_from, oldest_unsorted, only_unsorted, push_unsorted, put_small, take_small,
+};
 use std::test::Fail;
 
 #[test]

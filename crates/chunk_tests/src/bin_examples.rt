@@ -1,4 +1,4 @@
-//! Worked examples, stated on the definitions alone. Nothing runs; the check computes them.
+//! Worked examples: unsorted and small bins, stated on the definitions alone. Nothing runs; the check computes them.
 
 ghost use Rattle.std.specs.Prelude.{◌≡◌, ◌^◌, [], ◌∷◌, Some, None};
 ghost use Rattle.chunk_tags.specs.Sizes.{bin_of};

@@ -1,4 +1,4 @@
-//! Worked examples, stated on the definitions alone. Nothing runs; the check computes them.
+//! Worked examples: a bin as a list, stated on the definitions alone. Nothing runs; the check computes them.
 
 ghost use Rattle.std.specs.Prelude.{◌≡◌, ℕ, [], ◌∷◌, Some, None, map};
 ghost use Rattle.bin_links.specs.Lists.{first_of, last_of, put_front, put_behind, without, times_listed};

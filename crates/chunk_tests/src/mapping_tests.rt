@@ -1,6 +1,8 @@
-use super::*;
+//! Mapped chunks, and the words beside the arenas.
+
 use address_space::{Always, Budget, Space, Windows};
 use chunk_tags::{Addr, Block, Size};
+use mapped_chunks::{DialState, Dials, PlainDials, map, remap, unmap, unmap_freed};
 use std::test::Fail;
 
 fn windows() -> Windows {
@@ -21,7 +23,7 @@ const START: DialState = DialState {
 };
 
 #[test]
-#[tactic(auto, using(crate::proofs::PlainSteady::plain_steady))]
+#[tactic(auto, using(mapped_chunks::proofs::PlainSteady::plain_steady))]
 fn freeing_raises_the_thresholds(rt: HostRuntime) -> Result<(), Fail> {
     let mut dials = PlainDials { state: START };
     let mut space = Space::new(Budget::new(200_000, Vec::new(rt.alloc())), 1, windows());
@@ -47,7 +49,7 @@ fn a_refused_mapping_is_not_counted(rt: HostRuntime) {
 }
 
 #[test]
-#[tactic(auto, using(crate::proofs::PlainSteady::plain_steady))]
+#[tactic(auto, using(mapped_chunks::proofs::PlainSteady::plain_steady))]
 fn fixed_thresholds_stay(rt: HostRuntime) -> Result<(), Fail> {
     let mut dials = PlainDials { state: START };
     let mut space = Space::new(Always, 0, windows());

@@ -2,7 +2,7 @@ use Rattle.std.proofs.Common.{◌≡◌, arith}
 use Rattle.bin_links.specs.Lists.{empty_lists, times_listed}
 use Rattle.bin_links.proofs.ListLaws.{none_listed}
 use Rattle.large_bins.proofs.LargeLaws.{no_tiles_needed}
-use Rattle.large_bins.proofs.tests.equals_and_others_in_order.Goals as goal
+use Rattle.chunk_tests.proofs.large_tests.equals_and_others_in_order.Goals as goal
 
 pub put-requires-clause-unlisted : goal.put-requires-clause-unlisted
 put-requires-clause-unlisted g c = rw c.in_ok-links.ensures.lists (none_listed 4096)

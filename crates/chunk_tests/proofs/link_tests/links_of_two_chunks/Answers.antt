@@ -1,5 +1,5 @@
 use Rattle.bin_links.proofs.ListLaws.{unlinked_itself}
-use Rattle.bin_links.proofs.tests.links_of_two_chunks.Goals as goal
+use Rattle.chunk_tests.proofs.link_tests.links_of_two_chunks.Goals as goal
 
 pub insert_behind-requires-clause-unlisted : goal.insert_behind-requires-clause-unlisted
 insert_behind-requires-clause-unlisted g c = rw c.unlink.ensures.lists (unlinked_itself 4096 c.push_front-2.new.self.lists)

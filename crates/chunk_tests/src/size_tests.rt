@@ -1,4 +1,9 @@
-use super::*;
+//! Sizes, bins and pages by number, the starting values, and what mallopt sets.
+
+use chunk_tags::{
+    MAX_CACHED, MAX_REQUEST, Mode, PAGE, Refused, Size, Tunables, cache_index, cached_size,
+    fast_index, is_small, large_index, page_down, page_up, request_size, small_index,
+};
 use std::test::Fail;
 
 #[test]

@@ -1,6 +1,8 @@
-use super::*;
+//! A thread's cache: what it takes and gives, and its end.
+
 use chunk_tags::{Addr, Block, Size};
 use std::test::Fail;
+use thread_cache::Cache;
 
 /// The chunks of the first eight blocks of 24 bytes.
 const SMALL: [u64; 8] = [

@@ -9,7 +9,7 @@ ghost use Rattle.chunk_tags.specs.Tiles.{Row, swapped, fused, entered, tile_befo
 ghost use Rattle.chunk_tags.specs.declared.tiles.Chunk.{Chunk};
 ghost use Rattle.chunk_tags.specs.Tunables.{defaults_of};
 
-use crate::tunables::Mode;
+use chunk_tags::Mode;
 
 /// The chunk sizes of requests.
 fn requests_have_chunk_sizes()

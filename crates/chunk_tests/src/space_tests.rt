@@ -1,4 +1,9 @@
-use super::*;
+//! Windows and the places of mappings, and budgets.
+
+use address_space::{
+    Always, Answer, Ask, Back, Budget, Kernel, MAIN_START, MAP_LENGTH, MAP_START, PIECE_START,
+    Space, Windows,
+};
 use std::test::Fail;
 
 fn windows() -> Windows {

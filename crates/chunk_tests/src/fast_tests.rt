@@ -1,7 +1,9 @@
+//! The fast bins of one order of calls.
+
 ghost use Rattle.std.specs.Prelude.{◌<◌};
 
-use super::*;
 use chunk_tags::{Addr, NoMemory};
+use fast_bins::{FastPort, PlainFast};
 use std::alloc::Global;
 use std::process::Abort;
 use std::test::Fail;

@@ -1,6 +1,6 @@
-//! The calls with ample memory.
+//! Linked lists of two chunks.
 
-use super::*;
+use bin_links::LinkWords;
 use chunk_tags::Addr;
 use std::test::Fail;
 
