@@ -5,6 +5,5 @@ pub mod Keeping
 pub mod Moving
 pub mod Opened
 pub mod Reading
-pub mod Scenes
 pub mod Sorting
 pub mod Topping

@@ -4,4 +4,3 @@ pub use Rattle.arena_rules.specs.HeapPlaces
 pub use Rattle.heap_top.specs.MainRanges
 pub use Rattle.heap_top.specs.HeapRanges
 pub mod Grounds
-pub mod Scenes

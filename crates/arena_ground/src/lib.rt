@@ -6,6 +6,3 @@ mod ground;
 mod steps;
 
 pub use ground::Ground;
-
-#[cfg(test)]
-mod tests;

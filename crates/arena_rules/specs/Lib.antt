@@ -12,7 +12,6 @@ pub mod Walks
 pub mod Trim
 pub mod Release
 pub mod Growth
-pub mod Examples
 pub mod Search
 pub mod Resize
 pub mod Align

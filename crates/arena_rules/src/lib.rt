@@ -4,8 +4,6 @@
 //! alignment). The crates above keep their contracts by them.
 #![tactic(auto)]
 
-#[cfg(test)]
-mod examples;
 mod heap_end;
 mod moves;
 mod said;

@@ -14,6 +14,3 @@ pub use consolidating::consolidate;
 pub use merging::{Merged, merge};
 pub use releasing::{give, release, settle};
 pub use trimming::{trim_heap, trim_main};
-
-#[cfg(test)]
-mod tests;

@@ -2,5 +2,3 @@ pub mod DropLaws
 pub mod IntoTop
 pub mod TopLaws
 pub mod MainMoves
-mod Scenes
-pub mod HeapScenes

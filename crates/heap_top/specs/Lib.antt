@@ -8,5 +8,3 @@ pub use Rattle.arena_rules.specs.Heaps
 pub mod Regions
 pub mod MainRanges
 pub mod HeapRanges
-pub mod Scenes
-pub mod HeapScenes

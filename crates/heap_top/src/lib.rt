@@ -6,6 +6,3 @@ mod heaps;
 mod regions;
 
 pub use regions::Regions;
-
-#[cfg(test)]
-mod tests;

@@ -1,7 +1,0 @@
-use Rattle.std.proofs.Common.{sym, subst}
-use Rattle.arena_rules.specs.PlainArena.{IsSound}
-use Rattle.heap_top.proofs.HeapScenes.{sound_rest}
-use Rattle.arena_ground.proofs.tests.drop_second.Goals as goal
-
-pub drop_heap-requires-clause-sound : goal.drop_heap-requires-clause-sound
-drop_heap-requires-clause-sound c = subst IsSound (sym c.requires) sound_rest

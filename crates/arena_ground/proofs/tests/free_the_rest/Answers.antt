@@ -1,7 +1,0 @@
-use Rattle.std.proofs.Common.{sym, subst}
-use Rattle.arena_rules.specs.PlainArena.{IsSound}
-use Rattle.heap_top.proofs.HeapScenes.{sound_heaps}
-use Rattle.arena_ground.proofs.tests.free_the_rest.Goals as goal
-
-pub shelve-requires-clause-sound : goal.shelve-requires-clause-sound
-shelve-requires-clause-sound c = subst IsSound (sym c.requires) sound_heaps

@@ -1,0 +1,3 @@
+mod MainScenes
+mod HeapScenes
+mod GroundScenes

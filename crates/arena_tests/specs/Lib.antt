@@ -1,0 +1,4 @@
+pub mod MainScenes
+pub mod HeapScenes
+pub mod GroundScenes
+pub mod Examples

@@ -1,7 +1,0 @@
-use Rattle.consolidate_trim.proofs.tests.answers.Goals as goal
-
-pub consolidate-requires : goal.consolidate-requires
-consolidate-requires g c = c.in_ok-port.ensures
-
-pub returns : goal.returns
-returns g c = c.consolidate.ensures.keeps.sound

@@ -1,8 +1,0 @@
-use Rattle.std.proofs.Common.{ap}
-use Rattle.chunk_tags.specs.BinOrder.{times_in}
-use Rattle.fast_bins.specs.PlainBins.{FastState, empty_state, chunks_of}
-use Rattle.consolidate_trim.proofs.tests.no_fast_chunks.Goals as goal
-
-pub returns : goal.returns
-unfolding empty_state
-returns c = λ e. ap (λ (s : FastState). times_in e (chunks_of s)) c.new.ensures

@@ -1,5 +1,0 @@
-use Rattle.arena_rules.specs.PlainArena.{IsSound}
-use Rattle.consolidate_trim.proofs.tests.two_fast_bins_are_merged.Given as goal
-
-abbrev pub invariant-loop-nb : goal.invariant-loop-nb
-invariant-loop-nb g l = IsSound l.g.arena

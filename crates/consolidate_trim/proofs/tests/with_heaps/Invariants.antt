@@ -1,5 +1,0 @@
-use Rattle.arena_rules.specs.PlainArena.{IsSound}
-use Rattle.consolidate_trim.proofs.tests.with_heaps.Given as goal
-
-abbrev pub invariant-loop-len : goal.invariant-loop-len
-invariant-loop-len g l = IsSound l.g.arena

@@ -1,7 +1,0 @@
-use Rattle.std.proofs.Common.{None}
-use Rattle.arena_rules.specs.PlainArena.{empty_bins}
-use Rattle.heap_top.proofs.Scenes.{scene_noted}
-use Rattle.heap_top.proofs.tests.note.Goals as goal
-
-pub returns : goal.returns
-returns c = scene_noted c.args.main.now c.note_most.new.self c.args.tiles.now c.requires c.note_most.ensures.top (c.note_most.ensures.arena c.args.tiles.now.tiles empty_bins None)
