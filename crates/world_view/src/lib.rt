@@ -11,6 +11,3 @@ mod shown;
 
 pub use law::laws;
 pub use shown::snapshot;
-
-#[cfg(test)]
-mod tests;

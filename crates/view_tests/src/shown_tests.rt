@@ -5,7 +5,6 @@ ghost use Rattle.std.specs.Option.{ForSome};
 ghost use Rattle.address_space.specs.Spaces.{map_limit};
 ghost use Rattle.block_names.specs.Blocks.{IsHeld};
 
-use super::*;
 use address_space::{Always, HEAPS_START, MAP_START, Space, Windows};
 use arena_choice::{Book, Choice};
 use arena_core::Arena;
@@ -17,6 +16,7 @@ use mapped_chunks::DialState;
 use stats_text::places_text;
 use std::alloc::Global;
 use std::test::Fail;
+use world_view::snapshot;
 
 /// The bytes of each mapping.
 const MAPPING: u64 = 135_168;
