@@ -4,6 +4,7 @@ pub use Rattle.arena_rules.specs.Rules
 pub use Rattle.arena_rules.specs.Trim
 pub mod Outside
 pub mod Holds
+pub mod Lacks
 pub mod FastHolds
 pub mod Merges
 pub mod Trims

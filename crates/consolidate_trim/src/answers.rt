@@ -1,6 +1,7 @@
 //! The answers of a hold, in order.
 
 ghost use Rattle.std.specs.Prelude.{◌≡◌, ◌<◌, ◌≤◌, [], ◌∷◌, ◌++◌, OnOk, OnErr, vec_len, vec_capacity};
+ghost use Rattle.consolidate_trim.specs.Lacks.{IsFull};
 
 use chunk_tags::NoMemory;
 
@@ -10,6 +11,7 @@ pub fn make_room<T>(items: &mut Vec<T>) -> Result<(), NoMemory>
     ensures answers { items.new.items ≡ items.old.items }
     ensures room { OnOk result (vec_len items.new < vec_capacity items.new) }
     ensures full { OnErr result (vec_capacity items.old ≤ vec_len items.old) }
+    ensures lacks { OnErr result (IsFull items.new) }
 {
     if items.len() < items.capacity() {
         return Ok(());

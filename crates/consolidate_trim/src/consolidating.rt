@@ -1,10 +1,11 @@
 //! The fast bins are consolidated.
 
-ghost use Rattle.std.specs.Prelude.{◌≡◌, ◌<◌, length, suc};
+ghost use Rattle.std.specs.Prelude.{◌≡◌, ◌<◌, length, suc, OnErr};
 ghost use Rattle.chunk_tags.specs.BinOrder.{fast_chunk};
 ghost use Rattle.arena_rules.specs.Release.{merging_bin, consolidated};
 ghost use Rattle.consolidate_trim.specs.FastHolds.{Empties, fast_hold};
 ghost use Rattle.consolidate_trim.specs.Holds.{IsBacked, no_chunk};
+ghost use Rattle.consolidate_trim.specs.Lacks.{IsFull};
 
 use crate::answers::{make_room, tell};
 use crate::merging::merge;
@@ -35,9 +36,10 @@ fn merge_bin<M: Moves, P: FastPort>(
 ) -> Result<(), NoMemory>
     requires bin { bin < 10 }
     requires backed { IsBacked P.fast (M.plain g.old) port.old no_chunk }
-    ensures { let before = fast_hold (M.plain g.old) port.old said.old.items in
+    ensures empties { let before = fast_hold (M.plain g.old) port.old said.old.items in
         let after = fast_hold (M.plain g.new) port.new said.new.items in
         Empties P.fast (merging_bin (suc (length before.arena.tiles)) bin before.arena) before result after }
+    ensures lacks { OnErr result (IsFull said.new) }
 {
     loop {
         make_room(said)?;
@@ -58,9 +60,10 @@ pub fn consolidate<M: Moves, P: FastPort>(
     said: &mut Vec<Said>,
 ) -> Result<(), NoMemory>
     requires { IsBacked P.fast (M.plain g.old) port.old no_chunk }
-    ensures { let before = fast_hold (M.plain g.old) port.old said.old.items in
+    ensures empties { let before = fast_hold (M.plain g.old) port.old said.old.items in
         let after = fast_hold (M.plain g.new) port.new said.new.items in
         Empties P.fast (consolidated before.arena) before result after }
+    ensures lacks { OnErr result (IsFull said.new) }
 {
     port.clear_flag();
     for bin in 0..FAST_BINS {

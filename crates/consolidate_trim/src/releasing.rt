@@ -1,6 +1,6 @@
 //! A chunk is given up under its arena's lock.
 
-ghost use Rattle.std.specs.Prelude.{◌≡◌, ◌≤◌, IsTrue};
+ghost use Rattle.std.specs.Prelude.{◌≡◌, ◌≤◌, IsTrue, OnErr};
 ghost use Rattle.arena_rules.specs.PlainArena.{IsSound};
 ghost use Rattle.arena_rules.specs.Release.{settled, given, released, consolidated_if, trimmed_by_threshold};
 ghost use Rattle.arena_rules.specs.Rules.{block_of};
@@ -8,6 +8,7 @@ ghost use Rattle.chunk_tags.specs.Sizes.{IsChunkSize};
 ghost use Rattle.thread_cache.specs.Caches.{CacheValue, has_room, with_newest};
 ghost use Rattle.consolidate_trim.specs.FastHolds.{Empties, fast_hold};
 ghost use Rattle.consolidate_trim.specs.Holds.{GivesUp, IsBacked, hold, no_chunk, one_chunk};
+ghost use Rattle.consolidate_trim.specs.Lacks.{IsFull, LacksRoom};
 ghost use Rattle.consolidate_trim.specs.Merges.{merging_of};
 ghost use Rattle.consolidate_trim.specs.Outside.{Apart, means};
 
@@ -33,9 +34,10 @@ fn consolidate_if<M: Moves, P: FastPort>(
     said: &mut Vec<Said>,
 ) -> Result<(), NoMemory>
     requires { IsBacked P.fast (M.plain g.old) port.old no_chunk }
-    ensures { let before = fast_hold (M.plain g.old) port.old said.old.items in
+    ensures empties { let before = fast_hold (M.plain g.old) port.old said.old.items in
         let after = fast_hold (M.plain g.new) port.new said.new.items in
         Empties P.fast (consolidated_if flag before.arena) before result after }
+    ensures lacks { OnErr result (IsFull said.new) }
 {
     if flag {
         consolidate(g, port, said)
@@ -54,11 +56,12 @@ fn trim_by_threshold<M: Moves, K: Kernel, P: FastPort + Dials>(
 ) -> Result<(), NoMemory>
     requires sound { IsSound (M.plain g.old) }
     requires apart { Apart P.fast P.dials }
-    ensures { (cache : CacheValue) →
+    ensures gives { (cache : CacheValue) →
         let before = hold (M.plain g.old) port.old cache space.old said.old.items in
         let after = hold (M.plain g.new) port.new cache space.new said.new.items in
         GivesUp (means P.fast P.dials K.port) t.now (trimmed_by_threshold t.now before.arena)
         no_chunk before result after }
+    ensures lacks { OnErr result (IsFull said.new) }
 {
     make_room(said)?;
     let threshold = port.trim_threshold();
@@ -83,11 +86,12 @@ pub fn settle<M: Moves, K: Kernel, P: FastPort + Dials>(
 ) -> Result<(), NoMemory>
     requires backed { IsBacked P.fast (M.plain g.old) port.old no_chunk }
     requires apart { Apart P.fast P.dials }
-    ensures { (cache : CacheValue) →
+    ensures gives { (cache : CacheValue) →
         let before = hold (M.plain g.old) port.old cache space.old said.old.items in
         let after = hold (M.plain g.new) port.new cache space.new said.new.items in
         GivesUp (means P.fast P.dials K.port) t.now (settled t.now (merging_of merged before.arena))
         no_chunk before result after }
+    ensures lacks { OnErr result (IsFull said.new) }
 {
     if merged.size().0 < SETTLING_SIZE {
         return Ok(());
@@ -111,11 +115,12 @@ pub fn give<M: Moves, K: Kernel, P: FastPort + Dials>(
 ) -> Result<(), NoMemory>
     requires backed { IsBacked P.fast (M.plain g.old) port.old (one_chunk c) }
     requires apart { Apart P.fast P.dials }
-    ensures { (cache : CacheValue) →
+    ensures gives { (cache : CacheValue) →
         let before = hold (M.plain g.old) port.old cache space.old said.old.items in
         let after = hold (M.plain g.new) port.new cache space.new said.new.items in
         GivesUp (means P.fast P.dials K.port) t.now (given t.now before.arena c)
         (one_chunk c) before result after }
+    ensures lacks { OnErr result (IsFull said.new) }
 {
     let merged = merge(g, c);
     settle(g, merged, port, space, t, said)
@@ -135,10 +140,11 @@ pub fn release<M: Moves, K: Kernel, P: FastPort + Dials>(
     requires backed { IsBacked P.fast (M.plain g.old) port.old (one_chunk c) }
     requires apart { Apart P.fast P.dials }
     requires fast { t.now.max_fast ≤ 160 }
-    ensures { let before = hold (M.plain g.old) port.old cache.old space.old said.old.items in
+    ensures gives { let before = hold (M.plain g.old) port.old cache.old space.old said.old.items in
         let after = hold (M.plain g.new) port.new cache.new space.new said.new.items in
         GivesUp (means P.fast P.dials K.port) t.now (released t.now before.arena c)
         (one_chunk c) before result after }
+    ensures lacks { OnErr result (LacksRoom P.fast port.new said.new) }
 {
     make_room(said)?;
     port.make_room()?;

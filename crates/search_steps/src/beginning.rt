@@ -5,6 +5,7 @@ ghost use Rattle.chunk_tags.specs.Sizes.{IsChunkSize};
 ghost use Rattle.fast_bins.specs.FastPorts as fasts;
 ghost use Rattle.arena_rules.specs.Search.{consolidated_first};
 ghost use Rattle.consolidate_trim.specs.Holds.{IsBacked, no_chunk};
+ghost use Rattle.consolidate_trim.specs.Lacks.{IsFull};
 ghost use Rattle.search_steps.specs.Ledgers.{near_ledger, near, stage};
 ghost use Rattle.search_steps.specs.Steps.{Steps, Sweeps, FitsStep, begun, begun_small};
 
@@ -23,6 +24,7 @@ pub fn ask_flag<P: FastPort>(port: &mut P, said: &mut Vec<Said>) -> Result<bool,
     ensures flag { IfOk result (λ b. fasts.Did P.fast port.old (fasts.Flags b) port.new) }
     ensures port { OnErr result (port.new ≡ port.old) }
     ensures short { OnErr result (said.new.items ≡ said.old.items) }
+    ensures lacks { OnErr result (IsFull said.new) }
 {
     make_room(said)?;
     let flag = port.flag();
@@ -38,8 +40,9 @@ fn consolidate_first<M: Moves, P: FastPort>(
     said: &mut Vec<Said>,
 ) -> Result<(), NoMemory>
     requires { IsBacked P.fast (M.plain g.old) port.old no_chunk }
-    ensures { Sweeps P.fast (consolidated_first nb (M.plain g.old)) (stage (M.plain g.old) port.old said.old.items)
+    ensures sweeps { Sweeps P.fast (consolidated_first nb (M.plain g.old)) (stage (M.plain g.old) port.old said.old.items)
         result (stage (M.plain g.new) port.new said.new.items) }
+    ensures lacks { OnErr result (IsFull said.new) }
 {
     if is_small(nb) {
         return Ok(());
@@ -64,6 +67,7 @@ fn begin_small<M: Moves, P: FastPort>(
         (stage (M.plain g.old) (near port.old cache.old) said.old.items)
         result (stage (M.plain g.new) (near port.new cache.new) said.new.items) }
     ensures fits { IfOk result (FitsStep nb) }
+    ensures lacks { OnErr result (IsFull said.new) }
 {
     match take_small(g, nb, cache, said)? {
         Step::Taken(c) => Ok(Step::Taken(c)),
@@ -91,6 +95,7 @@ pub fn begin<M: Moves, P: FastPort>(
         (stage (M.plain g.old) (near port.old cache.old) said.old.items)
         result (stage (M.plain g.new) (near port.new cache.new) said.new.items) }
     ensures fits { IfOk result (FitsStep nb) }
+    ensures lacks { OnErr result (IsFull said.new) }
 {
     match take_fast(g, nb, cache, port, t, said)? {
         Step::Taken(c) => Ok(Step::Taken(c)),

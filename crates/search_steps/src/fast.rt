@@ -5,6 +5,7 @@ ghost use Rattle.chunk_tags.specs.Sizes.{IsChunkSize};
 ghost use Rattle.fast_bins.specs.FastPorts as fasts;
 ghost use Rattle.arena_rules.specs.Search.{fast_taken};
 ghost use Rattle.consolidate_trim.specs.Holds.{IsBacked, no_chunk};
+ghost use Rattle.consolidate_trim.specs.Lacks.{IsFull};
 ghost use Rattle.search_steps.specs.Ledgers.{near_ledger, near, stage};
 ghost use Rattle.search_steps.specs.Steps.{Steps, StashesFast, FitsStep};
 
@@ -23,6 +24,7 @@ fn pop<P: FastPort>(port: &mut P, bin: u8, said: &mut Vec<Said>) -> Result<Optio
     ensures popped { IfOk result (λ o. fasts.Did P.fast port.old (fasts.Pops bin o) port.new) }
     ensures port { OnErr result (port.new ≡ port.old) }
     ensures short { OnErr result (said.new.items ≡ said.old.items) }
+    ensures lacks { OnErr result (IsFull said.new) }
 {
     make_room(said)?;
     let popped = &port.pop(bin);
@@ -41,8 +43,9 @@ fn stash_fast<M: Moves, P: FastPort>(
     requires backed { IsBacked P.fast (M.plain g.now) port.old no_chunk }
     requires chunk { IsChunkSize nb }
     requires fast { nb ≤ 160 }
-    ensures { StashesFast P.fast nb (stage (M.plain g.now) (near port.old cache.old) said.old.items)
+    ensures stashes { StashesFast P.fast nb (stage (M.plain g.now) (near port.old cache.old) said.old.items)
         result (stage (M.plain g.now) (near port.new cache.new) said.new.items) }
+    ensures lacks { OnErr result (IsFull said.new) }
 {
     'stashing: while ask_room(cache, nb, said)? {
         match pop(port, fast_index(nb), said)? {
@@ -69,6 +72,7 @@ pub fn take_fast<M: Moves, P: FastPort>(
         (stage (M.plain g.now) (near port.old cache.old) said.old.items)
         result (stage (M.plain g.now) (near port.new cache.new) said.new.items) }
     ensures fits { IfOk result (FitsStep nb) }
+    ensures lacks { OnErr result (IsFull said.new) }
 {
     if nb.0 > t.max_fast {
         return Ok(Step::Onward);

@@ -1,10 +1,11 @@
 //! The scan, and what follows it.
 
-ghost use Rattle.std.specs.Prelude.{◌≡◌, false, IfOk};
+ghost use Rattle.std.specs.Prelude.{◌≡◌, false, IfOk, OnErr};
 ghost use Rattle.chunk_tags.specs.Sizes.{IsChunkSize};
 ghost use Rattle.arena_rules.specs.PlainArena.{IsSound};
 ghost use Rattle.arena_rules.specs.Growth.{has_top_for};
 ghost use Rattle.arena_rules.specs.Search.{looked};
+ghost use Rattle.consolidate_trim.specs.Lacks.{IsFull};
 ghost use Rattle.search_steps.specs.Ledgers.{shelf, stage};
 ghost use Rattle.search_steps.specs.Steps.{Steps, FitsStep};
 
@@ -30,6 +31,7 @@ pub fn look<M: Moves>(
 
     // Where it goes on, top can't give so much.
     ensures top { IfOk result (λ s. s ≡ Step.Onward → has_top_for (M.plain g.new) nb ≡ false) }
+    ensures lacks { OnErr result (IsFull said.new) }
 {
     match scan(g, nb, cache, said)? {
         Step::Taken(c) => Ok(Step::Taken(c)),

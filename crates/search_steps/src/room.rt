@@ -7,6 +7,7 @@ ghost use Rattle.thread_cache.specs.Held.{IsSound as IsSoundCache};
 ghost use Rattle.arena_rules.specs.PlainArena.{IsSound, times_listed};
 ghost use Rattle.arena_rules.specs.Moves.{claimed};
 ghost use Rattle.arena_rules.specs.Rules.{block_of};
+ghost use Rattle.consolidate_trim.specs.Lacks.{IsFull};
 
 use arena_rules::{Moves, Said};
 use chunk_tags::{Block, Chunk, NoMemory, Size};
@@ -20,6 +21,7 @@ pub fn ask_room(cache: &Cache, size: Size, said: &mut Vec<Said>) -> Result<bool,
     ensures room { IfOk result (λ b. b ≡ has_room cache.now size) }
     ensures sound { OnOk result (IfSome cache.now IsSoundCache) }
     ensures short { OnErr result (said.new.items ≡ said.old.items) }
+    ensures lacks { OnErr result (IsFull said.new) }
 {
     make_room(said)?;
     let room = cache.has_room(size);

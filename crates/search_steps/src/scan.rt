@@ -1,9 +1,10 @@
 //! The scan of the unsorted chunks.
 
-ghost use Rattle.std.specs.Prelude.{◌≡◌, ◌+◌, ◌≤◌, nat_lt, IfOk, IfSome};
+ghost use Rattle.std.specs.Prelude.{◌≡◌, ◌+◌, ◌≤◌, nat_lt, IfOk, IfSome, OnErr};
 ghost use Rattle.chunk_tags.specs.Sizes.{IsChunkSize, max_cached};
 ghost use Rattle.arena_rules.specs.PlainArena.{IsSound};
 ghost use Rattle.arena_rules.specs.Search.{scanned_all};
+ghost use Rattle.consolidate_trim.specs.Lacks.{IsFull};
 ghost use Rattle.search_steps.specs.Ledgers.{shelf, stage};
 ghost use Rattle.search_steps.specs.Steps.{Steps, FitsStep, is_remainder, drawn, cache_drawn};
 
@@ -61,6 +62,7 @@ pub fn scan<M: Moves>(
     ensures steps { Steps shelf (scanned_all nb (M.plain g.old)) (stage (M.plain g.old) cache.old said.old.items)
         result (stage (M.plain g.new) cache.new said.new.items) }
     ensures fits { IfOk result (FitsStep nb) }
+    ensures lacks { OnErr result (IsFull said.new) }
 {
     let mut sorted = 0;
     let mut stashed = None;

@@ -1,9 +1,10 @@
 //! A small size is taken from its own bin.
 
-ghost use Rattle.std.specs.Prelude.{IsTrue, IfOk};
+ghost use Rattle.std.specs.Prelude.{IsTrue, IfOk, OnErr};
 ghost use Rattle.chunk_tags.specs.Sizes.{IsChunkSize, is_small_size};
 ghost use Rattle.arena_rules.specs.PlainArena.{IsSound};
 ghost use Rattle.arena_rules.specs.Search.{small_taken};
+ghost use Rattle.consolidate_trim.specs.Lacks.{IsFull};
 ghost use Rattle.search_steps.specs.Ledgers.{shelf, stage};
 ghost use Rattle.search_steps.specs.Steps.{Steps, StashesSmall, FitsStep};
 
@@ -23,8 +24,9 @@ fn stash_small<M: Moves>(
     requires sound { IsSound (M.plain g.old) }
     requires chunk { IsChunkSize nb }
     requires small { IsTrue (is_small_size nb) }
-    ensures { StashesSmall nb (stage (M.plain g.old) cache.old said.old.items)
+    ensures stashes { StashesSmall nb (stage (M.plain g.old) cache.old said.old.items)
         result (stage (M.plain g.new) cache.new said.new.items) }
+    ensures lacks { OnErr result (IsFull said.new) }
 {
     'stashing: while ask_room(cache, nb, said)? {
         match g.oldest_small(nb) {
@@ -47,6 +49,7 @@ pub fn take_small<M: Moves>(
     ensures steps { Steps shelf (small_taken nb (M.plain g.old)) (stage (M.plain g.old) cache.old said.old.items)
         result (stage (M.plain g.new) cache.new said.new.items) }
     ensures fits { IfOk result (FitsStep nb) }
+    ensures lacks { OnErr result (IsFull said.new) }
 {
     if !is_small(nb) {
         return Ok(Step::Onward);

@@ -48,7 +48,7 @@ returns-in_err-consolidate-in-Onward-clause-finds g t c =
     let up : c.args.again ≡ suc (c.args.again - 1) = omega arith in
     let set : c.in_ok-ask_flag-in-Onward.field-0 ≡ true = search rules in
     let did = rw set at c.in_ok-ask_flag-in-Onward.ensures.flag in
-    let emptied = rw (c.in_ok-ask_flag-in-Onward.ensures.told, set) at c.in_err-consolidate-in-Onward.ensures in
+    let emptied = rw (c.in_ok-ask_flag-in-Onward.ensures.told, set) at c.in_err-consolidate-in-Onward.ensures.empties in
     again_as _ c.args.t.now c.args.nb c.args.again (c.args.again - 1) _ _ _ c.from_residual-in_err-consolidate-in-Onward.result up
     (consolidate_short _ c.args.t.now c.args.nb (c.args.again - 1) _ _ _ _ _ _ _ _ c.in_err-consolidate-in-Onward.field-0.0 c.from_residual-in_err-consolidate-in-Onward.result c.from_residual-in_err-consolidate-in-Onward.ensures.0 (rw c.in-Onward.is at c.in_ok-c.ensures.steps) did emptied)
 
@@ -56,12 +56,12 @@ pub go_round-requires-clause-ready : goal.go_round-requires-clause-ready
 go_round-requires-clause-ready g t c = λ k l.
     let set : c.in_ok-ask_flag-in-Onward.field-0 ≡ true = search rules in
     let did = rw set at c.in_ok-ask_flag-in-Onward.ensures.flag in
-    let emptied = rw (c.in_ok-ask_flag-in-Onward.ensures.told, set) at c.in_ok-consolidate-in-Onward.ensures in
+    let emptied = rw (c.in_ok-ask_flag-in-Onward.ensures.told, set) at c.in_ok-consolidate-in-Onward.ensures.empties in
     consolidate_ready _ c.args.t.now c.args.nb 0 _ _ _ _ _ _ _ _ c.requires.ready (rw c.in-Onward.is at c.in_ok-c.ensures.steps) did emptied
 
 pub go_round-requires-clause-allows : goal.go_round-requires-clause-allows
 go_round-requires-clause-allows g t c = λ k l.
-    empties_allow serial_values c.requires.apart _ _ _ _ _ _ _ c.in_ok-consolidate-in-Onward.ensures
+    empties_allow serial_values c.requires.apart _ _ _ _ _ _ _ c.in_ok-consolidate-in-Onward.ensures.empties
     (flag_allows c.requires.apart _ _ _ c.in_ok-ask_flag-in-Onward.field-0 c.in_ok-ask_flag-in-Onward.ensures.flag c.requires.allows)
 
 pub returns-in_ok-consolidate-in-Onward-clause-finds : goal.returns-in_ok-consolidate-in-Onward-clause-finds
@@ -69,6 +69,6 @@ returns-in_ok-consolidate-in-Onward-clause-finds g t c =
     let up : c.args.again ≡ suc (c.args.again - 1) = omega arith in
     let set : c.in_ok-ask_flag-in-Onward.field-0 ≡ true = search rules in
     let did = rw set at c.in_ok-ask_flag-in-Onward.ensures.flag in
-    let emptied = rw (c.in_ok-ask_flag-in-Onward.ensures.told, set) at c.in_ok-consolidate-in-Onward.ensures in
+    let emptied = rw (c.in_ok-ask_flag-in-Onward.ensures.told, set) at c.in_ok-consolidate-in-Onward.ensures.empties in
     again_as _ c.args.t.now c.args.nb c.args.again (c.args.again - 1) _ _ _ c.go_round.result up
     (round_again _ c.args.t.now c.args.nb (c.args.again - 1) _ _ _ _ _ _ _ _ _ c.go_round.result (rw c.in-Onward.is at c.in_ok-c.ensures.steps) did emptied c.go_round.ensures.finds)

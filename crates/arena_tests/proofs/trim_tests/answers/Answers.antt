@@ -4,4 +4,4 @@ pub consolidate-requires : goal.consolidate-requires
 consolidate-requires g c = c.in_ok-port.ensures
 
 pub returns : goal.returns
-returns g c = c.consolidate.ensures.keeps.sound
+returns g c = c.consolidate.ensures.empties.keeps.sound

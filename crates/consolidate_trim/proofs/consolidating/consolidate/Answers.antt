@@ -9,13 +9,13 @@ loop-bin-init g c = consolidating_begins c.requires c.clear_flag.ensures
 pub merge_bin-requires-clause-backed : goal.merge_bin-requires-clause-backed
 merge_bin-requires-clause-backed g c = consolidating_backed c.requires c.loop-bin.invariant c.take_all.ensures
 
-pub returns-in_err-merge_bin : goal.returns-in_err-merge_bin
-returns-in_err-merge_bin g c =
+pub returns-in_err-merge_bin-clause-empties : goal.returns-in_err-merge_bin-clause-empties
+returns-in_err-merge_bin-clause-empties g c =
     let p = err_from_is_err_and c.from_residual.result c.from_residual.ensures.1 in
-    consolidating_short _ p.1 (omega arith) c.loop-bin.invariant c.take_all.ensures c.in_err-merge_bin.ensures
+    consolidating_short _ p.1 (omega arith) c.loop-bin.invariant c.take_all.ensures c.in_err-merge_bin.ensures.empties
 
 pub loop-bin-preserved : goal.loop-bin-preserved
-loop-bin-preserved g c = consolidating_further _ (omega arith) c.loop-bin.invariant c.take_all.ensures c.in_ok-merge_bin.ensures
+loop-bin-preserved g c = consolidating_further _ (omega arith) c.loop-bin.invariant c.take_all.ensures c.in_ok-merge_bin.ensures.empties
 
-pub returns : goal.returns
-returns g c = consolidating_ends _ (omega arith) c.loop-bin.invariant
+pub returns-clause-empties : goal.returns-clause-empties
+returns-clause-empties g c = consolidating_ends _ (omega arith) c.loop-bin.invariant

@@ -7,13 +7,13 @@ use Rattle.consolidate_trim.proofs.consolidating.merge_bin.Goals as goal
 pub loop-port-init : goal.loop-port-init
 loop-port-init g c = merging_begins c.args.bin _ c.requires.backed
 
-pub returns-in_err-make_room : goal.returns-in_err-make_room
-returns-in_err-make_room g c =
+pub returns-in_err-make_room-clause-empties : goal.returns-in_err-make_room-clause-empties
+returns-in_err-make_room-clause-empties g c =
     let p = err_from_is_err_and c.from_residual.result c.from_residual.ensures.1 in
     merging_short p.1 (merging_said _ c.make_room.ensures.answers c.loop-port.invariant)
 
-pub returns-in_default : goal.returns-in_default
-returns-in_default g c =
+pub returns-in_default-clause-empties : goal.returns-in_default-clause-empties
+returns-in_default-clause-empties g c =
     merging_ends _ (merging_said _ c.make_room.ensures.answers c.loop-port.invariant) c.in_default.ensures c.tell.ensures
 
 pub merge-requires-clause-own : goal.merge-requires-clause-own

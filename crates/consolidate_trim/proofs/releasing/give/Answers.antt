@@ -8,5 +8,5 @@ merge-merged-requires-clause-own g c = hand_own c.args.c c.requires.backed
 pub settle-requires-clause-backed : goal.settle-requires-clause-backed
 settle-requires-clause-backed g c = λ k l. merge_backed (g.M.Moves.plain c.merge-merged.new.g) c.merge-merged.result c.args.c c.requires.backed c.merge-merged.ensures
 
-pub returns : goal.returns
-returns g c = λ cache. carries_then (passes_merge (g.M.Moves.plain c.merge-merged.new.g) c.merge-merged.result c.args.c c.requires.backed c.merge-merged.ensures) (c.settle.ensures cache)
+pub returns-clause-gives : goal.returns-clause-gives
+returns-clause-gives g c = λ cache. carries_then (passes_merge (g.M.Moves.plain c.merge-merged.new.g) c.merge-merged.result c.args.c c.requires.backed c.merge-merged.ensures) (c.settle.ensures.gives cache)

@@ -18,10 +18,10 @@ release-requires-clause-backed g c = λ k l.
 
 pub returns-in_err-release-clause-cuts : goal.returns-in_err-release-clause-cuts
 returns-in_err-release-clause-cuts g c =
-    let released = rw (c.front_of.ensures, c.part-part.ensures.arena) at c.in_err-release.ensures in
+    let released = rw (c.front_of.ensures, c.part-part.ensures.arena) at c.in_err-release.ensures.gives in
     cuts_short _ c.args.t.now c.args.c.now c.args.lead _ _ c.in_err-release.field-0.0 c.from_residual.result c.from_residual.ensures.0 (closes_some _ c.args.t.now _ _ _ _ _ _ _ _ _ _ _ _ released)
 
 pub returns-clause-cuts : goal.returns-clause-cuts
 returns-clause-cuts g c =
-    let released = rw (c.front_of.ensures, c.part-part.ensures.arena) at c.in_ok-release.ensures in
+    let released = rw (c.front_of.ensures, c.part-part.ensures.arena) at c.in_ok-release.ensures.gives in
     closes_some _ c.args.t.now _ _ _ _ _ _ _ _ _ _ _ _ released

@@ -33,7 +33,7 @@ returns-in_err-release-clause-aligns g c =
     let some : c.has_tail.result ≡ true = search rules in
     let is = sym c.has_tail.ensures ∙ some in
     let cut = can_cut c.args.c.now c.args.nb c.requires.backed c.requires.size.chunk (omega (arith, ltb-true _ _ is)) in
-    let released = rw (c.part-tail.ensures.rest, c.part-tail.ensures.arena) at c.in_err-release.ensures in
+    let released = rw (c.part-tail.ensures.rest, c.part-tail.ensures.arena) at c.in_err-release.ensures.gives in
     tail_short _ c.args.t.now c.args.c.now c.args.nb _ _ c.in_err-release.field-0.0 c.from_residual.result c.from_residual.ensures.0 is cut (closes_some _ c.args.t.now _ _ _ _ _ _ _ _ _ _ _ _ released)
 
 pub returns-clause-aligns : goal.returns-clause-aligns
@@ -41,5 +41,5 @@ returns-clause-aligns g c =
     let some : c.has_tail.result ≡ true = search rules in
     let is = sym c.has_tail.ensures ∙ some in
     let cut = can_cut c.args.c.now c.args.nb c.requires.backed c.requires.size.chunk (omega (arith, ltb-true _ _ is)) in
-    let released = rw (c.part-tail.ensures.rest, c.part-tail.ensures.arena) at c.in_ok-release.ensures in
+    let released = rw (c.part-tail.ensures.rest, c.part-tail.ensures.arena) at c.in_ok-release.ensures.gives in
     rw c.front_of.ensures (tail_goes _ c.args.t.now c.args.c.now c.args.nb _ _ is cut (closes_some _ c.args.t.now _ _ _ _ _ _ _ _ _ _ _ _ released))

@@ -14,8 +14,8 @@ consolidate_first-requires g c = backed_small serial_values c.args.port.now c.re
 pub returns-in_err-consolidate_first-in-Onward-clause-steps : goal.returns-in_err-consolidate_first-in-Onward-clause-steps
 returns-in_err-consolidate_first-in-Onward-clause-steps g c =
     small_sweep_fails g.P.FastPort.fast c.args.nb _ _ _ _ _ _ c.in_err-consolidate_first-in-Onward.field-0.0 c.from_residual-in_err-consolidate_first-in-Onward.result c.from_residual-in_err-consolidate_first-in-Onward.ensures.0
-    (rw c.in-Onward.is at c.in_ok-c.ensures.steps) c.in_err-consolidate_first-in-Onward.ensures
+    (rw c.in-Onward.is at c.in_ok-c.ensures.steps) c.in_err-consolidate_first-in-Onward.ensures.sweeps
 
 pub returns-in_ok-consolidate_first-in-Onward-clause-steps : goal.returns-in_ok-consolidate_first-in-Onward-clause-steps
 returns-in_ok-consolidate_first-in-Onward-clause-steps g c =
-    small_sweeps g.P.FastPort.fast c.args.nb _ _ _ _ _ _ (rw c.in-Onward.is at c.in_ok-c.ensures.steps) c.in_ok-consolidate_first-in-Onward.ensures
+    small_sweeps g.P.FastPort.fast c.args.nb _ _ _ _ _ _ (rw c.in-Onward.is at c.in_ok-c.ensures.steps) c.in_ok-consolidate_first-in-Onward.ensures.sweeps

@@ -5,25 +5,25 @@ use Rattle.search_steps.proofs.fast.stash_fast.Goals as goal
 pub stashing-init : goal.stashing-init
 stashing-init g c = stashing_starts g.P.FastPort.fast c.args.nb _ _ _ c.requires.backed
 
-pub returns-in_err-ask_room : goal.returns-in_err-ask_room
-returns-in_err-ask_room g c =
+pub returns-in_err-ask_room-clause-stashes : goal.returns-in_err-ask_room-clause-stashes
+returns-in_err-ask_room-clause-stashes g c =
     rw c.in_err-ask_room.ensures.short
     (stashing_short g.P.FastPort.fast c.args.nb _ _ _ _ _ c.from_residual.result c.from_residual.ensures.0 c.stashing.invariant)
 
-pub returns : goal.returns
-returns g c =
+pub returns-clause-stashes : goal.returns-clause-stashes
+returns-clause-stashes g c =
     let full : c.in_ok-ask_room.field-0 ≡ false = search rules in
     rw (c.in_ok-ask_room.ensures.told, full)
     (stashing_full g.P.FastPort.fast c.args.nb _ _ _ _ _ c.stashing.invariant (sym full ∙ c.in_ok-ask_room.ensures.room))
 
-pub returns-in_err-at : goal.returns-in_err-at
-returns-in_err-at g c =
+pub returns-in_err-at-clause-stashes : goal.returns-in_err-at-clause-stashes
+returns-in_err-at-clause-stashes g c =
     let room : c.in_ok-ask_room.field-0 ≡ true = search rules in
     rw (c.in_err-at.ensures.port, c.in_err-at.ensures.short, c.in_ok-ask_room.ensures.told, room)
     (stashing_short_of_pop g.P.FastPort.fast c.args.nb _ _ _ _ _ c.from_residual-in_err-at.result c.from_residual-in_err-at.ensures.0 c.stashing.invariant (sym room ∙ c.in_ok-ask_room.ensures.room))
 
-pub returns-in-None : goal.returns-in-None
-returns-in-None g c =
+pub returns-in-None-clause-stashes : goal.returns-in-None-clause-stashes
+returns-in-None-clause-stashes g c =
     let room : c.in_ok-ask_room.field-0 ≡ true = search rules in
     let did = rw (c.fast_index.ensures, c.in-None.is) at c.in_ok-at.ensures.popped in
     rw (c.in_ok-at.ensures.told, c.in-None.is, c.in_ok-ask_room.ensures.told, room)

@@ -25,13 +25,13 @@ stash_fast-requires-clause-backed g c =
 pub returns-in_ok-stash_fast-in-Some-clause-steps : goal.returns-in_ok-stash_fast-in-Some-clause-steps
 returns-in_ok-stash_fast-in-Some-clause-steps g c =
     let did = rw (c.fast_index.ensures, c.in-Some.is) at c.in_ok-at.ensures.popped in
-    let stashes = rw (c.in_ok-at.ensures.told, c.in-Some.is) at c.in_ok-stash_fast-in-Some.ensures in
+    let stashes = rw (c.in_ok-at.ensures.told, c.in-Some.is) at c.in_ok-stash_fast-in-Some.ensures.stashes in
     fast_found g.P.FastPort.fast c.args.t.now c.args.nb c.in-Some.at _ _ _ _ _ _ _ c.requires.chunk c.requires.backed (omega arith) did stashes
 
 pub returns-in_err-stash_fast-in-Some-clause-steps : goal.returns-in_err-stash_fast-in-Some-clause-steps
 returns-in_err-stash_fast-in-Some-clause-steps g c =
     let did = rw (c.fast_index.ensures, c.in-Some.is) at c.in_ok-at.ensures.popped in
-    let stashes = rw (c.in_ok-at.ensures.told, c.in-Some.is) at c.in_err-stash_fast-in-Some.ensures in
+    let stashes = rw (c.in_ok-at.ensures.told, c.in-Some.is) at c.in_err-stash_fast-in-Some.ensures.stashes in
     fast_lost g.P.FastPort.fast c.args.t.now c.args.nb c.in-Some.at _ _ _ _ _ _ _ c.from_residual-in_err-stash_fast-in-Some.result c.in_err-stash_fast-in-Some.field-0.0 c.from_residual-in_err-stash_fast-in-Some.ensures.0 c.requires.chunk c.requires.backed (omega arith) did stashes
 
 pub returns-in_ok-stash_fast-in-Some-clause-fits : goal.returns-in_ok-stash_fast-in-Some-clause-fits

@@ -20,12 +20,12 @@ stash_small-requires-clause-sound g c =
 pub returns-in_err-stash_small-in-Some-clause-steps : goal.returns-in_err-stash_small-in-Some-clause-steps
 returns-in_err-stash_small-in-Some-clause-steps g c =
     let small : IsTrue (is_small_size c.args.nb) = grind arith in
-    small_short c.args.nb _ c.in-Some.first _ c.from_residual.result c.in_err-stash_small-in-Some.field-0.0 c.from_residual.ensures.0 c.requires.sound small (sym c.oldest_small.ensures ∙ c.in-Some.is) (rw c.claim.ensures at c.in_err-stash_small-in-Some.ensures)
+    small_short c.args.nb _ c.in-Some.first _ c.from_residual.result c.in_err-stash_small-in-Some.field-0.0 c.from_residual.ensures.0 c.requires.sound small (sym c.oldest_small.ensures ∙ c.in-Some.is) (rw c.claim.ensures at c.in_err-stash_small-in-Some.ensures.stashes)
 
 pub returns-in_ok-stash_small-in-Some-clause-steps : goal.returns-in_ok-stash_small-in-Some-clause-steps
 returns-in_ok-stash_small-in-Some-clause-steps g c =
     let small : IsTrue (is_small_size c.args.nb) = grind arith in
-    small_found c.args.nb _ c.in-Some.first _ c.requires.sound small (sym c.oldest_small.ensures ∙ c.in-Some.is) (rw c.claim.ensures at c.in_ok-stash_small-in-Some.ensures)
+    small_found c.args.nb _ c.in-Some.first _ c.requires.sound small (sym c.oldest_small.ensures ∙ c.in-Some.is) (rw c.claim.ensures at c.in_ok-stash_small-in-Some.ensures.stashes)
 
 pub returns-in-None-clause-steps : goal.returns-in-None-clause-steps
 returns-in-None-clause-steps g c =
