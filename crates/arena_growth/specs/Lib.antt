@@ -4,3 +4,4 @@ pub use Rattle.arena_rules.specs.Growth
 pub use Rattle.search_steps.specs.Ledgers
 pub mod Asking
 pub mod FirstHeap
+pub mod Lacks

@@ -1,10 +1,11 @@
 //! What a growth ends with: an old top is closed, and a chunk is cut from the new one.
 
-ghost use Rattle.std.specs.Prelude.{◌≤◌};
+ghost use Rattle.std.specs.Prelude.{◌≤◌, OnErr};
 ghost use Rattle.chunk_tags.specs.Sizes.{IsRequestSize};
 ghost use Rattle.arena_rules.specs.PlainArena.{IsSound};
 ghost use Rattle.consolidate_trim.specs.Holds.{IsBacked};
 ghost use Rattle.consolidate_trim.specs.Outside.{Apart, means};
+ghost use Rattle.consolidate_trim.specs.Lacks.{LacksRoom};
 ghost use Rattle.search_steps.specs.Ledgers.{stage};
 ghost use Rattle.arena_growth.specs.Asking.{Closes, CutsFromGrown, FitsFound, beside_arena, chunks_in};
 
@@ -31,9 +32,10 @@ pub fn close<M: Moves, K: Kernel, P: FastPort + Dials>(
     requires backed { IsBacked P.fast (M.plain g.old) port.old (chunks_in rest) }
     requires apart { Apart P.fast P.dials }
     requires fast { t.now.max_fast ≤ 160 }
-    ensures { Closes (means P.fast P.dials K.port) t.now rest
+    ensures closes { Closes (means P.fast P.dials K.port) t.now rest
         (stage (M.plain g.old) (beside_arena port.old cache.old space.old) said.old.items)
         result (stage (M.plain g.new) (beside_arena port.new cache.new space.new) said.new.items) }
+    ensures lacks { OnErr result (LacksRoom P.fast port.new said.new) }
 {
     match rest {
         Some(c) => release(g, c, cache, port, space, t, said),

@@ -1,11 +1,12 @@
 //! An arena grows, and a chunk is cut from its top.
 
-ghost use Rattle.std.specs.Prelude.{◌≡◌, false, IfOk};
+ghost use Rattle.std.specs.Prelude.{◌≡◌, false, IfOk, OnErr};
 ghost use Rattle.chunk_tags.specs.Sizes.{IsRequestSize};
 ghost use Rattle.arena_rules.specs.Growth.{has_top_for, piece_grown, main_grown, grown};
 ghost use Rattle.consolidate_trim.specs.Outside.{Apart, means};
 ghost use Rattle.search_steps.specs.Ledgers.{stage};
 ghost use Rattle.arena_growth.specs.Asking.{IsSearchable, IsReady, IsMainReady, AllowsMaps, Grows, Finds, FitsFound, beside_arena};
+ghost use Rattle.arena_growth.specs.Lacks.{Lacks, word_room};
 
 use crate::closing::{close, cut_from_grown};
 use crate::found::Found;
@@ -35,9 +36,11 @@ fn grow_piece<M: Moves, K: Kernel, P: FastPort + Dials>(
     requires tuned { IsSearchable t.now }
     requires size { IsRequestSize nb }
     requires short { has_top_for (M.plain g.old) nb ≡ false }
-    ensures { Grows (means P.fast P.dials K.port) t.now (piece_grown t.now nb (M.plain g.old))
+    ensures grows { Grows (means P.fast P.dials K.port) t.now (piece_grown t.now nb (M.plain g.old))
         (stage (M.plain g.old) (beside_arena port.old cache.old space.old) said.old.items)
         result (stage (M.plain g.new) (beside_arena port.new cache.new space.new) said.new.items) }
+    ensures lacks { let room = word_room M.break_room M.piece_room M.extension_room M.heap_room in
+        OnErr result (Lacks room P.fast t.now nb (M.plain g.new) g.new port.new said.new) }
 {
     let len = piece_for(g, nb, t);
     if !ask_piece(g, len, space, t, said)? {
@@ -65,9 +68,11 @@ fn grow_main<M: Moves, K: Kernel, P: FastPort + Dials>(
     requires tuned { IsSearchable t.now }
     requires size { IsRequestSize nb }
     requires short { has_top_for (M.plain g.old) nb ≡ false }
-    ensures { Grows (means P.fast P.dials K.port) t.now (main_grown turns t.now nb (M.plain g.old))
+    ensures grows { Grows (means P.fast P.dials K.port) t.now (main_grown turns t.now nb (M.plain g.old))
         (stage (M.plain g.old) (beside_arena port.old cache.old space.old) said.old.items)
         result (stage (M.plain g.new) (beside_arena port.new cache.new space.new) said.new.items) }
+    ensures lacks { let room = word_room M.break_room M.piece_room M.extension_room M.heap_room in
+        OnErr result (Lacks room P.fast t.now nb (M.plain g.new) g.new port.new said.new) }
 {
     if turns == 0 {
         return Ok(());
@@ -107,6 +112,8 @@ pub fn grow<M: Moves, K: Kernel, P: FastPort + Dials>(
         (stage (M.plain g.old) (beside_arena port.old cache.old space.old) said.old.items)
         result (stage (M.plain g.new) (beside_arena port.new cache.new space.new) said.new.items) }
     ensures fits { IfOk result (FitsFound nb) }
+    ensures lacks { let room = word_room M.break_room M.piece_room M.extension_room M.heap_room in
+        OnErr result (Lacks room P.fast t.now nb (M.plain g.new) g.new port.new said.new) }
 {
     if g.number() != 0 {
         return grow_other(g, nb, tried, cache, port, space, t, said);

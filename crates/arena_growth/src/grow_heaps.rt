@@ -1,12 +1,13 @@
 //! The heaps of another arena grow.
 
-ghost use Rattle.std.specs.Prelude.{◌≡◌, false, IfOk};
+ghost use Rattle.std.specs.Prelude.{◌≡◌, false, IfOk, OnErr};
 ghost use Rattle.chunk_tags.specs.Sizes.{IsRequestSize};
 ghost use Rattle.arena_rules.specs.PlainArena.{is_main};
 ghost use Rattle.arena_rules.specs.Growth.{has_top_for, grown_again, maps_else, other_grown};
 ghost use Rattle.consolidate_trim.specs.Outside.{Apart, means};
 ghost use Rattle.search_steps.specs.Ledgers.{stage};
 ghost use Rattle.arena_growth.specs.Asking.{IsSearchable, IsReady, AllowsMaps, GrowsHeaps, Finds, FitsFound, beside_arena};
+ghost use Rattle.arena_growth.specs.Lacks.{Lacks, word_room};
 
 use crate::closing::{close, cut_from_grown};
 use crate::found::Found;
@@ -37,9 +38,11 @@ fn grow_heaps<M: Moves, K: Kernel, P: FastPort + Dials>(
     requires tuned { IsSearchable t.now }
     requires size { IsRequestSize nb }
     requires short { has_top_for (M.plain g.old) nb ≡ false }
-    ensures { GrowsHeaps (means P.fast P.dials K.port) t.now nb
+    ensures grows { GrowsHeaps (means P.fast P.dials K.port) t.now nb
         (stage (M.plain g.old) (beside_arena port.old cache.old space.old) said.old.items)
         result (stage (M.plain g.new) (beside_arena port.new cache.new space.new) said.new.items) }
+    ensures lacks { let room = word_room M.break_room M.piece_room M.extension_room M.heap_room in
+        OnErr result (Lacks room P.fast t.now nb (M.plain g.new) g.new port.new said.new) }
 {
     let growth = extension_for(g, nb);
     if ask_extension(g, growth, space, t, said)? {
@@ -76,6 +79,8 @@ fn grow_again<M: Moves, K: Kernel, P: FastPort + Dials>(
         (stage (M.plain g.old) (beside_arena port.old cache.old space.old) said.old.items)
         result (stage (M.plain g.new) (beside_arena port.new cache.new space.new) said.new.items) }
     ensures fits { IfOk result (FitsFound nb) }
+    ensures lacks { let room = word_room M.break_room M.piece_room M.extension_room M.heap_room in
+        OnErr result (Lacks room P.fast t.now nb (M.plain g.new) g.new port.new said.new) }
 {
     grow_heaps(g, nb, cache, port, space, t, said)?;
     Ok(cut_from_grown(g, nb))
@@ -104,6 +109,8 @@ fn map_or_grow_again<M: Moves, K: Kernel, P: FastPort + Dials>(
         (stage a (beside_arena port.old cache.old space.old) said.old.items)
         result (stage (M.plain g.new) (beside_arena port.new cache.new space.new) said.new.items) }
     ensures fits { IfOk result (FitsFound nb) }
+    ensures lacks { let room = word_room M.break_room M.piece_room M.extension_room M.heap_room in
+        OnErr result (Lacks room P.fast t.now nb (M.plain g.new) g.new port.new said.new) }
 {
     match ask_mapping(nb, port, space, said)? {
         Some(c) => Ok(Found::InMapping(c)),
@@ -135,6 +142,8 @@ pub fn grow_other<M: Moves, K: Kernel, P: FastPort + Dials>(
         (stage (M.plain g.old) (beside_arena port.old cache.old space.old) said.old.items)
         result (stage (M.plain g.new) (beside_arena port.new cache.new space.new) said.new.items) }
     ensures fits { IfOk result (FitsFound nb) }
+    ensures lacks { let room = word_room M.break_room M.piece_room M.extension_room M.heap_room in
+        OnErr result (Lacks room P.fast t.now nb (M.plain g.new) g.new port.new said.new) }
 {
     let grown = grow_heaps(g, nb, cache, port, space, t, said)?;
     if grown || tried {

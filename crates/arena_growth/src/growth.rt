@@ -1,12 +1,13 @@
 //! Main grows.
 
-ghost use Rattle.std.specs.Prelude.{◌≡◌, ◌+◌, ◌%◌, ◌<◌, ◌≤◌, ◌^◌, true, false, IsTrue, IfOk, OnOk};
+ghost use Rattle.std.specs.Prelude.{◌≡◌, ◌+◌, ◌%◌, ◌<◌, ◌≤◌, ◌^◌, true, false, IsTrue, IfOk, OnOk, OnErr, ◌⊎◌};
 ghost use Rattle.address_space.specs.Spaces.{break_passes, piece_passes};
 ghost use Rattle.address_space.specs.declared.asks.Ask.TheVariants as asks;
 ghost use Rattle.arena_rules.specs.PlainArena.{is_main};
 ghost use Rattle.arena_rules.specs.MainPlaces.{IsPlaced};
 ghost use Rattle.arena_rules.specs.Growth.{main_growth, piece_length, has_top_for, top_part};
 ghost use Rattle.arena_rules.specs.Rules.{windows_of};
+ghost use Rattle.consolidate_trim.specs.Lacks.{IsFull};
 ghost use Rattle.arena_growth.specs.Asking.{IsSearchable, AsksFor};
 
 use address_space::{Answer, Ask, Kernel, MAIN_START, PIECE_START, Space};
@@ -48,6 +49,7 @@ fn make_break_room<M: Moves>(g: &mut M, growth: u64, t: &Tunables) -> Result<(),
         (break_passes (windows_of t.now) ((M.plain g.old).break_at + growth) ≡ false
         → M.break_room g.new growth) }
     ensures arena { M.plain g.new ≡ M.plain g.old }
+    ensures full { OnErr result (M.break_room g.new growth → ⊥) }
 {
     if g.break_at() + growth - MAIN_START > t.main_max {
         return Ok(());
@@ -75,6 +77,7 @@ pub fn ask_break<M: Moves, K: Kernel>(
         result space.new said.new.items }
     ensures room { IfOk result (λ granted. granted ≡ true → M.break_room g.new growth) }
     ensures arena { M.plain g.new ≡ M.plain g.old }
+    ensures lacks { OnErr result (IsFull said.new ⊎ (M.break_room g.new growth → ⊥)) }
 {
     make_break_room(g, growth, t)?;
     make_room(said)?;
@@ -114,6 +117,7 @@ fn make_piece_room<M: Moves>(g: &mut M, len: u64, t: &Tunables) -> Result<(), No
         (piece_passes (windows_of t.now) (M.plain g.old).next_piece len ≡ false
         → M.piece_room g.new len) }
     ensures arena { M.plain g.new ≡ M.plain g.old }
+    ensures full { OnErr result (M.piece_room g.new len → ⊥) }
 {
     if g.next_piece() + len - PIECE_START > t.main_max {
         return Ok(());
@@ -140,6 +144,7 @@ pub fn ask_piece<M: Moves, K: Kernel>(
         result space.new said.new.items }
     ensures room { IfOk result (λ granted. granted ≡ true → M.piece_room g.new len) }
     ensures arena { M.plain g.new ≡ M.plain g.old }
+    ensures lacks { OnErr result (IsFull said.new ⊎ (M.piece_room g.new len → ⊥)) }
 {
     make_piece_room(g, len, t)?;
     make_room(said)?;

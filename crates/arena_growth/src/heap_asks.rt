@@ -1,12 +1,13 @@
 //! The heaps of another arena are asked for.
 
-ghost use Rattle.std.specs.Prelude.{◌≡◌, ◌+◌, ◌-◌, ◌%◌, ◌<◌, ◌≤◌, ◌^◌, true, false, IfOk, OnOk};
+ghost use Rattle.std.specs.Prelude.{◌≡◌, ◌+◌, ◌-◌, ◌%◌, ◌<◌, ◌≤◌, ◌^◌, true, false, IfOk, OnOk, OnErr, ◌⊎◌};
 ghost use Rattle.address_space.specs.declared.asks.Ask.TheVariants as asks;
 ghost use Rattle.arena_rules.specs.PlainArena.{is_main};
 ghost use Rattle.arena_rules.specs.Heaps.{last_heap, last_length};
 ghost use Rattle.arena_rules.specs.HeapPlaces.{IsHeapLength};
 ghost use Rattle.arena_rules.specs.Growth.{extension_bytes, first_length};
 ghost use Rattle.arena_rules.specs.Rules.{heap_windows_of, windows_of};
+ghost use Rattle.consolidate_trim.specs.Lacks.{IsFull};
 ghost use Rattle.arena_growth.specs.Asking.{AsksFor};
 
 use address_space::{Answer, Ask, Kernel, Space};
@@ -71,6 +72,7 @@ fn make_extension_room<M: Moves>(g: &mut M, growth: u64) -> Result<(), NoMemory>
         (last_length (M.plain g.old) + growth ≤ (M.plain g.old).windows.heap_max
         → M.extension_room g.new growth) }
     ensures arena { M.plain g.new ≡ M.plain g.old }
+    ensures full { OnErr result (M.extension_room g.new growth → ⊥) }
 {
     if g.last_length() + growth > g.heap_max() {
         return Ok(());
@@ -97,6 +99,7 @@ pub fn ask_extension<M: Moves, K: Kernel>(
         space.old said.old.items result space.new said.new.items }
     ensures room { IfOk result (λ granted. granted ≡ true → M.extension_room g.new growth) }
     ensures arena { M.plain g.new ≡ M.plain g.old }
+    ensures lacks { OnErr result (IsFull said.new ⊎ (M.extension_room g.new growth → ⊥)) }
 {
     make_extension_room(g, growth)?;
     make_room(said)?;
@@ -132,6 +135,7 @@ fn make_heap_room<M: Moves>(g: &mut M, len: u64) -> Result<(), NoMemory>
         → last_heap (M.plain g.old) + 1 < (M.plain g.old).windows.heaps
         → M.heap_room g.new len) }
     ensures arena { M.plain g.new ≡ M.plain g.old }
+    ensures full { OnErr result (M.heap_room g.new len → ⊥) }
 {
     if len > g.heap_max() || g.last_heap() + 1 >= g.heaps() {
         return Ok(());
@@ -157,6 +161,7 @@ pub fn ask_heap<M: Moves, K: Kernel>(
         space.old said.old.items result space.new said.new.items }
     ensures room { IfOk result (λ granted. granted ≡ true → M.heap_room g.new len) }
     ensures arena { M.plain g.new ≡ M.plain g.old }
+    ensures lacks { OnErr result (IsFull said.new ⊎ (M.heap_room g.new len → ⊥)) }
 {
     make_heap_room(g, len)?;
     make_room(said)?;

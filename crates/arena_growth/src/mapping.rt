@@ -5,6 +5,7 @@ ghost use Rattle.chunk_tags.specs.Dials as words;
 ghost use Rattle.chunk_tags.specs.Sizes.{IsRequestSize};
 ghost use Rattle.mapped_chunks.specs.DialPorts as steps;
 ghost use Rattle.consolidate_trim.specs.Outside.{Apart, means};
+ghost use Rattle.consolidate_trim.specs.Lacks.{IsFull};
 ghost use Rattle.arena_growth.specs.Asking.{AllowsMaps, AsksMapping, AsksWhether, IsEnoughMapped};
 
 use address_space::{Answer, Ask, Kernel, Space};
@@ -27,6 +28,7 @@ pub fn ask_mapping<K: Kernel, P: FastPort + Dials>(
     ensures asks { AsksMapping (means P.fast P.dials K.port) nb port.old space.old said.old.items
         result port.new space.new said.new.items }
     ensures fits { IfOk result (λ mapped. IfSome mapped (IsEnoughMapped nb)) }
+    ensures lacks { OnErr result (IsFull said.new) }
 {
     make_room(said)?;
     let len = page_up(nb.0 + 8);
@@ -52,6 +54,7 @@ fn read_threshold<P: Dials>(port: &mut P, said: &mut Vec<Said>) -> Result<u64, N
     ensures step { IfOk result (λ n. P.dials.step port.old (steps.Reads words.MmapThreshold n) port.new) }
     ensures port { OnErr result (port.new ≡ port.old) }
     ensures short { OnErr result (said.new.items ≡ said.old.items) }
+    ensures lacks { OnErr result (IsFull said.new) }
 {
     make_room(said)?;
     let threshold = port.mmap_threshold();
@@ -65,6 +68,7 @@ fn read_count<P: Dials>(port: &mut P, said: &mut Vec<Said>) -> Result<u64, NoMem
     ensures step { IfOk result (λ n. P.dials.step port.old (steps.Reads words.MappedCount n) port.new) }
     ensures port { OnErr result (port.new ≡ port.old) }
     ensures short { OnErr result (said.new.items ≡ said.old.items) }
+    ensures lacks { OnErr result (IsFull said.new) }
 {
     make_room(said)?;
     let count = port.mapped_count();
@@ -81,7 +85,8 @@ pub fn maps_first<P: FastPort + Dials>(
     said: &mut Vec<Said>,
 ) -> Result<bool, NoMemory>
     requires { Apart P.fast P.dials }
-    ensures { AsksWhether P.fast P.dials t.now nb port.old said.old.items result port.new said.new.items }
+    ensures asks { AsksWhether P.fast P.dials t.now nb port.old said.old.items result port.new said.new.items }
+    ensures lacks { OnErr result (IsFull said.new) }
 {
     if nb.0 < read_threshold(port, said)? {
         return Ok(false);

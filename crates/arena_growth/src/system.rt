@@ -1,6 +1,6 @@
 //! The system is asked.
 
-ghost use Rattle.std.specs.Prelude.{◌≡◌, true, false, IfOk};
+ghost use Rattle.std.specs.Prelude.{◌≡◌, true, false, IfOk, OnErr};
 ghost use Rattle.chunk_tags.specs.Sizes.{IsRequestSize};
 ghost use Rattle.address_space.specs.Ports.{Rose};
 ghost use Rattle.address_space.specs.Spaces.{space_refusals};
@@ -8,6 +8,7 @@ ghost use Rattle.arena_rules.specs.Growth.{has_top_for, grown, maps_else, system
 ghost use Rattle.consolidate_trim.specs.Outside.{Apart, means};
 ghost use Rattle.search_steps.specs.Ledgers.{stage};
 ghost use Rattle.arena_growth.specs.Asking.{IsSearchable, IsReady, AllowsMaps, Finds, FitsFound, beside_arena};
+ghost use Rattle.arena_growth.specs.Lacks.{Lacks, word_room};
 
 use crate::found::Found;
 use crate::grow::grow;
@@ -41,6 +42,8 @@ fn map_or_grow<M: Moves, K: Kernel, P: FastPort + Dials>(
         (stage a (beside_arena port.old cache.old space.old) said.old.items)
         result (stage (M.plain g.new) (beside_arena port.new cache.new space.new) said.new.items) }
     ensures fits { IfOk result (FitsFound nb) }
+    ensures lacks { let room = word_room M.break_room M.piece_room M.extension_room M.heap_room in
+        OnErr result (Lacks room P.fast t.now nb (M.plain g.new) g.new port.new said.new) }
 {
     match ask_mapping(nb, port, space, said)? {
         Some(c) => Ok(Found::InMapping(c)),
@@ -72,6 +75,8 @@ pub fn ask_system<M: Moves, K: Kernel, P: FastPort + Dials>(
     ensures fits { IfOk result (FitsFound nb) }
     ensures refused { IfOk result (λ found. found ≡ Found.Nowhere
         → Rose (space_refusals K.port space.old) (space_refusals K.port space.new)) }
+    ensures lacks { let room = word_room M.break_room M.piece_room M.extension_room M.heap_room in
+        OnErr result (Lacks room P.fast t.now nb (M.plain g.new) g.new port.new said.new) }
 {
     g.top_law();
     if maps_first(nb, port, t, said)? {

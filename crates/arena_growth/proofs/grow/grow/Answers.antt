@@ -11,9 +11,9 @@ returns-then-number-ne0-clause-finds g c =
 pub returns-in_err-grow_main-clause-finds : goal.returns-in_err-grow_main-clause-finds
 returns-in_err-grow_main-clause-finds g c =
     let main = main_by_number (g.M.Moves.plain c.args.g.now) _ c.number.ensures c.if-number-ne0.false in
-    main_short _ c.args.t.now c.args.nb c.args.tried _ _ c.in_err-grow_main.field-0.0 c.from_residual.result c.from_residual.ensures.0 main c.in_err-grow_main.ensures
+    main_short _ c.args.t.now c.args.nb c.args.tried _ _ c.in_err-grow_main.field-0.0 c.from_residual.result c.from_residual.ensures.0 main c.in_err-grow_main.ensures.grows
 
 pub returns-clause-finds : goal.returns-clause-finds
 returns-clause-finds g c =
     let main = main_by_number (g.M.Moves.plain c.args.g.now) _ c.number.ensures c.if-number-ne0.false in
-    main_ends _ c.args.t.now c.args.nb c.args.tried _ _ _ c.cut_from_grown.result main c.in_ok-grow_main.ensures c.cut_from_grown.ensures.cut
+    main_ends _ c.args.t.now c.args.nb c.args.tried _ _ _ c.cut_from_grown.result main c.in_ok-grow_main.ensures.grows c.cut_from_grown.ensures.cut
