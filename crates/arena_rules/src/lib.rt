@@ -4,6 +4,7 @@
 //! alignment). The crates above keep their contracts by them.
 #![tactic(auto)]
 
+mod boxed;
 mod heap_end;
 mod moves;
 mod said;

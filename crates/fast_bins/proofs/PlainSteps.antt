@@ -8,7 +8,7 @@ use Rattle.std.proofs.lemmas.List.Sums.{sum_by-append}
 use Rattle.chunk_tags.specs.BinOrder.{times_in, same_chunk, fast_chunk, once}
 use Rattle.chunk_tags.specs.declared.tiles.Chunk.{Chunk}
 use Rattle.fast_bins.specs.FastPorts.{FastStep, Pushes, Pops, Gathers, Owns, Did, times_given, times_put, leaves_room}
-use Rattle.fast_bins.specs.PlainBins.{FastBin, FastState, RoomyBin, PlainBins, empty_bin, no_bin, listed, bin_at, pushed, front_of, without_front, gathered, own_front, without_own, on_bin, Tells, after_step, chunks_from, has_room, state_of, plain_fast}
+use Rattle.fast_bins.specs.PlainBins.{FastBin, FastState, RoomyBin, PlainBins, empty_bin, no_bin, listed, bin_at, pushed, front_of, without_front, gathered, own_front, without_own, on_bin, Tells, after_step, chunks_from, has_room, state_of, ten_bins, plain_fast}
 
 -- b is the bin at an index
 pub record Reads (p : PlainBins) (i : ℕ) (b : RoomyBin) : Type 0 where
@@ -157,10 +157,10 @@ turns_by_own i b b' e room within = record {
 
 -- The steps of the port: b is the bin with that index, b' what becomes of it.
 
-pub pushes : (p : PlainBins) (i at : ℕ) (b b' : RoomyBin) → Reads p i b → b'.bin ≡ pushed at b.bin → Did plain_fast p (Pushes i at) (record { flag = true; bins = set p.bins i b' })
+pushes : (p : PlainBins) (i at : ℕ) (b b' : RoomyBin) → Reads p i b → b'.bin ≡ pushed at b.bin → Did plain_fast p (Pushes i at) (record { flag = true; bins = set p.bins i b' })
 pushes p i at b b' r e = did_at p (Pushes i at) i (pushed at) b b' true r (turns_by_push i at b b' e) tt refl
 
-pub gathers : (p : PlainBins) (i : ℕ) (b b' : RoomyBin) → Reads p i b → b'.bin ≡ gathered b.bin → b'.room ≡ b.room → Did plain_fast p (Gathers i) (record p { bins = set p.bins i b' })
+gathers : (p : PlainBins) (i : ℕ) (b b' : RoomyBin) → Reads p i b → b'.bin ≡ gathered b.bin → b'.room ≡ b.room → Did plain_fast p (Gathers i) (record p { bins = set p.bins i b' })
 gathers p i b b' r e room = did_at p (Gathers i) i gathered b b' p.flag r (turns_by_gather i b b' e room) tt refl
 
 -- what a pop leaves of a bin
@@ -169,12 +169,56 @@ pub record Pulls (f : FastBin → FastBin) (b b' : RoomyBin) : Type 0 where
   pub room : b'.room ≡ b.room
   pub within : length (listed b.bin) ≤ b.room
 
-pub pops : (p : PlainBins) (i : ℕ) (b b' : RoomyBin) (answer : Option ℕ) → Reads p i b → answer ≡ front_of b.bin → Pulls without_front b b' → Did plain_fast p (Pops i answer) (record p { bins = set p.bins i b' })
+pops : (p : PlainBins) (i : ℕ) (b b' : RoomyBin) (answer : Option ℕ) → Reads p i b → answer ≡ front_of b.bin → Pulls without_front b b' → Did plain_fast p (Pops i answer) (record p { bins = set p.bins i b' })
 pops p i b b' answer r e pulls =
     subst (λ o. Did plain_fast p (Pops i o) (record p { bins = set p.bins i b' })) (sym e)
     (did_at p (Pops i (front_of b.bin)) i without_front b b' p.flag r (turns_by_pop i b b' pulls.bin pulls.room pulls.within) (ap front_of (sym (bin_read p i b r))) refl)
 
-pub pops_own : (p : PlainBins) (i : ℕ) (b b' : RoomyBin) (answer : Option ℕ) → Reads p i b → answer ≡ own_front b.bin → Pulls without_own b b' → Did plain_fast p (Owns i answer) (record p { bins = set p.bins i b' })
+pops_own : (p : PlainBins) (i : ℕ) (b b' : RoomyBin) (answer : Option ℕ) → Reads p i b → answer ≡ own_front b.bin → Pulls without_own b b' → Did plain_fast p (Owns i answer) (record p { bins = set p.bins i b' })
 pops_own p i b b' answer r e pulls =
     subst (λ o. Did plain_fast p (Owns i o) (record p { bins = set p.bins i b' })) (sym e)
     (did_at p (Owns i (own_front b.bin)) i without_own b b' p.flag r (turns_by_own i b b' pulls.bin pulls.room pulls.within) (ap own_front (sym (bin_read p i b r))) refl)
+
+-- ---- bins that are kept in a list, which may be empty
+
+ten_here : (bins : List RoomyBin) (i : ℕ) → i < length bins → ten_bins bins ≡ bins
+ten_here [] i below = absurd (omega (arith, below))
+ten_here (b ∷ bins) i below = refl
+
+ten_set : (bins : List RoomyBin) (i : ℕ) (b : RoomyBin) → i < length bins → set (ten_bins bins) i b ≡ ten_bins (set bins i b)
+ten_set [] i b below = absurd (omega (arith, below))
+ten_set (b' ∷ bins) zero b below = refl
+ten_set (b' ∷ bins) (suc i) b below = refl
+
+abbrev kept : Bool → List RoomyBin → PlainBins
+kept flag bins = record { flag = flag; bins = ten_bins bins }
+
+-- b is read from that list
+read_kept : (flag : Bool) (bins : List RoomyBin) (i : ℕ) (b : RoomyBin) → i < length bins → b ≡ get_or bins i b → Reads (kept flag bins) i b
+read_kept flag bins i b below read =
+    let here : ten_bins bins ≡ bins = ten_here bins i below in
+    record {
+      below = omega (arith, below, ap (λ (bs : List RoomyBin). length bs) here);
+      read = ap (λ bs. get_or bs i no_bin) here ∙ (sym (get_or_default bins i b no_bin below) ∙ sym read);
+    }
+
+-- a step, told of that list
+did_kept : (flag now : Bool) (bins : List RoomyBin) (s : FastStep) (i : ℕ) (b : RoomyBin) → i < length bins → Did plain_fast (kept flag bins) s (record { flag = now; bins = set (ten_bins bins) i b }) → Did plain_fast (kept flag bins) s (kept now (set bins i b))
+did_kept flag now bins s i b below did =
+    subst (λ (bs : List RoomyBin). Did plain_fast (kept flag bins) s (record { flag = now; bins = bs })) (ten_set bins i b below) did
+
+pub kept_push : (flag : Bool) (bins : List RoomyBin) (i at : ℕ) (b b' : RoomyBin) → i < length bins → b ≡ get_or bins i b → b'.bin ≡ pushed at b.bin → Did plain_fast (kept flag bins) (Pushes i at) (kept true (set bins i b'))
+kept_push flag bins i at b b' below read e =
+    did_kept flag true bins (Pushes i at) i b' below (pushes (kept flag bins) i at b b' (read_kept flag bins i b below read) e)
+
+pub kept_pop : (flag : Bool) (bins : List RoomyBin) (i : ℕ) (b b' : RoomyBin) (answer : Option ℕ) → i < length bins → b ≡ get_or bins i b → answer ≡ front_of b.bin → Pulls without_front b b' → Did plain_fast (kept flag bins) (Pops i answer) (kept flag (set bins i b'))
+kept_pop flag bins i b b' answer below read e pulls =
+    did_kept flag flag bins (Pops i answer) i b' below (pops (kept flag bins) i b b' answer (read_kept flag bins i b below read) e pulls)
+
+pub kept_pop_own : (flag : Bool) (bins : List RoomyBin) (i : ℕ) (b b' : RoomyBin) (answer : Option ℕ) → i < length bins → b ≡ get_or bins i b → answer ≡ own_front b.bin → Pulls without_own b b' → Did plain_fast (kept flag bins) (Owns i answer) (kept flag (set bins i b'))
+kept_pop_own flag bins i b b' answer below read e pulls =
+    did_kept flag flag bins (Owns i answer) i b' below (pops_own (kept flag bins) i b b' answer (read_kept flag bins i b below read) e pulls)
+
+pub kept_gather : (flag : Bool) (bins : List RoomyBin) (i : ℕ) (b b' : RoomyBin) → i < length bins → b ≡ get_or bins i b → b'.bin ≡ gathered b.bin → b'.room ≡ b.room → Did plain_fast (kept flag bins) (Gathers i) (kept flag (set bins i b'))
+kept_gather flag bins i b b' below read e room =
+    did_kept flag flag bins (Gathers i) i b' below (gathers (kept flag bins) i b b' (read_kept flag bins i b below read) e room)

@@ -1,12 +1,15 @@
 -- Room is made in one bin after another.
-use Rattle.std.proofs.Common.{◌≡◌, ℕ, ◌+◌, ◌≤◌, ◌<◌, IsTrue, true, false, List, set, get_or, length, sym, ap, ◌∙◌, subst, inl, inr, arith}
+use Rattle.std.proofs.Common.{◌≡◌, ℕ, ◌+◌, ◌≤◌, ◌<◌, IsTrue, true, false, List, [], ◌∷◌, set, get_or, length, refl, sym, ap, ◌∙◌, subst, inl, inr, arith}
 use Rattle.std.specs.Prelude.{Result, Ok, Err, OnErr}
 use Rattle.std.specs.Result.{IsErr}
+use Rattle.std.specs.Vec.{with_items}
+use Rattle.std.specs.Global.{Vec}
 use Rattle.std.proofs.lemmas.Bool.{cases_eq}
 use Rattle.std.proofs.lemmas.Bool.Decides.{nat_tests}
-use Rattle.std.proofs.lemmas.List.{get_or_default, get_or-set_same, get_or-set_other}
+use Rattle.std.proofs.lemmas.List.{get_or_default, get_or-set_same, get_or-set_other, get_or-replicate, length-map, with_items_is}
 use Rattle.std.proofs.Math.Seq.{map-set_same}
-use Rattle.fast_bins.specs.PlainBins.{RoomyBin, no_bin, listed, has_room, Roomier, HaveRoom}
+use Rattle.chunk_tags.specs.declared.refusals.NoMemory.{NoMemory}
+use Rattle.fast_bins.specs.PlainBins.{FastBin, RoomyBin, no_bin, listed, has_room, ten_bins, Roomier, HaveRoom}
 
 -- the bin at an index has more room
 pub record Gains (bins : List RoomyBin) (i : ℕ) (b' : RoomyBin) : Type 0 where
@@ -58,3 +61,31 @@ full_at old bins i d so_far below within full had =
 pub on_err : {A E : Type 0} (P : Type 0) (r : Result A E) → IsErr r → P → OnErr r P
 on_err P (Ok x) refused p = absurd cc
 on_err P (Err e) refused p = p
+
+-- ---- room in bins that are kept in a list, which may be empty
+
+ten_all : (bins : List RoomyBin) → length bins ≡ 10 → ten_bins bins ≡ bins
+ten_all [] long = absurd (omega (arith, long))
+ten_all (b ∷ bins) long = refl
+
+pub roomier_kept : (old : List RoomyBin) (v : Vec RoomyBin) (bins : List RoomyBin) → Roomier old (ten_bins v.items) → length v.items ≡ 10 → Roomier v.items bins → Roomier old (ten_bins (with_items v bins).items)
+roomier_kept old v bins so_far long next =
+    let bin : RoomyBin → FastBin = λ b. b.bin in
+    let same : length bins ≡ length v.items = omega (arith, length-map bins bin, length-map v.items bin, ap (λ (bs : List FastBin). length bs) next.bins) in
+    let now : ten_bins (with_items v bins).items ≡ bins = ap ten_bins (with_items_is v bins (omega (arith, same, v.ok.0))) ∙ ten_all bins (omega (arith, same, long)) in
+    let before : Roomier old v.items = subst (Roomier old) (ten_all v.items long) so_far in
+    subst (Roomier old) (sym now) (record { bins = next.bins ∙ before.bins; room = λ k had. next.room k (before.room k had) })
+
+-- a bin without room had none before
+pub full_kept : (old bins : List RoomyBin) (r : Result (Unit {0}) NoMemory) → Roomier old (ten_bins bins) → length bins ≡ 10 → OnErr r (HaveRoom (length bins) bins → ⊥) → OnErr r (HaveRoom 10 old → ⊥)
+full_kept old bins (Ok u) so_far long full = tt
+full_kept old bins (Err e) so_far long full =
+    let before : Roomier old bins = subst (Roomier old) (ten_all bins long) so_far in
+    λ had. full (λ k below. before.room k (had k (omega (arith, below, long))))
+
+-- a bin that has room is in the list
+pub kept_below : (bins : List RoomyBin) (k : ℕ) → k < 10 → length (ten_bins bins) ≡ 10 → IsTrue (has_room (get_or (ten_bins bins) k no_bin)) → k < length bins
+kept_below [] k below long room =
+    let no : IsTrue (has_room no_bin) = subst (λ b. IsTrue (has_room b)) (get_or-replicate 10 k no_bin no_bin below) room in
+    absurd cc
+kept_below (b ∷ bins) k below long room = omega (arith, below, long)

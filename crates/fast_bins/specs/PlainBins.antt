@@ -108,6 +108,16 @@ pub record Roomier (old new : List RoomyBin) : Type 0 where
 abbrev pub HaveRoom : ℕ → List RoomyBin → Type 0
 HaveRoom n bins = (k : ℕ) → k < n → IsTrue (has_room (slice_index_or bins k no_bin))
 
+-- the ten bins that are meant where none is there yet
+abbrev pub ten_bins : List RoomyBin → List RoomyBin
+ten_bins [] = replicate 10 no_bin
+ten_bins (b ∷ bins) = b ∷ bins
+
+-- there are ten, and where they are said to be roomy each has room for one more
+pub record AreTen (is_roomy : Bool) (bins : List RoomyBin) : Type 0 where
+  pub count : length bins ≡ 10
+  pub room : IsTrue is_roomy → HaveRoom 10 bins
+
 -- What these bins are as a port: they tell each answer and what they are after each step, and their stock is all that
 -- is in them.
 abbrev pub plain_fast : Fast PlainBins

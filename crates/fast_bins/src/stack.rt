@@ -46,11 +46,18 @@ impl BinStack {
         ensures room { OnOk result (IsTrue (has_room self.new)) }
         ensures full { OnErr result (has_room self.old ≡ false) }
     {
-        if self.items.len() < self.items.capacity() {
+        if self.has_room() {
             return Ok(());
         }
         self.items.reserve(1)?;
         Ok(())
+    }
+
+    /// Whether there is room for one more chunk.
+    pub fn has_room(&self) -> bool
+        ensures { result ≡ has_room self.now }
+    {
+        self.items.len() < self.items.capacity()
     }
 
     /// Puts a chunk at the front. There is room, so no memory is asked for.

@@ -1,13 +1,8 @@
-use Rattle.std.proofs.Common.{arith, get_or}
-use Rattle.fast_bins.specs.PlainBins.{PlainBins}
-use Rattle.fast_bins.proofs.PlainSteps.{bin_read_at, pops}
+use Rattle.std.proofs.Common.{refl, arith}
+use Rattle.fast_bins.proofs.PlainSteps.{kept_pop}
 use Rattle.fast_bins.proofs.plain.PlainFastFastPort.pop.Goals as goal
 
 pub returns : goal.returns
 returns c =
-    let p : PlainBins = record { flag = c.self.inside.flag; bins = c.self.inside.bins } in
-    let i = c.from.result in
-    let d = c.index-self-from.result in
-    let at = bin_read_at p i d (omega (arith, c.from.ensures, c.self.invariant, c.requires)) in
     rw (← c.self.view_is, ← c.from.ensures)
-    (pops p i (get_or p.bins i d) c.pop.new.self c.pop.result at c.pop.ensures.front (record { bin = c.pop.ensures.bin; room = c.pop.ensures.room; within = c.pop.ensures.within }))
+    (kept_pop c.self.inside.flag c.self.inside.bins.items c.from.result c.in-Some.stack.now c.pop.new.self c.pop.result (omega (arith, c.in-Some.ensures.variant.0 refl, c.self.inside.bins.ok.0)) c.in-Some.ensures.value c.pop.ensures.front (record { bin = c.pop.ensures.bin; room = c.pop.ensures.room; within = c.pop.ensures.within }))
