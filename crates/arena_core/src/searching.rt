@@ -1,6 +1,6 @@
 //! The search for a chunk in an arena.
 
-ghost use Rattle.std.specs.Prelude.{◌≡◌, IfOk};
+ghost use Rattle.std.specs.Prelude.{◌≡◌, IfOk, OnErr};
 ghost use Rattle.chunk_tags.specs.Sizes.{IsRequestSize};
 ghost use Rattle.address_space.specs.Ports.{Rose};
 ghost use Rattle.address_space.specs.Spaces.{space_refusals};
@@ -8,6 +8,7 @@ ghost use Rattle.arena_rules.specs.Search.{rounds, searched};
 ghost use Rattle.consolidate_trim.specs.Outside.{Apart, means};
 ghost use Rattle.search_steps.specs.Ledgers.{stage};
 ghost use Rattle.arena_growth.specs.Asking.{IsSearchable, IsReady, AllowsMaps, Finds, FitsFound, beside_arena};
+ghost use Rattle.arena_growth.specs.Lacks.{Lacks, word_room};
 
 use address_space::{Kernel, Space};
 use arena_growth::{Found, ask_system};
@@ -46,6 +47,8 @@ fn go_round<M: Moves, K: Kernel, P: FastPort + Dials>(
     ensures fits { IfOk result (FitsFound nb) }
     ensures refused { IfOk result (λ found. found ≡ Found.Nowhere
         → Rose (space_refusals K.port space.old) (space_refusals K.port space.new)) }
+    ensures lacks { let room = word_room M.break_room M.piece_room M.extension_room M.heap_room in
+        OnErr result (Lacks room P.fast t.now nb (M.plain g.new) g.new port.new said.new) }
 {
     match look(g, nb, cache, said)? {
         Step::Taken(c) => Ok(Found::InArena(c)),
@@ -84,6 +87,8 @@ pub fn search<M: Moves, K: Kernel, P: FastPort + Dials>(
     ensures fits { IfOk result (FitsFound nb) }
     ensures refused { IfOk result (λ found. found ≡ Found.Nowhere
         → Rose (space_refusals K.port space.old) (space_refusals K.port space.new)) }
+    ensures lacks { let room = word_room M.break_room M.piece_room M.extension_room M.heap_room in
+        OnErr result (Lacks room P.fast t.now nb (M.plain g.new) g.new port.new said.new) }
 {
     match begin(g, nb, cache, port, t, said)? {
         Step::Taken(c) => Ok(Found::InArena(c)),
