@@ -8,3 +8,4 @@ pub mod Unmapped
 pub mod Mappings
 pub mod Opened
 pub mod Searches
+pub mod RunningShort

@@ -52,6 +52,7 @@ use Rattle.arena_holds.specs.Holding.{resized_to}
 use Rattle.arena_holds.specs.Places.{KeptArena, with_journal, PlaceWays, PlaceLaws, IsLent, IsServed, Carries, Setting, Standing, standing, Hands, both_of, weight_of, in_cache, as_chunk_of, as_mapped_byte}
 use Rattle.arena_holds.specs.Returning.{IsUnlocked, IsAccounted}
 use Rattle.arena_holds.proofs.Carrying.{carries_as}
+use Rattle.arena_holds.proofs.RunningShort.{kept_hold}
 use Rattle.arena_holds.proofs.Holds.{account_given, noted_given, account_given_short, account_none, framed_window, carries_held, only_least}
 use Rattle.arena_holds.proofs.Founds.{block_found, IsWhole, Fills, FillsFound, Handles, handles_take, handles_align, handles_resize, found_whole, held_found, account_held, noted_held, mapped_held, ComesBack, own_back, resized_back, loses_spared, account_short, noted_short, mapped_short}
 
@@ -406,24 +407,26 @@ gives_held s words {t = t} {a = a} {o = o} {q = q} {r = r} {port = port} {left =
 pub gives_short : {P H D K : Type 0} (s : Setting P H D K) (words : Dialled D) (t : Tunables) (who : Who) {a : ℕ} {o : Standing P K} {q r : P} {port left : H} {later : Space K}
     (b : Block) (k k' : KeptArena) (back : Option Block) → PlaceLaws s.ways s.means.fast s.means.dials words → b.arena ≡ Some a → s.ways.lent o.places a port (Some k) q → s.ways.gave q left k' r →
     IsUnlocked s.ways s.means.fast o.places a port k left k' r →
-    GivesShort s.means t who b (held k.arena port None o.space k.journal) back (held k'.arena left None later k'.journal) →
+    ((cache : CacheValue) → GivesShort s.means t who b (held k.arena port cache o.space k.journal) back (held k'.arena left cache later k'.journal)) →
     holdings.GivesShort s t who a b o back (standing r later)
 gives_short s words t who {a = a} {o = o} {q = q} {r = r} {port = port} {left = left} {later = later} b k k' (Some back) laws arena lent gave unlocked h = record {
-  same = h.0;
+  same = (h None).0;
+  kept = λ some. kept_hold s k k' lent gave (h None).1;
   gone = λ none. absurd cc;
-  carries = carries_none s k k' None None (λ weigh. weigh b) (weight_of (Some back)) unlocked h.1 (λ w. omega (arith, ap w h.0));
+  carries = carries_none s k k' None None (λ weigh. weigh b) (weight_of (Some back)) unlocked (h None).1 (λ w. omega (arith, ap w (h None).0));
 }
 gives_short s words t who {a = a} {o = o} {q = q} {r = r} {port = port} {left = left} {later = later} b k k' None laws arena lent gave unlocked h =
     let is : IsLent s.ways s.means.fast s.means.dials o.places a port k = laws.lends o.places q a port k lent in
     let n : ℕ = k.arena.number in
     let unlocked' : IsUnlocked s.ways s.means.fast o.places n port k left k' r = subst (λ (x : ℕ). IsUnlocked s.ways s.means.fast o.places x port k left k' r) (sym is.number) unlocked in
-    let frame : IsFramed s.means (beside_arena port None o.space) (beside_arena left None later) = walked_frame {m = s.means} h.stops.reaches.walks in
+    let frame : IsFramed s.means (beside_arena port None o.space) (beside_arena left None later) = walked_frame {m = s.means} (h None).stops.reaches.walks in
     record {
       same = tt;
+      kept = λ some. absurd cc;
       gone = λ none. record { lending = q; hold = port; last_hold = left; before = k; after = k'; lent = lent; short = h; gave = gave };
       carries = carries_as laws.same (λ weigh. weigh b) (weight_of None) (λ w. refl) (λ w. refl)
           (carries_held false (λ weigh. weigh b) (λ weigh. 0) o.space later unlocked'
-          (only_least (λ x. IsAccounted s.ways s.means.fast n x (λ weigh. weigh b) port k (λ weigh. 0) left k') (account_given_short s.ways s.means b laws.shows (arena ∙ ap Some (sym is.number)) h)) (noted_short s.ways s.means (acts.Give b.addr b.size) k.arena laws.shows h.stops)
+          (only_least (λ x. IsAccounted s.ways s.means.fast n x (λ weigh. weigh b) port k (λ weigh. 0) left k') (account_given_short s.ways s.means b laws.shows (arena ∙ ap Some (sym is.number)) (h None))) (noted_short s.ways s.means (acts.Give b.addr b.size) k.arena laws.shows (h None).stops)
           (λ n. omega (arith, framed_window s.means (beside_arena port None o.space) (beside_arena left None later) n frame)) frame.windows);
     }
 

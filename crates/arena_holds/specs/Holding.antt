@@ -33,6 +33,7 @@ use Rattle.arena_holds.specs.Searching.{Searched, Chosen, searched, size_searche
 use Rattle.arena_holds.specs.declared.searching.Tried.{Tried}
 use Rattle.arena_holds.specs.Calls.{Call, Done, Opens, hold_of, hold_end, taken_of}
 use Rattle.arena_holds.specs.Going.{Does, HoldStep, FreeStep, UnmapStep, RemapStep}
+use Rattle.arena_holds.specs.RunningShort.{KeepsHold, EntersShort}
 use Rattle.arena_holds.specs.Places.{KeptArena, PlaceWays, Setting, Standing, Hands, IsServed, Carries, both_of, weight_of, in_cache}
 
 -- the block of a search
@@ -102,6 +103,11 @@ pub record SearchesHeld {P H D K : Type 0} (s : Setting P H D K) (t : Tunables) 
   pub refused : block ≡ None → Rose (space_refusals s.means.kernel old.space) (space_refusals s.means.kernel new.space)
   pub back : IsTrue (s.ways.there new.places a)
 
+-- Memory was short in such a hold: for its entry, for which the arena's journal had no room, and the arena is given back as it
+-- was; or behind it. The journal had so many entries, and room for so many in all.
+abbrev pub SearchesShort : {P H D K : Type 0} → Setting P H D K → Tunables → Who → ℕ → Act → CacheValue → Standing P K → ℕ → ℕ → Standing P K → Type 0
+SearchesShort s t who a act cache old entries room new = ((room ≤ entries) × KeepsHold s a old new) ⊎ EntersShort s t who a act cache old new
+
 -- A chunk was searched for by these rules, for an act: the block, where one was found, and the place of the hold's entry.
 pub record Finds {P H D K : Type 0} (s : Setting P H D K) (t : Tunables) (who : Who) (rules : Call Searched) (act : Act) (cache : CacheValue)
     (old : Standing P K) (place : ℕ) (block : Option Block) (left : CacheValue) (new : Standing P K) : Type 0 where
@@ -161,14 +167,15 @@ pub record GivesUp {P H D K : Type 0} (s : Setting P H D K) (t : Tunables) (who 
   pub before : KeptArena
   pub after : KeptArena
   pub lent : s.ways.lent old.places a hold (Some before) lending
-  pub short : RecordsShort s.means t who (Give b.addr b.size) (held before.arena hold None old.space before.journal) (one_chunk (chunk_at b.addr b.size))
-      (held after.arena last_hold None new.space after.journal)
+  pub short : (cache : CacheValue) → RecordsShort s.means t who (Give b.addr b.size) (held before.arena hold cache old.space before.journal)
+      (one_chunk (chunk_at b.addr b.size)) (held after.arena last_hold cache new.space after.journal)
   pub gave : s.ways.gave lending last_hold after new.places
 
--- Memory was short there: the block comes back as it was, or the arena has it.
+-- Memory was short there: the block comes back as it was, and so does the arena; or the arena has it.
 pub record GivesShort {P H D K : Type 0} (s : Setting P H D K) (t : Tunables) (who : Who) (a : ℕ) (b : Block)
     (old : Standing P K) (back : Option Block) (new : Standing P K) : Type 0 where
   pub same : IfSome back (λ c. c ≡ b)
+  pub kept : IsSome back → KeepsHold s a old new
   pub gone : back ≡ None → GivesUp s t who a b old new
   pub carries : Carries s.ways false (λ weigh. weigh b) old (weight_of back) new
 

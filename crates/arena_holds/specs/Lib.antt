@@ -5,4 +5,5 @@ pub mod Searching
 pub mod Places
 pub mod Returning
 pub mod Going
+pub mod RunningShort
 pub mod Holding

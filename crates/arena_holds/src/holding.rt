@@ -1,6 +1,6 @@
 //! Holds of arenas within a call, each from its lock to its unlock.
 
-ghost use Rattle.std.specs.Prelude.{◌≡◌, ℕ, [], false, Some, IfOk, IfErr, OnErr};
+ghost use Rattle.std.specs.Prelude.{◌≡◌, ℕ, ◌≤◌, [], false, Some, IfOk, IfErr, OnErr, vec_len, vec_capacity};
 ghost use Rattle.chunk_tags.specs.Sizes.{IsRequestSize, IsChunkSize};
 ghost use Rattle.chunk_tags.specs.Tunables.{IsTuned};
 ghost use Rattle.thread_cache.specs.Caches.{CacheValue, structure_of};
@@ -13,8 +13,10 @@ ghost use Rattle.arena_core.specs.Arenas.{FailsShort, held};
 ghost use Rattle.arena_core.specs.Replay.{IsReplay};
 ghost use Rattle.arena_holds.specs.Places.{setting, IsServed, Carries, standing, both_of, in_cache, kept_of};
 ghost use Rattle.block_names.specs.Blocks.{IsHeld};
+ghost use Rattle.arena_holds.specs.Calls.{hold_of};
+ghost use Rattle.arena_holds.specs.RunningShort.{RunsShort};
 ghost use Rattle.arena_holds.specs.Searching.{IsSearch};
-ghost use Rattle.arena_holds.specs.Holding.{SearchesArena, SearchesHeld, IsLentTo, Gives, GivesShort, Resizes, ResizesShort, block_in};
+ghost use Rattle.arena_holds.specs.Holding.{SearchesArena, SearchesHeld, SearchesShort, IsLentTo, Gives, GivesShort, Resizes, ResizesShort, block_in};
 
 use crate::places::Places;
 use address_space::{Kernel, Space};
@@ -68,6 +70,8 @@ fn search_arena<M: Moves, K: Kernel, P: FastPort + Dials>(
     ensures short { OnErr result (FailsShort (means P.fast P.dials K.port) t.now who act.now
         (held (M.plain a.old.ground) port.old cache.old space.old a.old.journal.items)
         no_chunk (held (M.plain a.new.ground) port.new cache.new space.new a.new.journal.items)) }
+    ensures full { OnErr result (a.new.journal.items ≡ a.old.journal.items
+        → vec_capacity a.old.journal ≤ vec_len a.old.journal) }
     ensures replay { (start : Plain)
         → IsReplay t.now start a.old.journal.items (M.plain a.old.ground)
         → IsReplay t.now start a.new.journal.items (M.plain a.new.ground) }
@@ -85,7 +89,7 @@ fn search_arena<M: Moves, K: Kernel, P: FastPort + Dials>(
 }
 
 /// Searches an arena that was lent, and gives it back. After `NoMemory` no other block is claimed, and what others have stays
-/// given out.
+/// given out; where the journal has room for it, an entry says that memory was short, else the arena is as it was.
 pub fn search_lent<P: Places, K: Kernel>(
     alloc: Global,
     p: &mut P,
@@ -110,6 +114,11 @@ pub fn search_lent<P: Places, K: Kernel>(
         (standing places space.old) a hold (kept_of P.Ground.plain arena) p.old → OnErr result
         (Carries P.ways false (in_cache cache.old) (standing places space.old)
         (in_cache cache.new) (standing p.new space.new)) }
+    ensures left { (places : P) → (a : ℕ) → IsLentTo P.ways t.now (in_cache cache.old)
+        (standing places space.old) a hold (kept_of P.Ground.plain arena) p.old → OnErr result
+        (SearchesShort (setting P.ways (means P.Hold.fast P.Hold.dials K.port) P.Dial.dials) t.now
+        who.now a act.now cache.old (standing places space.old) (vec_len arena.journal)
+        (vec_capacity arena.journal) (standing p.new space.new)) }
     ensures structure { structure_of cache.new ≡ structure_of cache.old }
 {
     cache.laws();
@@ -188,6 +197,10 @@ pub fn resize_held<P: Places, K: Kernel>(
     ensures short { IfErr result (λ back.
         ResizesShort (setting P.ways (means P.Hold.fast P.Hold.dials K.port) P.Dial.dials) b nb
         cache.old (standing p.old space.old) back cache.new (standing p.new space.new)) }
+    ensures left { OnErr result
+        (RunsShort (setting P.ways (means P.Hold.fast P.Hold.dials K.port) P.Dial.dials) t.now
+        who.now (hold_of a (Act.Resize b.addr b.size nb) cache.old)
+        (standing p.old space.old) (standing p.new space.new)) }
     ensures structure { structure_of cache.new ≡ structure_of cache.old }
 {
     cache.laws();

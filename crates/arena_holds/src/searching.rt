@@ -1,15 +1,15 @@
 //! A search in the arena that a thread chooses, and in another one where that is refused.
 
-ghost use Rattle.std.specs.Prelude.{◌≡◌, ℕ, ◌^◌, ◌≤◌, false, Some, None, IsTrue, IfOk, OnErr};
+ghost use Rattle.std.specs.Prelude.{◌≡◌, ℕ, ◌^◌, ◌≤◌, false, true, Some, None, IsTrue, IfOk, OnErr};
 ghost use Rattle.chunk_tags.specs.Tunables.{IsTuned};
 ghost use Rattle.arena_rules.specs.Rules.{windows_of};
 ghost use Rattle.thread_cache.specs.Caches.{structure_of};
 ghost use Rattle.consolidate_trim.specs.Outside.{means};
 ghost use Rattle.arena_holds.specs.Places.{Hands, setting, IsServed, Carries, standing, in_cache};
 ghost use Rattle.arena_holds.specs.Searching.{IsSearch, search as search_rules, search_in, choose_and_search, search_again, search_by_choice, search_reused};
-ghost use Rattle.arena_holds.specs.BookChanges.{Undoes};
-ghost use Rattle.arena_holds.specs.Returning.{IsAllowed, IsBooked};
-ghost use Rattle.arena_holds.specs.Holding.{Finds, FindsChosen, OpensArena};
+ghost use Rattle.arena_holds.specs.Returning.{IsAllowed};
+ghost use Rattle.arena_holds.specs.RunningShort.{RunsShort};
+ghost use Rattle.arena_holds.specs.Holding.{Finds, FindsChosen, OpensArena, new_arena_of};
 
 use crate::holding::{Search, search_lent};
 use crate::mapping::map_for;
@@ -52,6 +52,10 @@ fn search_in<P: Places, K: Kernel>(
         found.hold found.block cache.new (standing p.new space.new)) }
     ensures short { OnErr result (Carries P.ways false (in_cache cache.old) (standing p.old space.old)
         (in_cache cache.new) (standing p.new space.new)) }
+    ensures left { OnErr result
+        (RunsShort (setting P.ways (means P.Hold.fast P.Hold.dials K.port) P.Dial.dials) t.now
+        who.now (search_in a act.now cache.old)
+        (standing p.old space.old) (standing p.new space.new)) }
     ensures structure { structure_of cache.new ≡ structure_of cache.old }
 {
     let (hold, lent) = p.lock(a);
@@ -82,6 +86,10 @@ fn search_reused<P: Places, K: Kernel>(
         cache.old (standing p.old space.old) (Some tried) cache.new (standing p.new space.new)) }
     ensures short { OnErr result (Carries P.ways false (in_cache cache.old) (standing p.old space.old)
         (in_cache cache.new) (standing p.new space.new)) }
+    ensures left { OnErr result
+        (RunsShort (setting P.ways (means P.Hold.fast P.Hold.dials K.port) P.Dial.dials) t.now
+        who.now (search_reused who.now.thread fresh start act.now cache.old)
+        (standing p.old space.old) (standing p.new space.new)) }
     ensures structure { structure_of cache.new ≡ structure_of cache.old }
 {
     let avoid = if fresh { Some(MAIN) } else { None };
@@ -112,8 +120,11 @@ fn open_arena<P: Places, K: Kernel>(
         OpensArena (setting P.ways (means P.Hold.fast P.Hold.dials K.port) P.Dial.dials) t.now
         who.now a bytes (standing p.old space.old) opened (standing p.new space.new)) }
     ensures short { (hands : Hands) → OnErr result
-        (Carries P.ways false hands (standing p.old space.old) hands (standing p.new space.new)) }
-    ensures undone { OnErr result (IsBooked P.ways p.old (Undoes a) p.new) }
+        (Carries P.ways true hands (standing p.old space.old) hands (standing p.new space.new)) }
+    ensures left { OnErr result
+        (RunsShort (setting P.ways (means P.Hold.fast P.Hold.dials K.port) P.Dial.dials) t.now
+        who.now (new_arena_of a bytes)
+        (standing p.old space.old) (standing p.new space.new)) }
 {
     match Arena::open(alloc, *who, a, bytes, space, t) {
         Ok(Some(arena)) => {
@@ -155,6 +166,10 @@ fn search_by_choice<P: Places, K: Kernel>(
         cache.old (standing p.old space.old) tried cache.new (standing p.new space.new)) }
     ensures short { OnErr result (Carries P.ways false (in_cache cache.old) (standing p.old space.old)
         (in_cache cache.new) (standing p.new space.new)) }
+    ensures left { OnErr result
+        (RunsShort (setting P.ways (means P.Hold.fast P.Hold.dials K.port) P.Dial.dials) t.now
+        who.now (search_by_choice who.now.thread fresh bytes act.now cache.old choice)
+        (standing p.old space.old) (standing p.new space.new)) }
     ensures structure { structure_of cache.new ≡ structure_of cache.old }
 {
     match choice {
@@ -198,6 +213,10 @@ fn choose_and_search<P: Places, K: Kernel>(
         cache.old (standing p.old space.old) tried cache.new (standing p.new space.new)) }
     ensures short { OnErr result (Carries P.ways false (in_cache cache.old) (standing p.old space.old)
         (in_cache cache.new) (standing p.new space.new)) }
+    ensures left { OnErr result
+        (RunsShort (setting P.ways (means P.Hold.fast P.Hold.dials K.port) P.Dial.dials) t.now
+        who.now (choose_and_search t.now who.now.thread fresh bytes act.now cache.old)
+        (standing p.old space.old) (standing p.new space.new)) }
     ensures structure { structure_of cache.new ≡ structure_of cache.old }
 {
     let choice = p.choose(who.thread, fresh, t);
@@ -227,6 +246,10 @@ fn search_again<P: Places, K: Kernel>(
         cache.new (standing p.new space.new)) }
     ensures short { OnErr result (Carries P.ways false (in_cache cache.old) (standing p.old space.old)
         (in_cache cache.new) (standing p.new space.new)) }
+    ensures left { OnErr result
+        (RunsShort (setting P.ways (means P.Hold.fast P.Hold.dials K.port) P.Dial.dials) t.now
+        who.now (search_again t.now who.now.thread bytes refused act.now cache.old)
+        (standing p.old space.old) (standing p.new space.new)) }
     ensures structure { structure_of cache.new ≡ structure_of cache.old }
 {
     if refused != MAIN {
@@ -240,7 +263,8 @@ fn search_again<P: Places, K: Kernel>(
 
 /// Searches for a chunk for a thread: in the arena that it chooses, and where that is refused in another one (glibc's
 /// `arena_get` and `arena_get_retry` as `__libc_malloc` uses them). The arena is chosen for `bytes`, at the second try for
-/// `again`. After `NoMemory` no other block is claimed, and what others have stays given out.
+/// `again`. `NoMemory` comes only of a step that asks for memory; after it no other block is claimed, and what others have
+/// stays given out.
 pub fn search<P: Places, K: Kernel>(
     alloc: Global,
     p: &mut P,
@@ -264,6 +288,10 @@ pub fn search<P: Places, K: Kernel>(
         cache.new (standing p.new space.new)) }
     ensures short { OnErr result (Carries P.ways false (in_cache cache.old) (standing p.old space.old)
         (in_cache cache.new) (standing p.new space.new)) }
+    ensures left { OnErr result
+        (RunsShort (setting P.ways (means P.Hold.fast P.Hold.dials K.port) P.Dial.dials) t.now
+        who.now (search_rules t.now who.now.thread bytes again act.now cache.old)
+        (standing p.old space.old) (standing p.new space.new)) }
     ensures structure { structure_of cache.new ≡ structure_of cache.old }
 {
     match choose_and_search(alloc, p, false, who, act, bytes, cache, space, t)? {

@@ -33,7 +33,7 @@ returns-in-Err-clause-short g c =
     let lent = subst (λ o. g.P.Places.ways.lent c.args.p.now c.args.a c.lock-hold.result.0 (option_map (kept_of plain) o) c.lock-hold.new.self) e c.lock-hold.ensures.lent in
     gives_short (setting g.P.Places.ways (means g.P.Hold.FastPort.fast g.P.Hold.Dials.dials g.K.Kernel.port) g.P.Dial.Dials.dials) g.P.Dial.Dials.dials c.args.t.now c.args.who.now c.args.b
     (kept_of plain c.unwrap-arena.result) (kept_of plain c.give-gave.new.self) c.in-Err.short.back g.met.P.Places.laws c.requires.arena lent c.unlock.ensures.gave
-    (c.unlock.ensures.unlocked c.args.p.now c.args.a c.lock-hold.result.0 (kept_of plain c.unwrap-arena.result) lent) (c.in-Err.ensures.short None)
+    (c.unlock.ensures.unlocked c.args.p.now c.args.a c.lock-hold.result.0 (kept_of plain c.unwrap-arena.result) lent) (λ cache. c.in-Err.ensures.short cache)
 
 pub unlock-requires : goal.unlock-requires
 unlock-requires g c =

@@ -5,6 +5,7 @@ use Rattle.arena_core.specs.Arenas.{held}
 use Rattle.arena_holds.specs.Places.{setting, kept_of, in_cache}
 use Rattle.arena_holds.proofs.Holds.{left_resized, is_return}
 use Rattle.arena_holds.proofs.Taken.{resizes_held, resizes_short, structure_resized, structure_unresized}
+use Rattle.arena_holds.proofs.RunningShort.{short_resize}
 use Rattle.arena_holds.proofs.holding.resize_held.Goals as goal
 
 pub lock-hold-requires : goal.lock-hold-requires
@@ -54,3 +55,11 @@ unlock-requires g c =
           (held k'.arena c.resize-done.new.port c.resize-done.new.cache c.resize-done.new.space k'.journal) c.resize-done.result is.sound is.placed c.resize-done.ensures.resized c.resize-done.ensures.short)
           c.resize-done.ensures.replay;
     }
+
+pub returns-in-Err-clause-left : goal.returns-in-Err-clause-left
+returns-in-Err-clause-left g c =
+    let plain = g.P.Ground.Moves.plain in
+    let e : c.lock-hold.result.1 ≡ Some c.unwrap-arena.result = cc in
+    let lent = subst (λ o. g.P.Places.ways.lent c.args.p.now c.args.a c.lock-hold.result.0 (option_map (kept_of plain) o) c.lock-hold.new.self) e c.lock-hold.ensures.lent in
+    short_resize (setting g.P.Places.ways (means g.P.Hold.FastPort.fast g.P.Hold.Dials.dials g.K.Kernel.port) g.P.Dial.Dials.dials) c.args.b c.args.nb c.resize-done.new.cache
+    (kept_of plain c.unwrap-arena.result) (kept_of plain c.resize-done.new.a) c.in-Err.short.back lent c.unlock.ensures.gave c.in-Err.ensures.short

@@ -1,7 +1,9 @@
-use Rattle.std.proofs.Common.{◌≡◌, length, arith}
+use Rattle.std.proofs.Common.{◌≡◌, length, arith, vec_len}
+use Rattle.std.specs.Prelude.{vec_capacity}
 use Rattle.consolidate_trim.specs.Outside.{means}
 use Rattle.arena_holds.specs.Places.{setting, kept_of}
 use Rattle.arena_holds.proofs.Taken.{searches_held, searches_short, structure_searched, structure_short}
+use Rattle.arena_holds.proofs.RunningShort.{short_search}
 use Rattle.arena_holds.proofs.holding.search_lent.Goals as goal
 
 pub returns-in-Ok-clause-searches : goal.returns-in-Ok-clause-searches
@@ -25,3 +27,10 @@ returns-in-Ok-clause-structure g c = structure_searched c.in-Ok.ensures.searches
 
 pub returns-in-Err-clause-structure : goal.returns-in-Err-clause-structure
 returns-in-Err-clause-structure g c = structure_short c.in-Err.ensures.short
+
+pub returns-in-Err-clause-left : goal.returns-in-Err-clause-left
+returns-in-Err-clause-left g c = λ places a l.
+    let plain = g.P.Ground.Moves.plain in
+    short_search (setting g.P.Places.ways (means g.P.Hold.FastPort.fast g.P.Hold.Dials.dials g.K.Kernel.port) g.P.Dial.Dials.dials)
+    (kept_of plain c.args.arena) (kept_of plain c.search_arena-searched.new.a) (vec_len c.args.arena.journal) (vec_capacity c.args.arena.journal) l.lent c.unlock.ensures.gave
+    c.in-Err.ensures.short c.in-Err.ensures.full

@@ -2,6 +2,7 @@ use Rattle.arena_holds.specs.Places.{in_cache}
 use Rattle.arena_holds.proofs.Carrying.{carries_then, served_after}
 use Rattle.arena_holds.proofs.Opened.{carries_hidden}
 use Rattle.arena_holds.proofs.Searches.{ok_map, err_map, chosen_by_book}
+use Rattle.arena_holds.proofs.RunningShort.{short_by_book}
 use Rattle.arena_holds.proofs.searching.choose_and_search.Goals as goal
 
 pub search_by_choice-requires-clause-served : goal.search_by_choice-requires-clause-served
@@ -17,3 +18,7 @@ pub returns-clause-short : goal.returns-clause-short
 returns-clause-short g c =
     let same = g.met.P.Places.laws.same in
     err_map c.search_by_choice.result (λ short. carries_then (carries_hidden same c.choose-choice.ensures.at.unseen c.args.space.now (in_cache c.args.cache.now)) short) c.search_by_choice.ensures.short
+
+pub returns-clause-left : goal.returns-clause-left
+returns-clause-left g c =
+    err_map c.search_by_choice.result (λ r. short_by_book c.args.bytes c.args.fresh c.args.act.now c.args.cache.now c.choose-choice.result c.choose-choice.ensures r) c.search_by_choice.ensures.left

@@ -1,8 +1,8 @@
 use Rattle.std.proofs.Common.{refl}
 use Rattle.consolidate_trim.specs.Outside.{means}
 use Rattle.arena_holds.specs.Places.{setting}
-use Rattle.arena_holds.proofs.Carrying.{carries_short}
 use Rattle.arena_holds.proofs.Opened.{is_new, opens_arena, refuses_arena, short_arena}
+use Rattle.arena_holds.proofs.RunningShort.{short_opening}
 use Rattle.arena_holds.proofs.searching.open_arena.Goals as goal
 
 pub add-requires : goal.add-requires
@@ -25,4 +25,7 @@ returns-in-Ok-None-clause-opens g c =
     refuses_arena (setting g.P.Places.ways (means g.P.Hold.FastPort.fast g.P.Hold.Dials.dials g.K.Kernel.port) g.P.Dial.Dials.dials) g.met.P.Places.laws.same (c.in-Ok-None.ensures.refused (rw c.in-Ok-None.field-0-is refl)) c.undo.ensures
 
 pub returns-in-Err-clause-short : goal.returns-in-Err-clause-short
-returns-in-Err-clause-short g c = λ hands. carries_short (short_arena g.met.P.Places.laws.same c.in-Err.ensures.short c.undo-in-Err.ensures hands)
+returns-in-Err-clause-short g c = λ hands. short_arena g.met.P.Places.laws.same c.in-Err.ensures.short c.undo-in-Err.ensures hands
+
+pub returns-in-Err-clause-left : goal.returns-in-Err-clause-left
+returns-in-Err-clause-left g c = short_opening (setting g.P.Places.ways (means g.P.Hold.FastPort.fast g.P.Hold.Dials.dials g.K.Kernel.port) g.P.Dial.Dials.dials) c.in-Err.ensures.short c.undo-in-Err.ensures

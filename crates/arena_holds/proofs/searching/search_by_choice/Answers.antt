@@ -1,8 +1,9 @@
 use Rattle.std.proofs.Common.{inl, inr}
 use Rattle.arena_holds.specs.Places.{in_cache}
 use Rattle.arena_core.proofs.Opens.{on_err}
-use Rattle.arena_holds.proofs.Carrying.{carries_then, served_after}
+use Rattle.arena_holds.proofs.Carrying.{carries_short, carries_then, served_after}
 use Rattle.arena_holds.proofs.Searches.{chosen_in, chosen_new, chosen_refused}
+use Rattle.arena_holds.proofs.RunningShort.{short_chosen, short_unopened, short_new}
 use Rattle.arena_holds.proofs.searching.search_by_choice.Goals as goal
 
 pub returns-then-not-branch-clause-finds : goal.returns-then-not-branch-clause-finds
@@ -27,4 +28,23 @@ pub returns-in_ok-search-in-Attached-clause-finds : goal.returns-in_ok-search-in
 returns-in_ok-search-in-Attached-clause-finds g c = elim c.in-Attached.is [
   | inl is ↦ rw is (chosen_in c.in-Attached.a c.in_ok-search-in-Attached.search c.in_ok-search-in-Attached.ensures.finds)
   | inr is ↦ rw is (chosen_in c.in-Attached.a c.in_ok-search-in-Attached.search c.in_ok-search-in-Attached.ensures.finds)
+]
+
+pub returns-in_err-open_arena-in-New-clause-short : goal.returns-in_err-open_arena-in-New-clause-short
+returns-in_err-open_arena-in-New-clause-short g c =
+    on_err c.from_residual.result (carries_short (c.in_err-open_arena-in-New.ensures.short (in_cache c.args.cache.now)))
+
+pub returns-in_err-open_arena-in-New-clause-left : goal.returns-in_err-open_arena-in-New-clause-left
+returns-in_err-open_arena-in-New-clause-left g c =
+    rw c.in-New.is (on_err c.from_residual.result (short_unopened c.args.act.now c.args.cache.now c.in_err-open_arena-in-New.ensures.left))
+
+pub returns-in_err-search-in-New-clause-left : goal.returns-in_err-search-in-New-clause-left
+returns-in_err-search-in-New-clause-left g c =
+    let opened = rw c.if-not-branch.false at c.in_ok-open_arena-in-New.ensures.opens in
+    rw c.in-New.is (on_err c.from_residual-in_err-search-in-New.result (short_new c.in-New.a opened c.in_err-search-in-New.ensures.left))
+
+pub returns-in_err-search-in-Attached-clause-left : goal.returns-in_err-search-in-Attached-clause-left
+returns-in_err-search-in-Attached-clause-left g c = elim c.in-Attached.is [
+  | inl is ↦ rw is (on_err c.from_residual-in_err-search-in-Attached.result (short_chosen c.in-Attached.a c.in_err-search-in-Attached.ensures.left))
+  | inr is ↦ rw is (on_err c.from_residual-in_err-search-in-Attached.result (short_chosen c.in-Attached.a c.in_err-search-in-Attached.ensures.left))
 ]
