@@ -1,6 +1,6 @@
 //! A chunk is searched for whose user address is a multiple, and what is before and behind it is released.
 
-ghost use Rattle.std.specs.Prelude.{◌≡◌, ◌+◌, ◌-◌, ◌^◌, ◌<◌, ◌≤◌, IsTrue, IfOk, nat_lt};
+ghost use Rattle.std.specs.Prelude.{◌≡◌, ◌+◌, ◌-◌, ◌^◌, ◌<◌, ◌≤◌, IsTrue, IfOk, nat_lt, OnErr};
 ghost use Rattle.chunk_tags.specs.Sizes.{IsChunkSize, IsRequestSize};
 ghost use Rattle.address_space.specs.Ports.{Rose};
 ghost use Rattle.address_space.specs.Spaces.{space_refusals};
@@ -9,9 +9,11 @@ ghost use Rattle.arena_rules.specs.Resize.{back_of};
 ghost use Rattle.arena_rules.specs.Align.{IsAlignment, bytes_past, align_of, aligned_in, tail_cut, lead_of, size_with_lead};
 ghost use Rattle.consolidate_trim.specs.Holds.{IsBacked, one_chunk};
 ghost use Rattle.consolidate_trim.specs.Outside.{Apart, means};
+ghost use Rattle.consolidate_trim.specs.Lacks.{LacksRoom};
 ghost use Rattle.search_steps.specs.Ledgers.{stage};
 ghost use Rattle.search_steps.specs.Steps.{IsEnough};
 ghost use Rattle.arena_growth.specs.Asking.{IsSearchable, IsReady, AllowsMaps, Finds, beside_arena};
+ghost use Rattle.arena_growth.specs.Lacks.{Lacks, word_room};
 ghost use Rattle.realloc_align.specs.Aligns.{AlignsChunk, CutsLead, FitsAt, FitsAligned};
 
 use crate::cutting::{MIN_CHUNK, front_of};
@@ -90,6 +92,7 @@ fn cut_tail<M: Moves, K: Kernel, P: FastPort + Dials>(
         result (stage (M.plain g.new) (beside_arena port.new cache.new space.new) said.new.items) }
     ensures at { IfOk result (λ d. d.at ≡ c.now.at) }
     ensures fits { IfOk result (λ d. IsEnough nb d.size) }
+    ensures lacks { OnErr result (LacksRoom P.fast port.new said.new) }
 {
     if !has_tail(c, nb) {
         return Ok(*c);
@@ -119,6 +122,7 @@ fn cut_lead<M: Moves, K: Kernel, P: FastPort + Dials>(
         (stage (M.plain g.old) (beside_arena port.old cache.old space.old) said.old.items)
         result (stage (M.plain g.new) (beside_arena port.new cache.new space.new) said.new.items) }
     ensures part { IfOk result (λ d. d ≡ back_of c.now lead) }
+    ensures lacks { OnErr result (LacksRoom P.fast port.new said.new) }
 {
     let part = g.part(*c, lead);
     release(g, front_of(c, lead), cache, port, space, t, said)?;
@@ -149,6 +153,7 @@ fn align_in<M: Moves, K: Kernel, P: FastPort + Dials>(
         (stage (M.plain g.old) (beside_arena port.old cache.old space.old) said.old.items)
         result (stage (M.plain g.new) (beside_arena port.new cache.new space.new) said.new.items) }
     ensures fits { IfOk result (λ d. FitsAt align nb d.at d.size) }
+    ensures lacks { OnErr result (LacksRoom P.fast port.new said.new) }
 {
     let lead = lead_of(align, c.at);
     if lead == 0 {
@@ -184,6 +189,9 @@ pub fn align_in_arena<M: Moves, K: Kernel, P: FastPort + Dials>(
     ensures fits { IfOk result (FitsAligned align nb) }
     ensures refused { IfOk result (λ found. found ≡ Found.Nowhere
         → Rose (space_refusals K.port space.old) (space_refusals K.port space.new)) }
+    ensures lacks { let room = word_room M.break_room M.piece_room M.extension_room M.heap_room in
+        OnErr result (Lacks room P.fast t.now (size_with_lead align nb) (M.plain g.new) g.new
+        port.new said.new) }
 {
     let padded = size_with_lead(align, nb);
     match search(g, padded, cache, port, space, t, said)? {

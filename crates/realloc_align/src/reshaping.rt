@@ -1,6 +1,6 @@
 //! A used chunk becomes larger or smaller, or another is found for it, before anything is released.
 
-ghost use Rattle.std.specs.Prelude.{◌≡◌, ◌+◌, ◌<◌, ◌≤◌, IsTrue, IfOk, IfErr, nat_le};
+ghost use Rattle.std.specs.Prelude.{◌≡◌, ◌+◌, ◌<◌, ◌≤◌, IsTrue, IfOk, IfErr, nat_le, OnErr};
 ghost use Rattle.chunk_tags.specs.Sizes.{IsChunkSize, IsRequestSize};
 ghost use Rattle.address_space.specs.Ports.{Rose};
 ghost use Rattle.address_space.specs.Spaces.{space_refusals};
@@ -10,6 +10,7 @@ ghost use Rattle.consolidate_trim.specs.Holds.{IsBacked, one_chunk};
 ghost use Rattle.consolidate_trim.specs.Outside.{Apart, means};
 ghost use Rattle.search_steps.specs.Ledgers.{stage};
 ghost use Rattle.arena_growth.specs.Asking.{IsSearchable, IsReady, AllowsMaps, FitsFound, beside_arena};
+ghost use Rattle.arena_growth.specs.Lacks.{Lacks, word_room};
 ghost use Rattle.realloc_align.specs.Resizes.{Reshapes, placed_of, arena_placed};
 
 use crate::cutting::{MIN_CHUNK, Reshaped, cut, front_of};
@@ -106,6 +107,8 @@ pub fn reshape<M: Moves, K: Kernel, P: FastPort + Dials>(
     ensures fits { IfOk result (λ r. FitsFound nb r.found) }
     ensures refused { IfOk result (λ r. r.found ≡ Found.Nowhere
         → Rose (space_refusals K.port space.old) (space_refusals K.port space.new)) }
+    ensures lacks { let room = word_room M.break_room M.piece_room M.extension_room M.heap_room in
+        OnErr result (Lacks room P.fast t.now nb (M.plain g.new) g.new port.new said.new) }
 {
     if nb.0 <= c.size.0 {
         return Ok(cut(g, &c, nb));

@@ -1,13 +1,15 @@
 //! A used chunk gets another size, and what is left is released.
 
-ghost use Rattle.std.specs.Prelude.{◌≡◌, ◌≤◌, IsTrue, IfOk, IfErr};
+ghost use Rattle.std.specs.Prelude.{◌≡◌, ◌≤◌, IsTrue, IfOk, IfErr, OnErr};
 ghost use Rattle.chunk_tags.specs.Sizes.{IsRequestSize};
 ghost use Rattle.address_space.specs.Ports.{Rose};
 ghost use Rattle.address_space.specs.Spaces.{space_refusals};
 ghost use Rattle.consolidate_trim.specs.Holds.{IsBacked, one_chunk};
 ghost use Rattle.consolidate_trim.specs.Outside.{Apart, means};
+ghost use Rattle.consolidate_trim.specs.Lacks.{LacksRoom};
 ghost use Rattle.search_steps.specs.Ledgers.{stage};
 ghost use Rattle.arena_growth.specs.Asking.{IsSearchable, IsReady, AllowsMaps, Closes, FitsFound, beside_arena, chunks_in};
+ghost use Rattle.arena_growth.specs.Lacks.{Lacks, word_room};
 ghost use Rattle.realloc_align.specs.Resizes.{Resizes};
 
 use crate::reshaping::reshape;
@@ -40,9 +42,10 @@ fn release_rest<M: Moves, K: Kernel, P: FastPort + Dials>(
     requires backed { IsBacked P.fast (M.plain g.old) port.old (chunks_in rest) }
     requires apart { Apart P.fast P.dials }
     requires fast { t.now.max_fast ≤ 160 }
-    ensures { Closes (means P.fast P.dials K.port) t.now rest
+    ensures closes { Closes (means P.fast P.dials K.port) t.now rest
         (stage (M.plain g.old) (beside_arena port.old cache.old space.old) said.old.items)
         result (stage (M.plain g.new) (beside_arena port.new cache.new space.new) said.new.items) }
+    ensures lacks { OnErr result (LacksRoom P.fast port.new said.new) }
 {
     match rest {
         Some(c) => release(g, c, cache, port, space, t, said),
@@ -76,6 +79,8 @@ pub fn resize_in<M: Moves, K: Kernel, P: FastPort + Dials>(
     ensures stranded { IfErr result (λ s. FitsFound nb s.found) }
     ensures refused { IfOk result (λ found. found ≡ Found.Nowhere
         → Rose (space_refusals K.port space.old) (space_refusals K.port space.new)) }
+    ensures lacks { let room = word_room M.break_room M.piece_room M.extension_room M.heap_room in
+        IfErr result (λ _. Lacks room P.fast t.now nb (M.plain g.new) g.new port.new said.new) }
 {
     let Ok(reshaped) = reshape(g, c, nb, cache, port, space, t, said) else {
         return Err(Stranded {

@@ -6,10 +6,10 @@ pub release_rest-requires-clause-backed : goal.release_rest-requires-clause-back
 release_rest-requires-clause-backed g c = λ k l. rest_backed _ c.args.t.now c.args.c c.args.nb _ _ c.in-Ok.reshaped c.requires.backed c.in-Ok.ensures.reshapes
 
 pub returns-in-Ok-release_rest-clause-resizes : goal.returns-in-Ok-release_rest-clause-resizes
-returns-in-Ok-release_rest-clause-resizes g c = resizes_released _ c.args.t.now c.args.c c.args.nb _ _ _ c.in-Ok.reshaped c.in-Ok.ensures.reshapes c.in-Ok-release_rest.ensures
+returns-in-Ok-release_rest-clause-resizes g c = resizes_released _ c.args.t.now c.args.c c.args.nb _ _ _ c.in-Ok.reshaped c.in-Ok.ensures.reshapes c.in-Ok-release_rest.ensures.closes
 
 pub returns-in-Ok-release_rest-clause-refused : goal.returns-in-Ok-release_rest-clause-refused
-returns-in-Ok-release_rest-clause-refused g c = λ is. rose_released _ c.args.t.now _ _ _ c.in-Ok.reshaped.rest c.in-Ok-release_rest.ensures (c.in-Ok.ensures.refused is)
+returns-in-Ok-release_rest-clause-refused g c = λ is. rose_released _ c.args.t.now _ _ _ c.in-Ok.reshaped.rest c.in-Ok-release_rest.ensures.closes (c.in-Ok.ensures.refused is)
 
 pub returns-in-Err-clause-resizes : goal.returns-in-Err-clause-resizes
-returns-in-Err-clause-resizes g c = resizes_stranded _ c.args.t.now c.args.c c.args.nb _ _ _ c.in-Ok.reshaped c.in-Err.field-0 _ refl c.in-Ok.ensures.reshapes c.in-Err.ensures
+returns-in-Err-clause-resizes g c = resizes_stranded _ c.args.t.now c.args.c c.args.nb _ _ _ c.in-Ok.reshaped c.in-Err.field-0 _ refl c.in-Ok.ensures.reshapes c.in-Err.ensures.closes
