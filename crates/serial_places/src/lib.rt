@@ -3,11 +3,13 @@
 #![tactic(auto)]
 
 mod both;
+mod boxed;
 mod end;
 mod serial;
 mod slot;
 mod tray;
 
 pub use both::Both;
+pub use boxed::BoxedGround;
 pub use end::SerialEnd;
 pub use serial::Serial;

@@ -2,11 +2,12 @@
 
 ghost use Rattle.std.specs.Prelude.{◌≡◌, ℕ, ◌*◌, ◌≤◌, false, List, ◌∷◌, length, map, replicate, option_map, Some, None, IfSome, IfOk, IsTrue};
 ghost use Rattle.arena_rules.specs.HeapPlaces.{IsHeapPlaced};
-ghost use Rattle.arena_rules.specs.PlainArena.{is_main};
+ghost use Rattle.arena_rules.specs.PlainArena.{empty_main, is_main};
 ghost use Rattle.serial_places.specs.SerialWays.{IsFirst, IsSerial, EndsAs, is_there, slot_in};
 ghost use Rattle.serial_places.specs.Trays.{empty_trays};
 
 use crate::both::Both;
+use crate::boxed::BoxedGround;
 use crate::end::{SerialEnd, blocks_in, split_slots};
 use crate::slot::Slot;
 use crate::tray::{self, Tray};
@@ -53,6 +54,15 @@ impl Model for Serial {
         IsSerial (state_at s.arenas.items s.dials s.book s.trays.items s.lent s.tunables) };
 }
 
+/// Main before its first growth.
+fn first_ground(alloc: Global) -> Result<BoxedGround, NoMemory>
+    ensures { IfOk result (λ b. b.inner.value.arena ≡ empty_main) }
+{
+    let main = Ground::main(alloc)?;
+    let inner = Box::new(alloc, main)?;
+    Ok(BoxedGround { inner })
+}
+
 /// The slots before the first call: main's is the first of them.
 fn first_slots(alloc: Global, main: Slot, others: usize) -> Result<Vec<Option<Slot>>, NoMemory>
     ensures { IfOk result (λ v. v.items ≡ Some main ∷ replicate others None) }
@@ -86,7 +96,7 @@ impl Serial {
     {
         let main = Slot {
             arena: Arena {
-                ground: Ground::main(alloc)?,
+                ground: first_ground(alloc)?,
                 journal: Vec::new(alloc),
             },
             bins: PlainFast::new(alloc),
@@ -122,7 +132,8 @@ impl Serial {
         for slot in &self.arenas {
             if let Some(slot) = slot {
                 slot.bins.laws();
-                slot.arena.ground.laws();
+                let ground = slot.arena.ground.inner.as_ref();
+                ground.laws();
             }
         }
     }
@@ -163,7 +174,7 @@ impl Serial {
 }
 
 impl Places for Serial {
-    type Ground = Ground;
+    type Ground = BoxedGround;
 
     type Hold = Both<PlainFast, PlainDials>;
 
@@ -173,13 +184,13 @@ impl Places for Serial {
     ghost use Rattle.serial_places.specs.Joined.{joined_fast};
     ghost use Rattle.arena_holds.specs.Returning.{IsReturn, Unlocks, IsNew, IsAdded};
     ghost use Rattle.serial_places.specs.SerialPlaces.{serial_laws};
-    ghost use Rattle.serial_places.specs.SerialWays.{kept_ground, state_ways};
+    ghost use Rattle.serial_places.specs.SerialWays.{kept_lent, state_ways};
 
     ghost ways = { state_ways };
 
     ghost laws = { serial_laws };
 
-    fn lock(&mut self, a: u8) -> (Both<PlainFast, PlainDials>, Option<Arena<Ground>>) {
+    fn lock(&mut self, a: u8) -> (Both<PlainFast, PlainDials>, Option<Arena<BoxedGround>>) {
         let slot = &mut self.arenas[usize::from(a)];
         let Slot { arena, bins } = slot.take().unwrap();
         self.lent = Some(a);
@@ -194,16 +205,16 @@ impl Places for Serial {
         &mut self,
         start: u8,
         _avoid: Option<u8>,
-    ) -> (u8, Both<PlainFast, PlainDials>, Option<Arena<Ground>>) {
+    ) -> (u8, Both<PlainFast, PlainDials>, Option<Arena<BoxedGround>>) {
         let (hold, arena) = self.lock(start);
         (start, hold, arena)
     }
 
-    fn unlock(&mut self, hold: Both<PlainFast, PlainDials>, arena: Arena<Ground>)
-        requires lent { IsReturn state_ways (kept_ground arena) self.old }
-        ensures gave { state_ways.gave self.old hold (kept_ground arena) self.new }
+    fn unlock(&mut self, hold: Both<PlainFast, PlainDials>, arena: Arena<BoxedGround>)
+        requires lent { IsReturn state_ways (kept_lent arena) self.old }
+        ensures gave { state_ways.gave self.old hold (kept_lent arena) self.new }
         ensures unlocked { Unlocks state_ways (joined_fast plain_fast) self.old hold
-            (kept_ground arena) self.new }
+            (kept_lent arena) self.new }
     {
         let Both { bins, dials } = hold;
         let a = self.lent.take().unwrap();
@@ -250,9 +261,9 @@ impl Places for Serial {
         self.book.detach(thread);
     }
 
-    fn add(&mut self, thread: u8, arena: Arena<Ground>)
-        requires new { IsNew state_ways (kept_ground arena) self.old }
-        ensures { IsAdded state_ways thread self.old (kept_ground arena) self.new }
+    fn add(&mut self, thread: u8, arena: Arena<BoxedGround>)
+        requires new { IsNew state_ways (kept_lent arena) self.old }
+        ensures { IsAdded state_ways thread self.old (kept_lent arena) self.new }
     {
         let a = arena.ground.number();
         let bins = PlainFast::new(self.alloc);

@@ -1,12 +1,13 @@
 //! An arena that is there, with its fast bins.
 
+use crate::boxed::BoxedGround;
 use arena_core::Arena;
-use arena_ground::Ground;
 use fast_bins::PlainFast;
 
 /// An arena between two holds, and its fast bins.
 #[derive(Drop)]
 pub struct Slot {
-    pub arena: Arena<Ground>,
+    /// It is lent at the cost of its pointer.
+    pub arena: Arena<BoxedGround>,
     pub bins: PlainFast,
 }

@@ -26,7 +26,7 @@ pub loop-slot-preserved : goal.loop-slot-preserved
 loop-slot-preserved c =
     let here : IsUsualIn c.slot-item.result =
     elim c.match-slot.branch [
-      | in-Some w ↦ subst IsUsualIn (sym w.in-Some.is) (record { ten = w.laws.ensures; heaps = w.laws-in-Some.ensures.heaps })
+      | in-Some w ↦ subst IsUsualIn (sym w.in-Some.is) (record { ten = w.laws.ensures; heaps = rw w.as_ref-ground.ensures at w.laws-in-Some.ensures.heaps })
       | in_default w ↦ subst IsUsualIn (sym w.in_default.is) tt
     ] in
     let read : c.slot-item.result ≡ slice_index_or c.deref-slot-items.result.now c.loop-slot.slot-index None =

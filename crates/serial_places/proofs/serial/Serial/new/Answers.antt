@@ -3,11 +3,11 @@ use Rattle.serial_places.proofs.SerialFirst.{IsNewMain, first_serial, is_first}
 use Rattle.serial_places.proofs.serial.Serial.new.Goals as goal
 
 main_of : (c : goal.After-result-2-1) → Slot
-main_of c = record { arena = record { ground = c.in_ok-main.field-0; journal = c.new.result }; bins = c.new-2.result }
+main_of c = record { arena = record { ground = c.in_ok-first_ground.field-0; journal = c.new.result }; bins = c.new-2.result }
 
 new_main : (c : goal.After-result-2-1) → IsNewMain (main_of c)
 unfolding main_of
-new_main c = record { ground = c.in_ok-main.ensures; journal = c.new.ensures.items; bins_empty = c.new-2.ensures }
+new_main c = record { ground = c.in_ok-first_ground.ensures; journal = c.new.ensures.items; bins_empty = c.new-2.ensures }
 
 pub invariant_of-result : goal.invariant_of-result
 unfolding main_of
