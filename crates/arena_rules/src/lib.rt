@@ -4,7 +4,6 @@
 //! alignment). The crates above keep their contracts by them.
 #![tactic(auto)]
 
-mod boxed;
 mod heap_end;
 mod moves;
 mod said;
