@@ -1,16 +1,19 @@
 -- Laws of places that stand by their keys: what is found behind a change at one of them, and what they weigh together.
 use Rattle.std.proofs.Common.{◌≡◌, ℕ, ◌+◌, ◌<◌, inl, inr, Bool, true, false, cond, List, [], ◌∷◌, Option, Some, None, is_some, sum_by, refl, sym, ap, ◌∙◌, arith}
 use Rattle.std.specs.BTreeMap.{insert_entry}
-use Rattle.std.specs.Map.{lookup, set_value, values_of}
+use Rattle.std.specs.List.Sorted.{IsStrictlySortedBy}
+use Rattle.std.specs.Map.{lookup, set_value, remove_entry, keys_of, values_of}
 use Rattle.std.specs.Option.{unwrap_or}
 use Rattle.std.specs.Ordering.{nat_cmp, is_eq, match_ordering}
 use Rattle.std.specs.declared.cmp.Ordering.{Ordering}
 use Rattle.std.specs.declared.cmp.Ordering.TheVariants.{Less, Equal, Greater}
 use Rattle.std.proofs.lemmas.Bool.{cases_Bool, false_from_ne_true}
-use Rattle.std.proofs.lemmas.Cmp.{ranked}
+use Rattle.std.proofs.lemmas.Cmp.{ranked, nat_cmp_total, eq_by_cmp_equiv}
 use Rattle.std.specs.Cmp.{nat_cmp_is}
 use Rattle.std.specs.Ordering.{MatchOrdering}
 use Rattle.std.proofs.lemmas.List.Sums.{sum_by-cons}
+use Rattle.std.proofs.lemmas.Map.{lookup-remove_entry}
+use Rattle.std.proofs.lemmas.Map.Keys.{IsDistinct-from_sorted}
 use Rattle.block_names.specs.Names.{is_name}
 
 module _ {X : Type 0} where
@@ -147,3 +150,12 @@ module _ {X : Type 0} where
   held_insert s k (e ∷ es) empty none =
       held_step s k e es (insert_entry nat_cmp es k None) (nat_cmp k e.0) empty (first_differs (is_name k) e es none)
       (held_insert s k es (λ hit. later_none s e es (empty hit)) (later_none (is_name k) e es none))
+
+-- ---- a place goes
+
+-- where names rise, what is found then: nothing under the name, and under each other what was there
+pub lookup_removed : {X : Type 0} (k n : ℕ) (es : List (ℕ × X)) → IsStrictlySortedBy nat_cmp (keys_of es) →
+    lookup (is_name n) (remove_entry (is_name k) es) ≡ cond (is_name k n) None (lookup (is_name n) es)
+lookup_removed k n es rise =
+    lookup-remove_entry (eq_by_cmp_equiv nat_cmp_total) (is_name k) (λ x y hit. ap (λ m. is_name m y) (name_is k x hit)) n es
+    (IsDistinct-from_sorted nat_cmp (keys_of es) rise)

@@ -1,17 +1,17 @@
 -- Laws of the table of a thread's blocks by name, for every layer that speaks of one.
-use Rattle.std.proofs.Common.{◌≡◌, ℕ, zero, suc, ◌+◌, ◌-◌, ◌<◌, ◌≤◌, ◌⊎◌, inl, inr, Bool, true, false, cond, List, [], ◌∷◌, ◌++◌, Option, Some, None, length, replicate, set, get_or, is_some, sum_by, refl, sym, ap, ◌∙◌, subst, arith}
+use Rattle.std.proofs.Common.{◌≡◌, ℕ, zero, suc, ◌+◌, ◌-◌, ◌<◌, ◌≤◌, ◌⊎◌, inl, inr, Bool, true, false, ◌||◌, cond, List, [], ◌∷◌, ◌++◌, Option, Some, None, length, replicate, set, get_or, is_some, sum_by, refl, sym, ap, ◌∙◌, subst, arith}
 use Rattle.std.specs.Prelude.{nat_lt, IfSome}
-use Rattle.std.specs.Map.{lookup, set_value, values_of}
-use Rattle.std.specs.Option.{unwrap_or}
+use Rattle.std.specs.Map.{lookup, set_value, remove_entry, values_of}
+use Rattle.std.specs.Option.{unwrap_or, option_map}
 use Rattle.std.proofs.lemmas.Bool.{cases_Bool, ltb-true, lt-ltb}
 use Rattle.std.proofs.lemmas.List.{length-set, length-append, length-replicate, get_or-set_same, get_or-set_other, set-get_or, set-set}
 use Rattle.std.proofs.lemmas.List.Sums.{sum_by-cons, sum_by-append, sum_by-set}
-use Rattle.std.proofs.lemmas.Map.Entries.{sum_by-set_value}
+use Rattle.std.proofs.lemmas.Map.Entries.{sum_by-set_value, sum_by-remove_entry}
 use Rattle.std.proofs.lemmas.Map.Steps.{set_value_same}
 use Rattle.chunk_tags.specs.declared.block.Block.{Block}
-use Rattle.block_names.specs.Names.{NameTable, IsTable, no_names, is_near, is_name, far_place, in_row, in_far, row_at, far_at, with_row_to, with_in_row, with_far_place, with_in_far, has_place, block_at, with_place, with_at, with_block, without_block, weight_in}
+use Rattle.block_names.specs.Names.{NameTable, IsTable, no_names, is_near, is_name, far_place, in_row, in_far, row_at, far_at, with_row_to, with_in_row, with_far_place, with_in_far, without_far_place, has_place, block_at, with_place, with_at, with_block, without_block, tidied, weight_in, FarNamesRise}
 use Rattle.block_names.specs.Blocks.{IsHeld}
-use Rattle.block_names.proofs.Keyed.{set_same, set_other, set_none, set_set, name_is, names_apart, held_insert, insert_here, insert_weighs}
+use Rattle.block_names.proofs.Keyed.{set_same, set_other, set_none, set_set, name_is, names_apart, held_insert, insert_here, insert_weighs, lookup_removed}
 
 -- ---- which part of a table
 
@@ -334,6 +334,75 @@ place_weighs name names weigh none =
 pub held_weighs : (name : ℕ) (names : NameTable) (b : Block) (weigh : Option Block → ℕ) → block_at names name ≡ Some b → weigh (Some b) ≤ weight_in names weigh + weigh None
 held_weighs name names b weigh e =
     omega (arith, set_weighs name None names weigh (place_of names name b e), ap weigh e)
+
+-- ---- a place of its own goes
+
+neither : (x y : Bool) → (x || y) ≡ false → (x ≡ false) × (y ≡ false)
+neither true y h = absurd cc
+neither false y h = (refl, h)
+
+nothing_in : (o : Option Block) → is_some o ≡ false → o ≡ None
+nothing_in None h = refl
+nothing_in (Some b) h = absurd cc
+
+-- what is true of a table then, in both ways
+tidied_by : (P : NameTable → Type 0) (name : ℕ) (names : NameTable) → P names → (is_near name ≡ false → block_at names name ≡ None → P (without_far_place name names)) → P (tidied name names)
+unfolding tidied
+tidied_by P name names stays goes = elim (cases_Bool (is_near name || is_some (block_at names name))) [
+  | inl kept ↦ subst P (sym (ap (λ v. cond v names (without_far_place name names)) kept)) stays
+  | inr gone ↦
+      let parts : (is_near name ≡ false) × (is_some (block_at names name) ≡ false) = neither (is_near name) (is_some (block_at names name)) gone in
+      subst P (sym (ap (λ v. cond v names (without_far_place name names)) gone)) (goes parts.0 (nothing_in (block_at names name) parts.1))
+]
+
+gone_at : (name n : ℕ) (names : NameTable) → FarNamesRise names → is_near name ≡ false → block_at names name ≡ None → block_at (without_far_place name names) n ≡ block_at names n
+unfolding block_at
+gone_at name n names rise far none =
+    let found : Option Block → Option Block = λ r. cond (is_near n) (row_at names n) r in
+    let then : Bool → Option Block = λ v. found (unwrap_or (cond v None (far_place n names.far)) None) in
+    ap (λ r. found (unwrap_or r None)) (lookup_removed name n names.far rise)
+    ∙ elim (cases_Bool (is_name name n)) [
+      | inl hit ↦
+          let there : far_at names n ≡ None = ap (λ m. far_at names m) (sym (name_is name n hit)) ∙ (sym (at_far names name far) ∙ none) in
+          ap then hit ∙ ap found (sym there)
+      | inr miss ↦ ap then miss
+    ]
+
+-- each name holds what it held
+pub at_tidied : (name n : ℕ) (names : NameTable) → FarNamesRise names → block_at (tidied name names) n ≡ block_at names n
+at_tidied name n names rise =
+    tidied_by (λ x. block_at x n ≡ block_at names n) name names refl (λ far none. gone_at name n names rise far none)
+
+empty_weighs : (weigh : Option Block → ℕ) (r : Option (Option Block)) → weigh None ≡ 0 → unwrap_or r None ≡ None → unwrap_or (option_map weigh r) 0 ≡ 0
+empty_weighs weigh None none e = refl
+empty_weighs weigh (Some o) none e = ap weigh e ∙ none
+
+gone_weighs : (name : ℕ) (names : NameTable) (weigh : Option Block → ℕ) → weigh None ≡ 0 → far_at names name ≡ None → weight_in (without_far_place name names) weigh ≡ weight_in names weigh
+unfolding weight_in
+gone_weighs name names weigh none e =
+    omega (arith, sum_by-remove_entry weigh (is_name name) names.far, empty_weighs weigh (far_place name names.far) none e)
+
+-- it weighed nothing
+pub tidied_weighs : (name : ℕ) (names : NameTable) (weigh : Option Block → ℕ) → weigh None ≡ 0 → weight_in (tidied name names) weigh ≡ weight_in names weigh
+tidied_weighs name names weigh none =
+    tidied_by (λ x. weight_in x weigh ≡ weight_in names weigh) name names refl
+    (λ far e. gone_weighs name names weigh none (sym (at_far names name far) ∙ e))
+
+pub mapped_none : {X Y : Type 0} (f : X → Y) (r : Option X) → is_some r ≡ false → option_map f r ≡ None
+mapped_none f None h = refl
+mapped_none f (Some x) h = absurd cc
+
+-- a table is still one when it loses the empty place of a name
+pub removed_table : (name : ℕ) (seen names : NameTable) (es : List (ℕ × Option Block)) → seen ≡ names → es ≡ remove_entry (is_name name) seen.far →
+    is_near name ≡ false → block_at names name ≡ None → FarNamesRise names → IsTable names → IsTable (record { near = seen.near; far = es })
+removed_table name seen names es same gone far none rise table =
+    let less : NameTable = without_far_place name names in
+    let now : IsTable less = record {
+      row = table.row;
+      held = λ n. subst (λ (o : Option Block). IfSome o IsHeld) (sym (gone_at name n names rise far none)) (table.held n);
+    } in
+    let is : without_far_place name seen ≡ less = ap (λ x. without_far_place name x) same in
+    subst (λ (fs : List (ℕ × Option Block)). IsTable (record { near = seen.near; far = fs })) (sym gone) (subst IsTable (sym is) now)
 
 -- ---- a table without a place
 

@@ -1,7 +1,8 @@
 -- The blocks of a thread by name (this project's own): what a program has in its variables, of what malloc gave it.
-use Rattle.std.specs.Prelude.{ℕ, ◌+◌, ◌-◌, ◌≤◌, Bool, nat_lt, List, [], ◌++◌, length, replicate, sum_by, Option, Some, None, is_some, IfSome, slice_index_or, slice_set, if◌then◌else◌}
+use Rattle.std.specs.Prelude.{ℕ, ◌+◌, ◌-◌, ◌≤◌, Bool, ◌||◌, nat_lt, List, [], ◌++◌, length, replicate, sum_by, Option, Some, None, is_some, IfSome, slice_index_or, slice_set, if◌then◌else◌}
 use Rattle.std.specs.BTreeMap.{insert_entry, is_at}
-use Rattle.std.specs.Map.{lookup, set_value, values_of}
+use Rattle.std.specs.List.Sorted.{IsStrictlySortedBy}
+use Rattle.std.specs.Map.{lookup, set_value, remove_entry, keys_of, values_of}
 use Rattle.std.specs.Option.{unwrap_or}
 use Rattle.std.specs.Ordering.{nat_cmp}
 use Rattle.chunk_tags.specs.declared.block.Block.{Block}
@@ -59,6 +60,10 @@ with_far_place name names = record { near = names.near; far = insert_entry nat_c
 abbrev pub with_in_far : ℕ → Option Block → NameTable → NameTable
 with_in_far name held names = record { near = names.near; far = set_value (is_name name) names.far held }
 
+-- without a place of its own
+abbrev pub without_far_place : ℕ → NameTable → NameTable
+without_far_place name names = record { near = names.near; far = remove_entry (is_name name) names.far }
+
 -- ---- a table
 
 -- whether a name has a place
@@ -89,6 +94,10 @@ with_some name (Some b) names = with_block name b names
 abbrev pub without_block : ℕ → NameTable → NameTable
 without_block name names = with_at name None names
 
+-- without the place of a name, where that is one of its own and empty
+unfoldable pub tidied : ℕ → NameTable → NameTable
+tidied name names = if is_near name || is_some (block_at names name) then names else without_far_place name names
+
 -- what all places weigh together, an empty one nothing
 unfoldable pub weight_in : NameTable → (Option Block → ℕ) → ℕ
 weight_in names weigh = sum_by weigh names.near + sum_by weigh (values_of names.far)
@@ -97,3 +106,7 @@ weight_in names weigh = sum_by weigh names.near + sum_by weigh (values_of names.
 pub record IsTable (names : NameTable) : Type 0 where
   pub row : length names.near ≤ 65536
   pub held : (name : ℕ) → IfSome (block_at names name) IsHeld
+
+-- the names that have places of their own rise, so that each has one
+abbrev pub FarNamesRise : NameTable → Type 0
+FarNamesRise names = IsStrictlySortedBy nat_cmp (keys_of names.far)

@@ -2,7 +2,7 @@
 
 ghost use Rattle.std.specs.Prelude.{◌≡◌, ◌-◌, ◌^◌, ◌<◌, ◌≤◌, [], ◌++◌, length, replicate, IsTrue, false, None, Some, IsSome, IfSome, OnOk, OnErr, option_copied, slice_set, slice_index_or};
 ghost use Rattle.block_names.specs.Blocks.{IsHeld};
-ghost use Rattle.block_names.specs.Names.{IsTable, no_names, has_place, block_at, with_place, with_block, without_block};
+ghost use Rattle.block_names.specs.Names.{IsTable, FarNamesRise, no_names, has_place, block_at, with_place, with_block, without_block, tidied};
 
 use chunk_tags::{Block, NoMemory};
 use std::alloc::Global;
@@ -54,11 +54,13 @@ impl Names {
         }
     }
 
-    /// A law; the call does nothing. Each name that holds something holds a chunk.
+    /// Laws; the call does nothing. Each name that holds something holds a chunk, and no name has two places.
     pub fn laws(&self)
-        ensures { IsTable self.now }
+        ensures table { IsTable self.now }
+        ensures rising { FarNamesRise self.now }
     {
         let _ = &self.near;
+        let _ = self.far.len();
     }
 
     /// Whether a name has a place.
@@ -159,5 +161,17 @@ impl Names {
             return None;
         };
         place.take()
+    }
+
+    /// Lets the place of a name go, where that is one of its own and empty; nothing else changes.
+    #[tactic(auto, unfolding(crate::specs::Names::tidied))]
+    pub fn tidy(&mut self, name: u32)
+        ensures { self.new ≡ tidied name self.old }
+    {
+        if name < NEAR_NAMES || self.get(name).is_some() {
+            return;
+        }
+        self.laws();
+        let _ = self.far.remove(&name);
     }
 }

@@ -44,6 +44,26 @@ fn give(names: &mut Names, name: u32, block: Block)
 }
 
 #[test]
+fn an_empty_far_place_goes(rt: HostRuntime) -> Result<(), Fail> {
+    let mut names = Names::new(rt.alloc());
+    names.ready(3)?;
+    names.ready(65_536)?;
+    names.ready(70_000)?;
+    give(&mut names, 65_536, chunk(0x5555_5555_9290, 32));
+    names.tidy(3);
+    names.tidy(65_536);
+    names.tidy(70_001);
+    assert!(rt; names.has_room(3) && names.has_room(65_536) && names.has_room(70_000));
+    names.tidy(70_000);
+    assert!(rt; names.has_room(65_536) && !names.has_room(70_000));
+    let block = names.take(65_536).ok_or("a block")?;
+    assert_eq!(rt; block.addr, Addr(0x5555_5555_9290));
+    names.tidy(65_536);
+    assert_eq!(rt; names.far().len(), 0);
+    Ok(())
+}
+
+#[test]
 fn far_names_have_places_of_their_own(rt: HostRuntime) -> Result<(), Fail> {
     let mut names = Names::new(rt.alloc());
     names.ready(4_294_967_295)?;
