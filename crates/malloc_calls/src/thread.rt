@@ -22,7 +22,7 @@ ghost use Rattle.own_blocks.specs.declared.reply.Why.TheVariants.{Big, Align, Re
 ghost use Rattle.arena_holds.specs.Going.{Does};
 ghost use Rattle.arena_holds.specs.Places.{setting, IsServed, Carries, standing};
 ghost use Rattle.own_blocks.specs.Own.{in_own};
-ghost use Rattle.block_names.specs.Names.{has_place, block_at, with_place, with_block, without_block, IsTable};
+ghost use Rattle.block_names.specs.Names.{has_place, block_at, with_place, with_block, without_block, tidied, IsTable, FarNamesRise};
 ghost use Rattle.block_names.specs.Blocks.{IsHeld};
 ghost use Rattle.own_blocks.specs.Own.{cached_for, cached_malloc_of, cached_end, cached_free_of};
 ghost use Rattle.malloc_calls.specs.Threads.{new_thread, number_of, who_of, own_of, with_own, with_names, names_of, space_of, IsSpaceOf};
@@ -71,7 +71,14 @@ impl<K: Kernel> Thread<K> {
         self.own.names.ready(name)
     }
 
-    /// Whether a name has a place: whether it was made ready.
+    /// Lets the place of a name go, where that is one of its own and empty; nothing else changes.
+    pub fn tidy(&mut self, name: u32)
+        ensures { self.new ≡ with_names (tidied name (names_of self.old)) self.old }
+    {
+        self.own.names.tidy(name);
+    }
+
+    /// Whether a name has a place: whether it was made ready, and not tidied since.
     pub fn has_room(&self, name: u32) -> bool
         ensures { result ≡ has_place (names_of self.now) name }
     {
@@ -113,11 +120,12 @@ impl<K: Kernel> Thread<K> {
         self.own.cache.cache()
     }
 
-    /// Laws; the call does nothing. The place of the next mapping is an address, and each name that holds something holds a
-    /// chunk.
+    /// Laws; the call does nothing. The place of the next mapping is an address, each name that holds something holds a
+    /// chunk, and no name has two places.
     pub fn laws(&self)
         ensures place { map_place (space_of self.now) < 2 ^ 64 }
         ensures held { IsTable (names_of self.now) }
+        ensures rising { FarNamesRise (names_of self.now) }
     {
         let _ = self.space.map_place();
         self.own.names.laws();
