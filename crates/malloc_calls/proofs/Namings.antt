@@ -13,7 +13,7 @@ use Rattle.std.specs.Int.{is_power_of_two}
 use Rattle.arena_rules.specs.Align.{IsAlignment}
 use Rattle.malloc_calls.specs.Mallocs.{is_memalign}
 use Rattle.block_names.specs.Names.{block_at, NameTable, has_place}
-use Rattle.arena_holds.specs.Calls.{Call}
+use Rattle.arena_holds.specs.Calls.{Call, Done}
 use Rattle.own_blocks.specs.Calls.{Supplied, named, reply_of, names_with, answer_with, FitsName}
 use Rattle.own_blocks.specs.declared.reply.Reply.{Reply}
 use Rattle.own_blocks.specs.declared.own.Own.{Own}
@@ -21,6 +21,8 @@ use Rattle.own_blocks.specs.declared.supplying.Supply.{Supply}
 use Rattle.arena_holds.specs.Going.{Does}
 use Rattle.arena_holds.specs.Places.{Setting, Standing, Carries, weight_of}
 use Rattle.own_blocks.specs.Own.{in_names, in_own}
+use Rattle.own_blocks.specs.LeftCalls.{IsLeft}
+use Rattle.own_blocks.proofs.LeftCalls.{left_behind}
 use Rattle.own_blocks.specs.Supplying.{Supplies, block_of}
 use Rattle.arena_holds.proofs.Going.{does_last}
 use Rattle.arena_holds.proofs.Carrying.{SameLaw, carries_as, carries_beside}
@@ -38,6 +40,11 @@ pub named_does : {P H D K : Type 0} {s : Setting P H D K} {t : Tunables} {who : 
     Supplies s t who c nb own.cache o got left z → reply ≡ reply_of got → names ≡ names_with name got own.names →
     Does s t who (named name own c) o (reply, record { cache = left; names = names }) z
 named_does name own got reply names h e n = rw (e, n) (does_last (answer_with name own) h.does)
+
+-- it is left where its block is got
+pub named_left : {P H D K : Type 0} {s : Setting P H D K} {t : Tunables} {who : Who} {c : Call Supplied} {o z : Standing P K} (name : ℕ) (own : Own) → IsLeft s t who c o z →
+    IsLeft s t who (named name own c) o z
+named_left name own l = left_behind (λ x. Done (answer_with name own x)) l
 
 pub named_carries : {P H D K : Type 0} {s : Setting P H D K} {t : Tunables} {who : Who} {nb : ℕ} {c : Call Supplied} {left : CacheValue} {o z : Standing P K}
     (name : ℕ) (own : Own) (got : Option Supply) (names : NameTable) → SameLaw s.ways → has_place own.names name ≡ true → block_at own.names name ≡ None →

@@ -4,6 +4,7 @@ pub use Rattle.own_blocks.specs.Own
 pub use Rattle.own_blocks.specs.Calls
 pub use Rattle.own_blocks.specs.Frees
 pub use Rattle.own_blocks.specs.Exits
+pub use Rattle.own_blocks.specs.LeftCalls
 pub mod Threads
 pub mod Mallocs
 pub mod Reallocs

@@ -10,6 +10,7 @@ ghost use Rattle.consolidate_trim.specs.Outside.{means};
 ghost use Rattle.block_names.specs.Blocks.{IsHeld};
 ghost use Rattle.block_names.specs.Names.{has_place, block_at};
 ghost use Rattle.own_blocks.specs.Calls.{FitsName, reply_of, names_with};
+ghost use Rattle.own_blocks.specs.LeftCalls.{IsLeft};
 ghost use Rattle.malloc_calls.specs.Mallocs.{malloc_call, calloc_call, posix_memalign_call, is_memalign, IsAlignedName};
 ghost use Rattle.own_blocks.specs.declared.reply.Reply.TheVariants.{Null};
 ghost use Rattle.own_blocks.specs.declared.reply.Why.TheVariants.{Big, Align, Refused};
@@ -98,6 +99,10 @@ pub fn malloc<P: Places, K: Kernel>(
     ensures carries { Carries P.ways (is_ok result) (in_own own.old) (standing p.old space.old)
         (in_own own.new) (standing p.new space.new) }
     ensures names { OnErr result (own.new.names ≡ own.old.names) }
+    ensures left { OnErr result
+        (IsLeft (setting P.ways (means P.Hold.fast P.Hold.dials K.port) P.Dial.dials) t.now who.now
+        (malloc_call t.now who.now.thread name size own.old)
+        (standing p.old space.old) (standing p.new space.new)) }
     ensures cached { IsSome (cached_for size own.old.cache) → is_ok result ≡ true }
 {
     let Some(nb) = request_size(size) else {
@@ -135,6 +140,10 @@ pub fn calloc<P: Places, K: Kernel>(
     ensures carries { Carries P.ways (is_ok result) (in_own own.old) (standing p.old space.old)
         (in_own own.new) (standing p.new space.new) }
     ensures names { OnErr result (own.new.names ≡ own.old.names) }
+    ensures left { OnErr result
+        (IsLeft (setting P.ways (means P.Hold.fast P.Hold.dials K.port) P.Dial.dials) t.now who.now
+        (calloc_call t.now who.now.thread name n size own.old)
+        (standing p.old space.old) (standing p.new space.new)) }
 {
     let Some(nb) = product_size(n, size) else {
         return Ok(Reply::Null(Why::Big));
@@ -177,6 +186,10 @@ pub fn posix_memalign<P: Places, K: Kernel>(
     ensures carries { Carries P.ways (is_ok result) (in_own own.old) (standing p.old space.old)
         (in_own own.new) (standing p.new space.new) }
     ensures names { OnErr result (own.new.names ≡ own.old.names) }
+    ensures left { OnErr result
+        (IsLeft (setting P.ways (means P.Hold.fast P.Hold.dials K.port) P.Dial.dials) t.now who.now
+        (posix_memalign_call t.now who.now.thread name align size own.old)
+        (standing p.old space.old) (standing p.new space.new)) }
     ensures cached { align ≤ 16 → IsSome (cached_for size own.old.cache) → is_ok result ≡ true }
 {
     let Some(nb) = request_size(size) else {

@@ -9,6 +9,7 @@ ghost use Rattle.address_space.specs.Ports.{Rose};
 ghost use Rattle.address_space.specs.Spaces.{space_refusals, map_place};
 ghost use Rattle.consolidate_trim.specs.Outside.{means};
 ghost use Rattle.own_blocks.specs.Calls.{FitsName, HoldsStill};
+ghost use Rattle.own_blocks.specs.LeftCalls.{IsLeft};
 ghost use Rattle.thread_cache.specs.Caches.{is_open};
 ghost use Rattle.malloc_calls.specs.Mallocs.{malloc_call, calloc_call, posix_memalign_call, is_memalign, IsAlignedName};
 ghost use Rattle.arena_core.specs.Replay.{has_lead_in_range};
@@ -213,6 +214,11 @@ impl<K: Kernel> Thread<K> {
             (in_own (own_of self.old)) (standing p.old (space_of self.old))
             (in_own (own_of self.new)) (standing p.new (space_of self.new)) }
         ensures names { OnErr result (names_of self.new ≡ names_of self.old) }
+        ensures left { OnErr result
+            (IsLeft (setting P.ways (means P.Hold.fast P.Hold.dials K.port) P.Dial.dials) t.now
+            (who_of line self.old)
+            (malloc_call t.now (number_of self.old) name size (own_of self.old))
+            (standing p.old (space_of self.old)) (standing p.new (space_of self.new))) }
         ensures number { number_of self.new ≡ number_of self.old }
         ensures cached { IsSome (cached_for size (own_of self.old).cache) → is_ok result ≡ true }
     {
@@ -265,6 +271,11 @@ impl<K: Kernel> Thread<K> {
             (in_own (own_of self.old)) (standing p.old (space_of self.old))
             (in_own (own_of self.new)) (standing p.new (space_of self.new)) }
         ensures names { OnErr result (names_of self.new ≡ names_of self.old) }
+        ensures left { OnErr result
+            (IsLeft (setting P.ways (means P.Hold.fast P.Hold.dials K.port) P.Dial.dials) t.now
+            (who_of line self.old)
+            (calloc_call t.now (number_of self.old) name n size (own_of self.old))
+            (standing p.old (space_of self.old)) (standing p.new (space_of self.new))) }
         ensures number { number_of self.new ≡ number_of self.old }
     {
         let who = self.who(line);
@@ -323,6 +334,11 @@ impl<K: Kernel> Thread<K> {
             (in_own (own_of self.old)) (standing p.old (space_of self.old))
             (in_own (own_of self.new)) (standing p.new (space_of self.new)) }
         ensures names { OnErr result (names_of self.new ≡ names_of self.old) }
+        ensures left { OnErr result
+            (IsLeft (setting P.ways (means P.Hold.fast P.Hold.dials K.port) P.Dial.dials) t.now
+            (who_of line self.old)
+            (posix_memalign_call t.now (number_of self.old) name align size (own_of self.old))
+            (standing p.old (space_of self.old)) (standing p.new (space_of self.new))) }
         ensures number { number_of self.new ≡ number_of self.old }
         ensures cached { align ≤ 16 → IsSome (cached_for size (own_of self.old).cache)
             → is_ok result ≡ true }

@@ -6,3 +6,4 @@ pub mod Calls
 pub mod Frees
 pub mod Exits
 pub mod Supplying
+pub mod LeftCalls

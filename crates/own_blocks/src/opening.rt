@@ -1,11 +1,12 @@
 //! A thread's cache is opened.
 
-ghost use Rattle.std.specs.Prelude.{◌≡◌, ◌≤◌, true, OnOk, is_ok};
+ghost use Rattle.std.specs.Prelude.{◌≡◌, ◌≤◌, true, OnOk, OnErr, is_ok};
 ghost use Rattle.thread_cache.specs.Caches.{is_open};
 ghost use Rattle.address_space.specs.Spaces.{space_refusals};
 ghost use Rattle.chunk_tags.specs.Tunables.{IsTuned};
 ghost use Rattle.consolidate_trim.specs.Outside.{means};
 ghost use Rattle.own_blocks.specs.Calls.{opening};
+ghost use Rattle.own_blocks.specs.LeftCalls.{IsLeft};
 ghost use Rattle.arena_holds.specs.Going.{Does};
 ghost use Rattle.arena_holds.specs.Places.{setting, IsServed, Carries, standing, in_cache};
 
@@ -39,6 +40,10 @@ pub fn open_cache<P: Places, K: Kernel>(
         (standing p.old space.old) cache.new (standing p.new space.new)) }
     ensures later { OnOk result
         (space_refusals K.port space.old ≤ space_refusals K.port space.new) }
+    ensures left { OnErr result
+        (IsLeft (setting P.ways (means P.Hold.fast P.Hold.dials K.port) P.Dial.dials) t.now who.now
+        (opening t.now who.now.thread cache.old)
+        (standing p.old space.old) (standing p.new space.new)) }
     ensures carries { Carries P.ways (is_ok result) (in_cache cache.old) (standing p.old space.old)
         (in_cache cache.new) (standing p.new space.new) }
     ensures open { is_open cache.old ≡ true → is_ok result ≡ true }

@@ -8,6 +8,7 @@ ghost use Rattle.thread_cache.specs.Caches.{opened, is_open, takes, newest, with
 ghost use Rattle.thread_cache.specs.Held.{IsCachedAt, IsSound};
 ghost use Rattle.block_names.specs.Blocks.{IsHeld};
 ghost use Rattle.arena_holds.specs.Holding.{Finds, Resizes, ResizesShort};
+ghost use Rattle.arena_holds.specs.RunningShort.{RunsShort};
 ghost use Rattle.arena_holds.specs.Places.{setting, IsServed, Carries, standing, both_of, in_cache};
 ghost use Rattle.arena_holds.specs.Searching.{IsSearch, search as search_rules};
 
@@ -148,6 +149,10 @@ impl OwnCache {
         ensures short { OnErr result
             (Carries P.ways false (in_cache self.old) (standing p.old space.old)
             (in_cache self.new) (standing p.new space.new)) }
+        ensures left { OnErr result
+            (RunsShort (setting P.ways (means P.Hold.fast P.Hold.dials K.port) P.Dial.dials) t.now
+            who.now (search_rules t.now who.now.thread bytes again act.now self.old)
+            (standing p.old space.old) (standing p.new space.new)) }
     {
         search(alloc, p, who, act, bytes, again, &mut self.cache, space, t)
     }

@@ -5,8 +5,10 @@ ghost use Rattle.chunk_tags.specs.Sizes.{IsRequestSize};
 ghost use Rattle.chunk_tags.specs.Tunables.{IsTuned};
 ghost use Rattle.consolidate_trim.specs.Outside.{means};
 ghost use Rattle.arena_holds.specs.Places.{setting, IsServed, Carries, standing, in_cache};
+ghost use Rattle.arena_holds.specs.RunningShort.{RunsShort};
 ghost use Rattle.arena_holds.specs.Searching.{IsSearch, IsAligned, size_wanted};
 ghost use Rattle.own_blocks.specs.Calls.{from_arena, from_cache, plain_supply, fresh_supply, origin_of, supply_of};
+ghost use Rattle.own_blocks.specs.LeftCalls.{IsLeft};
 ghost use Rattle.own_blocks.specs.Own.{newest_of_size};
 ghost use Rattle.own_blocks.specs.Supplying.{Supplies};
 
@@ -77,6 +79,10 @@ pub fn supply_from_arena<P: Places, K: Kernel>(
     ensures short { OnErr result
         (Carries P.ways false (in_cache cache.old) (standing p.old space.old)
         (in_cache cache.new) (standing p.new space.new)) }
+    ensures left { OnErr result
+        (RunsShort (setting P.ways (means P.Hold.fast P.Hold.dials K.port) P.Dial.dials) t.now
+        who.now (from_arena t.now who.now.thread bytes again act.now cache.old)
+        (standing p.old space.old) (standing p.new space.new)) }
 {
     let search = cache.search(alloc, p, who, act, bytes, again, space, t)?;
     Ok(found(search))
@@ -104,6 +110,10 @@ fn supply_open<P: Places, K: Kernel>(
     ensures short { OnErr result
         (Carries P.ways false (in_cache cache.old) (standing p.old space.old)
         (in_cache cache.new) (standing p.new space.new)) }
+    ensures left { OnErr result
+        (RunsShort (setting P.ways (means P.Hold.fast P.Hold.dials K.port) P.Dial.dials) t.now
+        who.now (from_cache t.now who.now.thread bytes nb (newest_of_size nb cache.old) cache.old)
+        (standing p.old space.old) (standing p.new space.new)) }
     ensures cached { IsSome (newest_of_size nb cache.old) → is_ok result ≡ true }
 {
     match take_newest(cache, nb) {
@@ -142,6 +152,10 @@ pub fn plain_supply<P: Places, K: Kernel>(
     ensures short { OnErr result
         (Carries P.ways false (in_cache cache.old) (standing p.old space.old)
         (in_cache cache.new) (standing p.new space.new)) }
+    ensures left { OnErr result
+        (IsLeft (setting P.ways (means P.Hold.fast P.Hold.dials K.port) P.Dial.dials) t.now who.now
+        (plain_supply t.now who.now.thread bytes nb cache.old)
+        (standing p.old space.old) (standing p.new space.new)) }
     ensures cached { IsSome (newest_of_size nb cache.old) → is_ok result ≡ true }
 {
     open_cache(cache, alloc, p, who, space, t)?;
@@ -171,6 +185,10 @@ pub fn fresh_supply<P: Places, K: Kernel>(
     ensures short { OnErr result
         (Carries P.ways false (in_cache cache.old) (standing p.old space.old)
         (in_cache cache.new) (standing p.new space.new)) }
+    ensures left { OnErr result
+        (IsLeft (setting P.ways (means P.Hold.fast P.Hold.dials K.port) P.Dial.dials) t.now who.now
+        (fresh_supply t.now who.now.thread bytes nb cache.old)
+        (standing p.old space.old) (standing p.new space.new)) }
 {
     open_cache(cache, alloc, p, who, space, t)?;
     let act = Act::Take { nb };

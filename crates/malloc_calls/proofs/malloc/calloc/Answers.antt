@@ -1,8 +1,9 @@
 use Rattle.std.proofs.Common.{◌*◌, sym, ◌∙◌, arith}
 use Rattle.own_blocks.proofs.Calling.{carries_cache}
+use Rattle.arena_core.proofs.Opens.{on_err}
 use Rattle.arena_holds.proofs.Carrying.{carries_err}
 use Rattle.arena_holds.proofs.Going.{does_here}
-use Rattle.malloc_calls.proofs.Namings.{named_does, named_carries, padded_small, named_fits}
+use Rattle.malloc_calls.proofs.Namings.{named_does, named_left, named_carries, padded_small, named_fits}
 use Rattle.malloc_calls.proofs.malloc.calloc.Goals as goal
 
 pub returns-in_default-clause-does : goal.returns-in_default-clause-does
@@ -33,3 +34,7 @@ pub returns-clause-fits : goal.returns-clause-fits
 returns-clause-fits g c =
     named_fits (c.args.n * c.args.size) _ c.args.name c.in_ok-got.got c.args.own.now.names c.answer.new.names (sym c.product_size.ensures ∙ c.in-Some.is) c.requires.room
     c.requires.empty c.answer.ensures.names c.in_ok-got.ensures.supplies.fits
+
+pub returns-in_err-got-clause-left : goal.returns-in_err-got-clause-left
+returns-in_err-got-clause-left g c =
+    on_err c.from_residual.result (rw (sym c.product_size.ensures ∙ c.in-Some.is) (named_left c.args.name c.args.own.now c.in_err-got.ensures.left))

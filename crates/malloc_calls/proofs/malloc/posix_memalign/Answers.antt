@@ -1,14 +1,15 @@
 use Rattle.chunk_tags.specs.declared.block.Block.{Block}
 use Rattle.chunk_tags.specs.Pages.{user_address}
-use Rattle.std.proofs.Common.{◌≡◌, ◌-◌, ◌^◌, true, false, sym, ◌∙◌, arith, ◌%◌}
+use Rattle.std.proofs.Common.{◌≡◌, ◌-◌, ◌^◌, true, false, inl, sym, ◌∙◌, arith, ◌%◌}
 use Rattle.std.proofs.lemmas.Bool.{leb-true}
 use Rattle.std.proofs.lemmas.Bool.Decides.{nat_tests}
 use Rattle.std.specs.Prelude.{nat_le}
 use Rattle.arena_rules.specs.Align.{request_with_lead}
 use Rattle.own_blocks.proofs.Calling.{carries_cache}
+use Rattle.arena_core.proofs.Opens.{on_err}
 use Rattle.arena_holds.proofs.Carrying.{carries_err}
 use Rattle.arena_holds.proofs.Going.{does_here}
-use Rattle.malloc_calls.proofs.Namings.{named_does, named_carries, is_alignment, padded_chunk, named_fits, named_is}
+use Rattle.malloc_calls.proofs.Namings.{named_does, named_left, named_carries, is_alignment, padded_chunk, named_fits, named_is}
 use Rattle.malloc_calls.proofs.malloc.posix_memalign.Goals as goal
 
 pub returns-in_default-clause-does : goal.returns-in_default-clause-does
@@ -78,3 +79,16 @@ pub returns-clause-aligned : goal.returns-clause-aligned
 returns-clause-aligned g c = λ high.
     named_is (λ (b : Block). user_address b.addr % c.args.align ≡ 0) c.args.name c.in_ok-got-2.got c.args.own.now.names c.answer-2.new.names c.requires.room c.requires.empty
     c.answer-2.ensures.names c.in_ok-got-2.ensures.aligned
+
+pub returns-in_err-got-clause-left : goal.returns-in_err-got-clause-left
+returns-in_err-got-clause-left g c =
+    let low : nat_le c.args.align 16 ≡ true = grind (arith, nat_tests, c.if-align-le-LEAST_ALIGNMENT.true) in
+    on_err c.from_residual.result
+    (rw (sym c.request_size.ensures ∙ c.in-Some.is, sym c.if-not-is_memalign.ensures, low) (named_left c.args.name c.args.own.now c.in_err-got.ensures.left))
+
+pub returns-in_err-got-2-clause-left : goal.returns-in_err-got-2-clause-left
+returns-in_err-got-2-clause-left g c =
+    let high : nat_le c.args.align 16 ≡ false = grind (arith, nat_tests, c.if-align-le-LEAST_ALIGNMENT.false) in
+    on_err c.from_residual-in_err-got-2.result
+    (rw (sym c.request_size.ensures ∙ c.in-Some.is, sym c.if-not-is_memalign.ensures, high, sym c.if-not-has_lead_in_range.ensures)
+    (named_left c.args.name c.args.own.now (inl c.in_err-got-2.ensures.left)))

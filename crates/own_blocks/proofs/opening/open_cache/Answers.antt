@@ -1,5 +1,7 @@
 use Rattle.std.proofs.Common.{refl, sym, ◌∙◌, arith}
 use Rattle.arena_holds.specs.Places.{in_cache}
+use Rattle.arena_core.proofs.Opens.{on_err}
+use Rattle.own_blocks.proofs.LeftCalls.{left_search, left_unopened}
 use Rattle.own_blocks.proofs.Calling.{opening_here, opening_found, opened_does, opened_carries}
 use Rattle.arena_holds.proofs.Carrying.{carries_here, carries_as}
 use Rattle.own_blocks.proofs.opening.open_cache.Goals as goal
@@ -35,3 +37,12 @@ returns-in-Some-clause-carries g c =
     opened_carries c.in-Some.structure c.args.t.now.tcache_count c.args.t.now.tcache_bins c.args.cache.now c.search.new.self c.open.new.self c.open.result
     g.met.P.Places.laws.same g.met.P.Places.laws.fewer (c.in_ok-block.ensures.finds.gets.opens ∙ (sym c.is_open.ensures ∙ c.if-is_open.false)) c.open.ensures.ok
     c.open.ensures.unchanged (rw c.in-Some.is at c.in_ok-block.ensures.finds.gets.carries)
+
+pub returns-in_err-block-clause-left : goal.returns-in_err-block-clause-left
+returns-in_err-block-clause-left g c =
+    on_err c.from_residual.result (left_search c.args.cache.now (sym c.is_open.ensures ∙ c.if-is_open.false) c.in_err-block.ensures.left)
+
+pub returns-in-Some-clause-left : goal.returns-in-Some-clause-left
+returns-in-Some-clause-left g c =
+    on_err c.open.result
+    (left_unopened c.args.cache.now c.in-Some.structure (sym c.is_open.ensures ∙ c.if-is_open.false) (rw c.in-Some.is at c.in_ok-block.ensures.finds))

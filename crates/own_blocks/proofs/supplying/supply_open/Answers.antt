@@ -17,3 +17,7 @@ pub returns-in-Some-clause-supplies : goal.returns-in-Some-clause-supplies
 returns-in-Some-clause-supplies g c =
     supplies_cached _ _ _ c.args.who.now.thread c.args.bytes c.args.nb _ c.args.cache.now c.take_newest.new.cache _ c.in-Some.block g.met.P.Places.laws.same refl
     (sym c.take_newest.ensures.newest ∙ c.in-Some.is) c.take_newest.ensures.rest c.in-Some.ensures.held c.in-Some.ensures.size c.in-Some.ensures.arena
+
+pub returns-in-None-clause-left : goal.returns-in-None-clause-left
+returns-in-None-clause-left g c =
+    rw (sym c.in-None.ensures.unchanged, sym (sym c.take_newest.ensures.newest ∙ c.in-None.is)) c.supply_from_arena.ensures.left
