@@ -21,6 +21,7 @@ ghost use Rattle.own_blocks.specs.declared.reply.To.TheVariants.{Cached, Unmappe
 ghost use Rattle.own_blocks.specs.declared.cached.CachedFree.TheVariants.{Done};
 ghost use Rattle.own_blocks.specs.declared.reply.Why.TheVariants.{Big, Align, Refused};
 ghost use Rattle.arena_holds.specs.Going.{Does};
+ghost use Rattle.arena_holds.specs.RunningShort.{RunsShort};
 ghost use Rattle.arena_holds.specs.Places.{setting, IsServed, Carries, standing};
 ghost use Rattle.own_blocks.specs.Own.{in_own};
 ghost use Rattle.block_names.specs.Names.{has_place, block_at, with_place, with_block, without_block, tidied, IsTable, FarNamesRise};
@@ -454,6 +455,10 @@ impl<K: Kernel> Thread<K> {
         ensures fast { (b : Piece) → (a : ℕ) → block_at (names_of self.old) name ≡ Some b
             → b.arena ≡ Some a → is_open (own_of self.old).cache ≡ true
             → nat_le b.size t.now.max_fast ≡ true → P.ways.room p.old a → is_ok result ≡ true }
+        ensures left { OnErr result
+            (IsLeft (setting P.ways (means P.Hold.fast P.Hold.dials K.port) P.Dial.dials) t.now
+            (who_of line self.old) (free_call t.now (number_of self.old) name (own_of self.old))
+            (standing p.old (space_of self.old)) (standing p.new (space_of self.new))) }
         ensures number { number_of self.new ≡ number_of self.old }
     {
         let who = self.who(line);
@@ -484,6 +489,10 @@ impl<K: Kernel> Thread<K> {
             (in_own (own_of self.new)) (standing p.new (space_of self.new)) }
         ensures names { names_of self.new ≡ names_of self.old }
         ensures closed_before { (own_of self.old).cache ≡ None → result ≡ Ok Ended }
+        ensures left { OnErr result
+            (RunsShort (setting P.ways (means P.Hold.fast P.Hold.dials K.port) P.Dial.dials) t.now
+            (who_of line self.old) (exit_call t.now (number_of self.old) (own_of self.old))
+            (standing p.old (space_of self.old)) (standing p.new (space_of self.new))) }
         ensures number { number_of self.new ≡ number_of self.old }
     {
         let who = self.who(line);

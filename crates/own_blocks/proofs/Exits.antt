@@ -1,6 +1,6 @@
 -- Laws of a thread's end: blocks that are released one after another.
 use Rattle.std.proofs.Common.{◌≡◌, ℕ, ◌+◌, Bool, true, false, List, [], ◌∷◌, ◌++◌, Option, Some, None, refl, sym, ap, ◌∙◌, subst, arith}
-use Rattle.std.specs.Prelude.{Result, Ok, Err, OnOk, sum_by, option_to_list}
+use Rattle.std.specs.Prelude.{Result, Ok, Err, OnOk, OnErr, sum_by, option_to_list}
 use Rattle.std.proofs.lemmas.List.Sums.{sum_by-cons}
 use Rattle.chunk_tags.specs.declared.block.Block.{Block}
 use Rattle.chunk_tags.specs.declared.tunables.Tunables.{Tunables}
@@ -13,6 +13,7 @@ use Rattle.arena_holds.specs.Going as going
 use Rattle.arena_holds.specs.Going.{Does, here, freed, booked}
 use Rattle.arena_holds.specs.Holding.{FreesMapped}
 use Rattle.arena_holds.specs.Places.{PlaceWays, Setting, Standing, standing, Carries, Hands, both_of, weight_of, in_cache}
+use Rattle.arena_holds.specs.RunningShort.{RunsShort}
 use Rattle.arena_holds.specs.Returning.{IsBooked, IsUnseen}
 use Rattle.own_blocks.specs.Calls.{past_cache, with_cache}
 use Rattle.own_blocks.specs.Exits.{released_past_cache, released_in_turn, cache_in_turn, exit_call}
@@ -21,6 +22,7 @@ use Rattle.own_blocks.specs.declared.own.Own.{Own}
 use Rattle.own_blocks.specs.declared.reply.Reply.TheVariants.{Ended}
 use Rattle.own_blocks.specs.declared.reply.To.{To}
 use Rattle.arena_holds.proofs.Going.{does_here, does_last, does_then}
+use Rattle.arena_holds.proofs.RunningShort.{short_behind, short_then}
 use Rattle.arena_holds.proofs.Carrying.{SameLaw, FewerLaw, carries_as, carries_then, carries_beside, carries_fewer, carries_unseen}
 use Rattle.own_blocks.proofs.Calling.{carries_given}
 
@@ -37,6 +39,12 @@ pub last_released : {P H D K : Type 0} {s : Setting P H D K} {t : Tunables} {who
 last_released {s = s} {t = t} {who = who} {o = o} {z = z} a b arena h =
     let P : Option ℕ → Type 0 = λ x. Does s t who (released_past_cache t b x) o tt z in
     subst P (sym arena) (does_last (λ to. tt) h.does)
+
+pub last_left : {P H D K : Type 0} {s : Setting P H D K} {t : Tunables} {who : Who} {o z : Standing P K} (a : ℕ) (b : Block) → b.arena ≡ Some a →
+    RunsShort s t who (past_cache t a b None) o z → RunsShort s t who (released_past_cache t b b.arena) o z
+last_left {s = s} {t = t} {who = who} {o = o} {z = z} a b arena r =
+    let P : Option ℕ → Type 0 = λ x. RunsShort s t who (released_past_cache t b x) o z in
+    subst P (sym arena) (short_behind (λ to. Done tt) r)
 
 pub last_carries : {P H D K : Type 0} {s : Setting P H D K} {t : Tunables} {who : Who} {o z : Standing P K} {to : To} (a : ℕ) (b : Block) → SameLaw s.ways →
     Releases s t who (past_cache t a b None) b None o to None z → Carries s.ways true (λ weigh. weigh b) o (λ _. 0) z
@@ -85,10 +93,11 @@ weigh_none c empty none weigh = rw (empty, none) refl
 pub weigh_last : (c : CacheValue) (b : Block) → blocks_of c ≡ [] → structure_of c ≡ Some b → (weigh : Block → ℕ) → in_cache c weigh ≡ weigh b
 weigh_last c b empty some weigh = rw (empty, some) (omega arith)
 
--- So far: what ends the rest ends the whole, and the blocks that left are given out no more.
+-- So far: what ends or leaves the rest does so with the whole, and the blocks that left are given out no more.
 pub record Empties {P H D K : Type 0} (s : Setting P H D K) (t : Tunables) (who : Who) (cache : CacheValue) (o : Standing P K)
     (now : CacheValue) (p : Standing P K) : Type 0 where
   pub ends : (z : Standing P K) → Does s t who (released_in_turn t (cache_in_turn now)) p tt z → Does s t who (released_in_turn t (cache_in_turn cache)) o tt z
+  pub leaves : (z : Standing P K) → RunsShort s t who (released_in_turn t (cache_in_turn now)) p z → RunsShort s t who (released_in_turn t (cache_in_turn cache)) o z
   pub carries : Carries s.ways true (in_cache cache) o (in_cache now) p
 
 -- what the cache still has is given out while the next block is released
@@ -104,8 +113,16 @@ pub empties_next : {P H D K : Type 0} {s : Setting P H D K} {t : Tunables} {who 
     Does s t who (released_past_cache t b b.arena) p tt q → Carries s.ways true (λ weigh. weigh b) p (λ _. 0) q → Empties s t who cache o left q
 empties_next {s = s} {t = t} {who = who} {now = now} {left = left} {p = p} b same h order rest d c = record {
   ends = λ z e. h.ends z (rw (turn_drained now left b order rest) (does_then (λ u. released_in_turn t (cache_in_turn left)) d e));
+  leaves = λ z e. h.leaves z (rw (turn_drained now left b order rest) (short_then (λ u. released_in_turn t (cache_in_turn left)) d e));
   carries = drained_carries true b same h order rest c;
 }
+
+-- memory was short for the next block
+pub drained_left : {P H D K : Type 0} {s : Setting P H D K} {t : Tunables} {who : Who} {cache now left : CacheValue} {o p z : Standing P K} (b : Block) →
+    Empties s t who cache o now p → blocks_of now ≡ option_to_list (Some b) ++ blocks_of left → left ≡ without_next now →
+    RunsShort s t who (released_past_cache t b b.arena) p z → RunsShort s t who (released_in_turn t (cache_in_turn cache)) o z
+drained_left {t = t} {now = now} {left = left} {z = z} b h order rest r =
+    h.leaves z (rw (turn_drained now left b order rest) (short_behind (λ u. released_in_turn t (cache_in_turn left)) r))
 
 -- what is left is its structure, or nothing
 pub closed_none : {P H D K : Type 0} {s : Setting P H D K} {t : Tunables} {who : Who} {cache now : CacheValue} {o p : Standing P K} →
@@ -117,6 +134,12 @@ pub closed_last : {P H D K E : Type 0} {s : Setting P H D K} {t : Tunables} {who
     OnOk r (Does s t who (released_past_cache t b b.arena) p tt z) → OnOk r (Does s t who (released_in_turn t (cache_in_turn cache)) o tt z)
 closed_last {now = now} b z (Ok u) h empty some d = h.ends z (rw (turn_last now b empty some) (does_last (λ u. tt) d))
 closed_last b z (Err e) h empty some d = tt
+
+pub closed_left : {P H D K A E : Type 0} {s : Setting P H D K} {t : Tunables} {who : Who} {cache now : CacheValue} {o p : Standing P K} (b : Block) (z : Standing P K)
+    (r : Result A E) → Empties s t who cache o now p → blocks_of now ≡ [] → structure_of now ≡ Some b →
+    OnErr r (RunsShort s t who (released_past_cache t b b.arena) p z) → OnErr r (RunsShort s t who (released_in_turn t (cache_in_turn cache)) o z)
+closed_left b z (Ok x) h empty some d = tt
+closed_left {now = now} b z (Err e) h empty some d = h.leaves z (rw (turn_last now b empty some) (short_behind (λ u. Done tt) d))
 
 pub closed_none_carries : {P H D K : Type 0} {s : Setting P H D K} {t : Tunables} {who : Who} {cache now : CacheValue} {o p : Standing P K} → SameLaw s.ways →
     Empties s t who cache o now p → blocks_of now ≡ [] → structure_of now ≡ None → Carries s.ways true (in_cache cache) o (in_cache None) p
@@ -130,6 +153,11 @@ closed_last_carries {now = now} well b same h empty some c =
     carries_then h.carries (carries_as same (in_cache now) (in_cache None) (λ w. weigh_last now b empty some w) (λ w. refl) c)
 
 -- ---- the thread leaves its arena
+
+-- or memory was short before that
+pub exit_left : {P H D K : Type 0} {s : Setting P H D K} {t : Tunables} {who : Who} {o z : Standing P K} (thread : ℕ) (own : Own) → RunsShort s t who (released_in_turn t (cache_in_turn own.cache)) o z →
+    RunsShort s t who (exit_call t thread own) o z
+exit_left thread own r = short_behind (λ u. Books (Leaves thread) (λ book. Done (Ended, with_cache None own))) r
 
 pub leaves_does : {P H D K : Type 0} {s : Setting P H D K} {t : Tunables} {who : Who} {o : Standing P K} {p q : P} {space : Space K} (thread : ℕ) (own : Own)
     (left : CacheValue) → left ≡ None → Does s t who (released_in_turn t (cache_in_turn own.cache)) o tt (standing p space) → IsBooked s.ways p (Leaves thread) q →

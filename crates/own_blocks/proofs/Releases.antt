@@ -1,6 +1,6 @@
 -- Laws of a block of an arena that is released, and of a name that loses its block.
 use Rattle.std.proofs.Common.{◌≡◌, ℕ, true, false, List, [], ◌∷◌, Option, Some, None, inl, inr, refl, sym, ap, ◌∙◌, subst, arith}
-use Rattle.std.specs.Prelude.{Result, Ok, Err, IfOk, IfErr, IfSome, nat_le}
+use Rattle.std.specs.Prelude.{Result, Ok, Err, IfOk, IfErr, OnErr, IfSome, nat_le}
 use Rattle.chunk_tags.specs.Sizes.{fast_index_of}
 use Rattle.chunk_tags.specs.declared.block.Block.{Block}
 use Rattle.chunk_tags.specs.declared.tunables.Tunables.{Tunables}
@@ -24,11 +24,16 @@ use Rattle.arena_holds.specs.Holding.{Gives, GivesUp, GivesShort, FreesMapped, P
 use Rattle.arena_holds.specs.Places.{PlaceWays, Setting, Standing, standing, both_of, Carries, weight_of, in_cache}
 use Rattle.own_blocks.specs.Own.{in_own}
 use Rattle.arena_holds.specs.Returning.{IsUnseen}
+use Rattle.arena_holds.specs.RunningShort.{RunsShort}
+use Rattle.arena_holds.specs.Calls.{Done, Pushes}
+use Rattle.own_blocks.specs.LeftCalls.{IsLeft}
 use Rattle.own_blocks.specs.Supplying.{Releases, ReleasesShort}
 use Rattle.arena_holds.proofs.Going.{does_here, does_last, does_then}
 use Rattle.own_blocks.proofs.Calling.{carries_given, carries_renamed, carries_unnamed}
 use Rattle.arena_holds.proofs.Carrying.{SameLaw, carries_here, carries_as, carries_beside, carries_unseen}
 use Rattle.block_names.proofs.Tables.{put_back}
+use Rattle.arena_holds.proofs.RunningShort.{short_here, short_behind, short_give}
+use Rattle.own_blocks.proofs.LeftCalls.{left_behind, left_then}
 use Rattle.own_blocks.proofs.Weights.{in_cache-put}
 
 -- ---- into the cache
@@ -99,6 +104,23 @@ short_pushed t who a p q space b back cache same e u = rw e (record {
       (carries_beside same (both_of (λ weigh. weigh b) (in_cache cache)) (carries_unseen {given = λ _. 0} {got = λ _. 0} false refl (λ w. omega arith) u));
 })
 
+-- there was no room for a push, or memory was short for a hold
+pub left_pushed : {P H D K : Type 0} {s : Setting P H D K} {t : Tunables} {who : Who} {p q : P} {space : Space K} (a : ℕ) (b : Block) (cache : CacheValue) → b.arena ≡ Some a →
+    nat_le b.size t.max_fast ≡ true → (s.ways.room p a → ⊥) → s.ways.idle p q → RunsShort s t who (past_cache t a b cache) (standing p space) (standing q space)
+left_pushed a b cache arena fast full idle =
+    rw fast (short_here (Pushes b (Done (sinks.Fast a (fast_index_of b.size), cache))) (record { a = a; arena = arena; full = full; idle = record { idle = idle; space = refl } }))
+
+pub left_given : {P H D K : Type 0} {s : Setting P H D K} {t : Tunables} {who : Who} {a : ℕ} {o z : Standing P K} {back : Option Block} (b : Block) (cache : CacheValue) →
+    nat_le b.size t.max_fast ≡ false → GivesShort s t who a b o back z → RunsShort s t who (past_cache t a b cache) o z
+left_given {s = s} {a = a} {back = back} b cache slow h = rw slow (short_behind (λ e. Done (sinks.Binned a e.place, e.cache)) (short_give s b cache back h))
+
+-- behind a cache that doesn't take the block
+pub left_past : {P H D K A E : Type 0} (s : Setting P H D K) (t : Tunables) (who : Who) (o z : Standing P K) (a : ℕ) (b back : Block) (cache now : CacheValue) (r : Result A E) →
+    takes cache b ≡ false → now ≡ cache → back ≡ b → OnErr r (RunsShort s t who (past_cache t a back now) o z) → OnErr r (RunsShort s t who (releasing t a b cache) o z)
+left_past s t who o z a b back cache now r refused same e d =
+    let R : CacheValue → Block → Type 0 = λ c k. OnErr r (RunsShort s t who (past_cache t a k c) o z) in
+    rw refused (subst (R cache) e (subst (λ c. R c back) same d))
+
 -- ---- free
 
 pub freed_to : {P H D K : Type 0} {s : Setting P H D K} {t : Tunables} {who : Who} {o z : Standing P K} (a name : ℕ) (b c : Block) (own : Own) (names : NameTable)
@@ -118,6 +140,26 @@ free_does s t who o p z thread a name b own cache (Ok reply) after at arena d e 
     let P : Option ℕ → Type 0 = λ x. Does s t who (free_of_block t thread name b x own) o (reply, after) z in
     rw at (subst P (sym arena) (does_then (λ c. free_to t a name b (with_cache c own)) d (e b at)))
 free_does s t who o p z thread a name b own cache (Err x) after at arena d e = tt
+
+-- a free is left where its block is released, or before that, where the cache is opened
+pub left_freed : {P H D K : Type 0} {s : Setting P H D K} {t : Tunables} {who : Who} {o z : Standing P K} (a name : ℕ) (b c : Block) (own : Own) → c ≡ b →
+    RunsShort s t who (releasing t a c own.cache) o z → RunsShort s t who (free_to t a name b own) o z
+left_freed {s = s} {t = t} {who = who} {o = o} {z = z} a name b c own e r =
+    short_behind (λ x. Done (Freed x.0, with_cache x.1 (without_name name own))) (subst (λ (x : Block). RunsShort s t who (releasing t a x own.cache) o z) e r)
+
+pub free_unopened : {P H D K : Type 0} {s : Setting P H D K} {t : Tunables} {who : Who} {o z : Standing P K} (a name : ℕ) (b : Block) (own : Own) →
+    block_at own.names name ≡ Some b → b.arena ≡ Some a → IsLeft s t who (opening t who.thread own.cache) o z → IsLeft s t who (free_call t who.thread name own) o z
+free_unopened {s = s} {t = t} {who = who} {o = o} {z = z} a name b own at arena l =
+    let P : Option ℕ → Type 0 = λ x. IsLeft s t who (free_of_block t who.thread name b x own) o z in
+    rw at (subst P (sym arena) (left_behind (λ c. free_to t a name b (with_cache c own)) l))
+
+pub free_left : {P H D K A E : Type 0} {s : Setting P H D K} {t : Tunables} {who : Who} {o p z : Standing P K} (a name : ℕ) (b : Block) (own : Own) (cache : CacheValue) (r : Result A E) →
+    block_at own.names name ≡ Some b → b.arena ≡ Some a → Does s t who (opening t who.thread own.cache) o cache p →
+    ((x : Block) → block_at own.names name ≡ Some x → OnErr r (RunsShort s t who (free_to t a name x (with_cache cache own)) p z)) → OnErr r (IsLeft s t who (free_call t who.thread name own) o z)
+free_left a name b own cache (Ok x) at arena d short = tt
+free_left {s = s} {t = t} {who = who} {o = o} {z = z} a name b own cache (Err e) at arena d short =
+    let P : Option ℕ → Type 0 = λ x. IsLeft s t who (free_of_block t who.thread name b x own) o z in
+    rw at (subst P (sym arena) (left_then (λ c. free_to t a name b (with_cache c own)) d (inl (short b at))))
 
 pub free_unmaps : {P H D K : Type 0} {s : Setting P H D K} {t : Tunables} (who : Who) {o z : Standing P K} (thread name : ℕ) (b : Block) (own : Own) (names : NameTable) →
     block_at own.names name ≡ Some b → b.arena ≡ None → names ≡ without_block name own.names → FreesMapped s t b o z →

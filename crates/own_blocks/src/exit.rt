@@ -1,10 +1,11 @@
 //! The end of a thread.
 
-ghost use Rattle.std.specs.Prelude.{◌≡◌, true, None, Ok, IfOk, OnOk, is_ok};
+ghost use Rattle.std.specs.Prelude.{◌≡◌, true, None, Ok, IfOk, OnOk, OnErr, is_ok};
 ghost use Rattle.chunk_tags.specs.Tunables.{IsTuned};
 ghost use Rattle.consolidate_trim.specs.Outside.{means};
 ghost use Rattle.block_names.specs.Blocks.{IsHeld};
 ghost use Rattle.arena_holds.specs.Going.{Does};
+ghost use Rattle.arena_holds.specs.RunningShort.{RunsShort};
 ghost use Rattle.arena_holds.specs.Places.{setting, IsServed, Carries, standing, in_cache};
 ghost use Rattle.own_blocks.specs.Exits.{exit_call, released_in_turn, released_past_cache, cache_in_turn};
 ghost use Rattle.own_blocks.specs.Own.{in_own};
@@ -37,6 +38,10 @@ fn release_last<P: Places, K: Kernel>(
         (Does (setting P.ways (means P.Hold.fast P.Hold.dials K.port) P.Dial.dials) t.now who.now
         (released_past_cache t.now block block.arena)
         (standing p.old space.old) tt (standing p.new space.new)) }
+    ensures left { OnErr result
+        (RunsShort (setting P.ways (means P.Hold.fast P.Hold.dials K.port) P.Dial.dials) t.now
+        who.now (released_past_cache t.now block block.arena)
+        (standing p.old space.old) (standing p.new space.new)) }
     ensures carries { Carries P.ways (is_ok result)
         (λ weigh. weigh block) (standing p.old space.old) (λ _. 0) (standing p.new space.new) }
 {
@@ -69,6 +74,10 @@ fn close_cache<P: Places, K: Kernel>(
         (Does (setting P.ways (means P.Hold.fast P.Hold.dials K.port) P.Dial.dials) t.now who.now
         (released_in_turn t.now (cache_in_turn cache.old))
         (standing p.old space.old) tt (standing p.new space.new)) }
+    ensures left { OnErr result
+        (RunsShort (setting P.ways (means P.Hold.fast P.Hold.dials K.port) P.Dial.dials) t.now
+        who.now (released_in_turn t.now (cache_in_turn cache.old))
+        (standing p.old space.old) (standing p.new space.new)) }
     ensures carries { Carries P.ways (is_ok result) (in_cache cache.old) (standing p.old space.old)
         (in_cache cache.new) (standing p.new space.new) }
     ensures closed { OnOk result (cache.new ≡ None) }
@@ -102,6 +111,10 @@ pub fn exit<P: Places, K: Kernel>(
         Does (setting P.ways (means P.Hold.fast P.Hold.dials K.port) P.Dial.dials) t.now who.now
         (exit_call t.now who.now.thread own.old)
         (standing p.old space.old) (reply, own.new) (standing p.new space.new)) }
+    ensures left { OnErr result
+        (RunsShort (setting P.ways (means P.Hold.fast P.Hold.dials K.port) P.Dial.dials) t.now
+        who.now (exit_call t.now who.now.thread own.old)
+        (standing p.old space.old) (standing p.new space.new)) }
     ensures ended { IfOk result (λ reply. reply ≡ Ended) }
     ensures closed { OnOk result (own.new.cache ≡ None) }
     ensures carries { Carries P.ways (is_ok result) (in_own own.old) (standing p.old space.old)

@@ -12,6 +12,8 @@ ghost use Rattle.chunk_tags.specs.declared.block.Block.{Block as Piece};
 ghost use Rattle.own_blocks.specs.declared.reply.Reply.TheVariants.{Freed, NotYours};
 ghost use Rattle.own_blocks.specs.declared.reply.To.TheVariants.{Cached, Unmapped};
 ghost use Rattle.arena_holds.specs.Going.{Does};
+ghost use Rattle.arena_holds.specs.RunningShort.{RunsShort};
+ghost use Rattle.own_blocks.specs.LeftCalls.{IsLeft};
 ghost use Rattle.arena_holds.specs.Places.{setting, IsServed, Carries, standing};
 ghost use Rattle.own_blocks.specs.Own.{in_own, cached_end};
 
@@ -63,6 +65,10 @@ fn free_chunk<P: Places, K: Kernel>(
     ensures names { OnErr result
         (HoldsOrLoses (setting P.ways (means P.Hold.fast P.Hold.dials K.port) P.Dial.dials) t.now
         who.now name own.old.names own.new.names (standing p.new space.new)) }
+    ensures left { (b : Piece) → block_at own.old.names name ≡ Some b → OnErr result
+        (RunsShort (setting P.ways (means P.Hold.fast P.Hold.dials K.port) P.Dial.dials) t.now
+        who.now (free_to t.now a name b own.old)
+        (standing p.old space.old) (standing p.new space.new)) }
     ensures taken { OnOk result (own.new.names ≡ without_block name own.old.names) }
     ensures freed { IfOk result IsFreed }
     ensures cached { (b : Piece) → block_at own.old.names name ≡ Some b
@@ -106,6 +112,10 @@ pub fn free<P: Places, K: Kernel>(
     ensures names { OnErr result
         (HoldsOrLoses (setting P.ways (means P.Hold.fast P.Hold.dials K.port) P.Dial.dials) t.now
         who.now name own.old.names own.new.names (standing p.new space.new)) }
+    ensures left { OnErr result
+        (IsLeft (setting P.ways (means P.Hold.fast P.Hold.dials K.port) P.Dial.dials) t.now who.now
+        (free_call t.now who.now.thread name own.old)
+        (standing p.old space.old) (standing p.new space.new)) }
     ensures taken { OnOk result (own.new.names ≡ without_block name own.old.names) }
     ensures freed { IfOk result IsFreed }
     ensures cached { cached_end own.old (block_at own.old.names name) ≡ Done

@@ -9,6 +9,7 @@ ghost use Rattle.arena_holds.specs.Holding.{PushesWithRoom};
 ghost use Rattle.block_names.specs.Blocks.{IsHeld};
 ghost use Rattle.arena_holds.specs.Places.{setting, IsServed, standing, both_of, in_cache};
 ghost use Rattle.arena_holds.specs.Returning.{IsUnseen};
+ghost use Rattle.arena_holds.specs.RunningShort.{RunsShort};
 ghost use Rattle.own_blocks.specs.Supplying.{Releases, ReleasesShort};
 ghost use Rattle.own_blocks.specs.declared.reply.To.TheVariants.{Cached};
 
@@ -39,6 +40,7 @@ fn push_fast<P: Places>(p: &mut P, a: u8, block: Block) -> Result<(), Block>
     ensures back { IfErr result (λ b. b ≡ block) }
     ensures kept { OnErr result (IsUnseen P.ways p.old (λ _. 0) (λ _. 0) p.new) }
     ensures full { OnErr result (P.ways.room p.old a → ⊥) }
+    ensures idle { OnErr result (P.ways.idle p.old p.new) }
 {
     match p.make_room(a) {
         Ok(()) => {
@@ -71,6 +73,10 @@ pub fn release_past_cache<P: Places, K: Kernel>(
     ensures short { (cache : CacheValue) → IfErr result (λ e.
         ReleasesShort (setting P.ways (means P.Hold.fast P.Hold.dials K.port) P.Dial.dials) t.now
         who.now a block cache (standing p.old space.old) e.back cache (standing p.new space.new)) }
+    ensures left { (cache : CacheValue) → OnErr result
+        (RunsShort (setting P.ways (means P.Hold.fast P.Hold.dials K.port) P.Dial.dials) t.now
+        who.now (past_cache t.now a block cache)
+        (standing p.old space.old) (standing p.new space.new)) }
     ensures fast { nat_le block.size t.now.max_fast ≡ true → P.ways.room p.old a
         → is_ok result ≡ true }
 {
@@ -113,6 +119,10 @@ pub fn release<P: Places, K: Kernel>(
         ReleasesShort (setting P.ways (means P.Hold.fast P.Hold.dials K.port) P.Dial.dials) t.now
         who.now a block cache.old (standing p.old space.old) e.back
         cache.new (standing p.new space.new)) }
+    ensures left { OnErr result
+        (RunsShort (setting P.ways (means P.Hold.fast P.Hold.dials K.port) P.Dial.dials) t.now
+        who.now (releasing t.now a block cache.old)
+        (standing p.old space.old) (standing p.new space.new)) }
     ensures cached { takes cache.old block ≡ true → result ≡ Ok Cached }
     ensures fast { nat_le block.size t.now.max_fast ≡ true → P.ways.room p.old a
         → is_ok result ≡ true }

@@ -1,8 +1,9 @@
 use Rattle.std.proofs.Common.{false, sym, ap, ◌∙◌, arith}
 use Rattle.thread_cache.specs.Caches.{structure_of}
+use Rattle.arena_core.proofs.Opens.{on_err}
 use Rattle.arena_holds.proofs.Carrying.{carries_err, carries_here, served_after, served_fewer}
 use Rattle.arena_holds.proofs.Going.{does_here}
-use Rattle.own_blocks.proofs.Exits.{closed_is, weigh_drained, weigh_last, empties_next, drained_carries, closed_none, closed_last, closed_none_carries, closed_last_carries}
+use Rattle.own_blocks.proofs.Exits.{closed_is, weigh_drained, weigh_last, empties_next, drained_carries, drained_left, closed_left, closed_none, closed_last, closed_none_carries, closed_last_carries}
 use Rattle.own_blocks.proofs.exit.close_cache.Goals as goal
 
 pub release_last-requires-clause-served : goal.release_last-requires-clause-served
@@ -58,3 +59,13 @@ returns-then-not-is_open-clause-carries g c = carries_here g.P.Places.ways _ _ _
 
 pub returns-then-not-is_open-clause-closed : goal.returns-then-not-is_open-clause-closed
 returns-then-not-is_open-clause-closed g c = closed_is c.args.cache.now (sym c.is_open.ensures ∙ c.if-not-is_open.true)
+
+pub returns-in_err-release_last-clause-left : goal.returns-in_err-release_last-clause-left
+returns-in_err-release_last-clause-left g c =
+    on_err c.from_residual.result
+    (drained_left c.in-Some.block c.loop-block.invariant c.in-Some.ensures.order c.drain.ensures.rest c.in_err-release_last.ensures.left)
+
+pub returns-in-Some-close-clause-left : goal.returns-in-Some-close-clause-left
+returns-in-Some-close-clause-left g c =
+    closed_left c.in-Some-close.structure _ c.release_last-in-Some-close.result c.loop-block.invariant c.in_default.ensures.empty
+    (sym (c.in-Some-close.ensures.structure ∙ ap structure_of c.in_default.ensures.unchanged)) c.release_last-in-Some-close.ensures.left

@@ -7,7 +7,8 @@ use Rattle.arena_holds.specs.Places.{in_cache}
 use Rattle.arena_holds.proofs.Going.{does_here}
 use Rattle.own_blocks.proofs.Calling.{carries_cache, carries_given, own_unnamed}
 use Rattle.arena_holds.proofs.Carrying.{carries_err, carries_here, carries_then, carries_as, served_after, served_fewer}
-use Rattle.own_blocks.proofs.Releases.{free_does, free_unmaps}
+use Rattle.arena_core.proofs.Opens.{on_err}
+use Rattle.own_blocks.proofs.Releases.{free_unopened, free_left, free_does, free_unmaps}
 use Rattle.own_blocks.proofs.free.free.Goals as goal
 
 pub returns-in_default-clause-does : goal.returns-in_default-clause-does
@@ -64,3 +65,13 @@ returns-in_ok-open_cache-in-Some-arena-clause-does g c =
 
 pub returns-in_default-clause-taken : goal.returns-in_default-clause-taken
 returns-in_default-clause-taken g c = sym (nothing_taken c.args.name c.args.own.now.names (sym c.in_default.ensures.block))
+
+pub returns-in_err-open_cache-in-Some-arena-clause-left : goal.returns-in_err-open_cache-in-Some-arena-clause-left
+returns-in_err-open_cache-in-Some-arena-clause-left g c =
+    on_err c.from_residual.result
+    (free_unopened c.in-Some-arena.a c.args.name c.in-Some.named.now c.args.own.now (sym c.in-Some.ensures.block) c.in-Some-arena.is c.in_err-open_cache-in-Some-arena.ensures.left)
+
+pub returns-in_ok-open_cache-in-Some-arena-clause-left : goal.returns-in_ok-open_cache-in-Some-arena-clause-left
+returns-in_ok-open_cache-in-Some-arena-clause-left g c =
+    free_left c.in-Some-arena.a c.args.name c.in-Some.named.now c.args.own.now c.open_cache.new.cache c.free_chunk.result (sym c.in-Some.ensures.block) c.in-Some-arena.is
+    c.in_ok-open_cache-in-Some-arena.ensures.does c.free_chunk.ensures.left

@@ -5,7 +5,7 @@ use Rattle.block_names.proofs.Tables.{place_left}
 use Rattle.arena_holds.specs.Places.{both_of, in_cache}
 use Rattle.own_blocks.proofs.Calling.{own_unnamed, carries_unnamed}
 use Rattle.arena_holds.proofs.Carrying.{served_fewer}
-use Rattle.own_blocks.proofs.Releases.{freed_to, back_carries, back_names, back_held, held_some}
+use Rattle.own_blocks.proofs.Releases.{freed_to, left_freed, back_carries, back_names, back_held, held_some}
 use Rattle.own_blocks.proofs.free.free_chunk.Goals as goal
 
 pub release-requires-clause-served : goal.release-requires-clause-served
@@ -45,3 +45,8 @@ returns-in-Err-clause-names g c =
     let at : block_at c.args.own.now.names c.args.name ≡ Some c.unwrap-block.result = cc in
     back_names c.args.a c.args.name c.unwrap-block.result c.in-Err.short.back c.args.own.now.names c.take.new.self c.put_back.new.names at c.take.ensures.rest
     c.in-Err.ensures.short.same c.in-Err.ensures.short.gone c.put_back.ensures
+
+pub returns-in-Err-clause-left : goal.returns-in-Err-clause-left
+returns-in-Err-clause-left g c = λ b at.
+    let same : c.unwrap-block.result ≡ b = cc in
+    left_freed c.args.a c.args.name b c.unwrap-block.result c.args.own.now same c.in-Err.ensures.left

@@ -1,6 +1,6 @@
 use Rattle.std.proofs.Common.{sym, arith}
 use Rattle.arena_holds.proofs.Carrying.{served_fewer}
-use Rattle.own_blocks.proofs.Releases.{released_cached, released_past, short_past}
+use Rattle.own_blocks.proofs.Releases.{released_cached, released_past, short_past, left_past}
 use Rattle.own_blocks.proofs.releasing.release.Goals as goal
 
 pub release_past_cache-requires-clause-served : goal.release_past_cache-requires-clause-served
@@ -21,3 +21,8 @@ pub returns-in-Err-clause-short : goal.returns-in-Err-clause-short
 returns-in-Err-clause-short g c =
     short_past _ c.args.t.now c.args.who.now c.args.a _ _ c.args.block c.in-Err.back c.args.cache.now c.put.new.self c.put.new.self c.release_past_cache.result
     c.in-Err.ensures.unchanged c.in-Err.ensures.err (c.release_past_cache.ensures.short c.put.new.self)
+
+pub returns-in-Err-clause-left : goal.returns-in-Err-clause-left
+returns-in-Err-clause-left g c =
+    left_past _ _ _ _ _ c.args.a c.args.block c.in-Err.back c.args.cache.now c.put.new.self c.release_past_cache.result
+    (sym c.in-Err.ensures.taken) c.in-Err.ensures.unchanged c.in-Err.ensures.err (c.release_past_cache.ensures.left c.put.new.self)

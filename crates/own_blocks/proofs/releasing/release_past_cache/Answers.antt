@@ -1,6 +1,6 @@
-use Rattle.std.proofs.Common.{false, sym, ◌∙◌, arith}
+use Rattle.std.proofs.Common.{true, false, sym, ◌∙◌, arith}
 use Rattle.arena_holds.specs.Places.{both_of}
-use Rattle.own_blocks.proofs.Releases.{released_fast, released_given, short_given, short_pushed}
+use Rattle.own_blocks.proofs.Releases.{released_fast, released_given, short_given, short_pushed, left_pushed, left_given}
 use Rattle.own_blocks.proofs.releasing.release_past_cache.Goals as goal
 
 pub push_fast-requires-clause-there : goal.push_fast-requires-clause-there
@@ -24,3 +24,11 @@ returns-in-Ok-give_held-clause-releases g c = λ cache.
 
 pub returns-in-Err-give_held-clause-short : goal.returns-in-Err-give_held-clause-short
 returns-in-Err-give_held-clause-short g c = λ cache. short_given c.args.block cache g.met.P.Places.laws.same c.in-Err-give_held.ensures.short
+
+pub returns-in-Err-clause-left : goal.returns-in-Err-clause-left
+returns-in-Err-clause-left g c = λ cache.
+    left_pushed c.args.a c.args.block cache c.requires.arena (sym c.is_fast.ensures ∙ c.if-is_fast.true) c.in-Err.ensures.full c.in-Err.ensures.idle
+
+pub returns-in-Err-give_held-clause-left : goal.returns-in-Err-give_held-clause-left
+returns-in-Err-give_held-clause-left g c = λ cache.
+    left_given c.args.block cache (sym c.is_fast.ensures ∙ c.if-is_fast.false) c.in-Err-give_held.ensures.short
