@@ -37,11 +37,15 @@ use Rattle.arena_holds.specs.Going as going
 use Rattle.arena_holds.specs.Going.{Does, Goes, here}
 use Rattle.arena_holds.specs.Holding.{Resizes, ResizesShort, UnmapsMapped, RemapsMapped}
 use Rattle.arena_holds.specs.Places.{PlaceWays, Setting, Standing, Carries, Hands, IsServed, both_of, weight_of, in_cache}
+use Rattle.arena_holds.specs.RunningShort.{RunsShort}
+use Rattle.own_blocks.specs.LeftCalls.{IsLeft}
 use Rattle.malloc_calls.specs.Resettling.{Resettles}
 use Rattle.own_blocks.specs.Supplying.{Supplies, Releases, ReleasesShort, block_of}
 use Rattle.own_blocks.proofs.Calling.{carries_hand}
 use Rattle.arena_holds.proofs.Carrying.{SameLaw, FewerLaw, carries_here, carries_as, carries_then, carries_beside, carries_fewer, served_after, served_fewer}
 use Rattle.arena_holds.proofs.Going.{does_here, does_last, does_then}
+use Rattle.arena_holds.proofs.RunningShort.{short_behind}
+use Rattle.own_blocks.proofs.LeftCalls.{left_behind, left_after, left_then}
 use Rattle.block_names.proofs.Tables.{at_other, set_twice, without_none, at_same, place_of}
 use Rattle.own_blocks.proofs.Supplies.{rose_later}
 
@@ -95,6 +99,13 @@ moved_short {s = s} {t = t} {who = who} {nb = nb} {cache = cache} {now = now} {l
           (carries_fewer fewer (both_of (λ weigh. weigh got.block) (in_cache left)) (λ w. omega arith)
           (carries_beside same (λ weigh. weigh got.block) r.carries));
     }
+
+pub moved_left : {P H D K : Type 0} {s : Setting P H D K} {t : Tunables} {who : Who} {nb : ℕ} {cache now : CacheValue} {o p z : Standing P K}
+    (a : ℕ) (c : Call Supplied) (b : Block) (got : Supply) (found : Option Supply) → found ≡ Some got → Supplies s t who c nb cache o found now p →
+    RunsShort s t who (releasing t a b now) p z → IsLeft s t who (then_call c (moved_from_arena t a b)) o z
+moved_left {s = s} {t = t} {who = who} {nb = nb} {cache = cache} {now = now} {o = o} {p = p} a c b got found some supplied r =
+    let h : Supplies s t who c nb cache o (Some got) now p = subst (λ x. Supplies s t who c nb cache o x now p) some supplied in
+    left_then (moved_from_arena t a b) h.does (inl (short_behind (λ x. Done (got_block got.from got.block, x.1)) r))
 
 -- another block was got, and the old one's mapping goes back
 pub moved_out : {P H D K : Type 0} {s : Setting P H D K} {t : Tunables} {who : Who} {nb : ℕ} {cache left : CacheValue} {o p z : Standing P K}
@@ -216,6 +227,21 @@ resized_short {s = s} {t = t} {who = who} {o = o} {p = p} {place = place} {now =
       carries = carries_then x.carries h.carries;
     }
 
+-- memory was short in the hold, or behind a refusal
+pub unresized_left : {P H D K : Type 0} {s : Setting P H D K} {t : Tunables} {who : Who} {o z : Standing P K} (thread size nb a : ℕ) (b : Block) (cache : CacheValue) →
+    RunsShort s t who (hold_of a (acts.Resize b.addr b.size nb) cache) o z → IsLeft s t who (resize_in_arena t thread size nb a b cache) o z
+unresized_left {t = t} thread size nb a b cache r = inl (short_behind (λ e. after_resize t thread size nb a e.place (resized_to a b nb e.ended) e.cache) r)
+
+pub resized_left : {P H D K A E : Type 0} {s : Setting P H D K} {t : Tunables} {who : Who} {o p : Standing P K} {place : ℕ} {now : CacheValue}
+    (thread size nb a : ℕ) (b c : Block) (cache : CacheValue) (z : Standing P K) (resized : Resized) (r : Result A E) → resized ≡ sizes.Refused c →
+    Resizes s t who a b nb cache o place resized now p →
+    OnErr r (IsLeft s t who (then_call (plain_supply t thread size nb now) (moved_from_arena t a c)) p z) → OnErr r (IsLeft s t who (resize_in_arena t thread size nb a b cache) o z)
+resized_left thread size nb a b c cache z resized (Ok x) is r l = tt
+resized_left {s = s} {t = t} {who = who} {o = o} {p = p} {place = place} {now = now} thread size nb a b c cache z resized (Err e) is r l =
+    let x : Resizes s t who a b nb cache o place (sizes.Refused c) now p = subst (λ x. Resizes s t who a b nb cache o place x now p) is r in
+    left_then (λ e. after_resize t thread size nb a e.place (resized_to a b nb e.ended) e.cache) x.does
+    (subst (λ (y : Resized). IsLeft s t who (after_resize t thread size nb a place y now) p z) x.became l)
+
 pub served_refused : {P H D K : Type 0} {s : Setting P H D K} {t u : Tunables} {who : Who} {o p : Standing P K} {place : ℕ} {now cache : CacheValue}
     (nb a : ℕ) (b c : Block) (resized : Resized) → resized ≡ sizes.Refused c → Resizes s t who a b nb cache o place resized now p → SameLaw s.ways →
     IsServed s.ways u (both_of (λ weigh. weigh b) (in_cache cache)) o → IsServed s.ways u (both_of (λ weigh. weigh c) (in_cache now)) p
@@ -308,6 +334,13 @@ short_unremapped {s = s} {nb = nb} {p = p} b c cache left z (Err e) h same short
     let y : ResizesShort s b nb cache p e left z = subst (λ (k : Block). ResizesShort s k nb cache p e left z) h.back short in
     record { held = y.held; enough = y.enough; carries = carries_then (unremapped same b c cache h) y.carries }
 
+pub unremapped_left : {P H D K A E : Type 0} {s : Setting P H D K} {t : Tunables} {who : Who} {o p : Standing P K} (thread size nb : ℕ) (b c : Block) (cache : CacheValue) (z : Standing P K) (r : Result A E) →
+    nat_eq (remap_length b nb) (mapping_bytes b) ≡ false → RemapsMapped s b nb o (Err c) p →
+    OnErr r (IsLeft s t who (not_remapped t thread size nb c cache) p z) → OnErr r (IsLeft s t who (realloc_in_mapping t thread size nb b cache) o z)
+unremapped_left thread size nb b c cache z (Ok x) other h l = tt
+unremapped_left {s = s} {t = t} {who = who} {p = p} thread size nb b c cache z (Err e) other h l =
+    rw other (left_after (going.remapped h.step here) (subst (λ (k : Block). IsLeft s t who (not_remapped t thread size nb k cache) p z) h.back l))
+
 -- what is said of the tunables of the places themselves
 pub served_own : {P H D K : Type 0} {ways : PlaceWays P H D} {t : Tunables} {hands : Hands} {o : Standing P K} → IsServed ways t hands o → IsServed ways (ways.tunables o.places) hands o
 served_own s = record {
@@ -344,6 +377,11 @@ settled_does {s = s} {t = t} {who = who} {left = left} {o = o} {z = z} rules nam
     rw (settled_names name done.block own.names taken names gone put) (does_last (settled name own) d)
 
 -- after want of memory
+pub settled_left : {P H D K : Type 0} {s : Setting P H D K} {t : Tunables} {who : Who} {o z : Standing P K} (rules : Block → Call Resettled) (name : ℕ) (b c : Block) (own : Own) → c ≡ b →
+    IsLeft s t who (rules c) o z → IsLeft s t who (then_call (rules b) (λ r. Done (settled name own r))) o z
+settled_left {s = s} {t = t} {who = who} {o = o} {z = z} rules name b c own e l =
+    left_behind (λ r. Done (settled name own r)) (subst (λ (x : Block). IsLeft s t who (rules x) o z) e l)
+
 pub holds_still : (nb name : ℕ) (b c : Block) (names taken now : NameTable) → block_at names name ≡ Some b → taken ≡ without_block name names → now ≡ with_block name c taken →
     (c ≡ b) ⊎ (need_of c.arena nb ≤ c.size) → HoldsStill nb name names now
 holds_still nb name b c names taken now at gone put enough = record {

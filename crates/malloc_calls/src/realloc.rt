@@ -12,6 +12,7 @@ ghost use Rattle.block_names.specs.Names.{block_at};
 ghost use Rattle.arena_holds.specs.Calls.{Done, then_call};
 ghost use Rattle.own_blocks.specs.Calls.{plain_supply, FitsName, HoldsStill};
 ghost use Rattle.own_blocks.specs.Frees.{HoldsOrLoses};
+ghost use Rattle.own_blocks.specs.LeftCalls.{IsLeft};
 ghost use Rattle.malloc_calls.specs.Reallocs.{realloc_call, realloc_in, resize_in_arena, realloc_in_arena, realloc_in_mapping, moved_from_arena, moved_from_mapping, not_remapped, remapped, kept_block, got_block, refused_block, settled, IfAnswered, has_what_it_needs};
 ghost use Rattle.malloc_calls.specs.Resettling.{Resettles};
 ghost use Rattle.arena_holds.specs.Holding.{ResizesShort};
@@ -101,6 +102,11 @@ fn move_from_arena<P: Places, K: Kernel>(
     ensures short { IfErr result (λ back.
         ResizesShort (setting P.ways (means P.Hold.fast P.Hold.dials K.port) P.Dial.dials) block
         nb cache.old (standing p.old space.old) back cache.new (standing p.new space.new)) }
+    ensures left { OnErr result
+        (IsLeft (setting P.ways (means P.Hold.fast P.Hold.dials K.port) P.Dial.dials) t.now who.now
+        (then_call (plain_supply t.now who.now.thread size nb cache.old)
+        (moved_from_arena t.now a block))
+        (standing p.old space.old) (standing p.new space.new)) }
 {
     let found = match plain_supply(cache, alloc, p, who, size, nb, space, t) {
         Ok(found) => found,
@@ -143,6 +149,11 @@ fn move_from_mapping<P: Places, K: Kernel>(
     ensures short { IfErr result (λ back.
         ResizesShort (setting P.ways (means P.Hold.fast P.Hold.dials K.port) P.Dial.dials) block
         nb cache.old (standing p.old space.old) back cache.new (standing p.new space.new)) }
+    ensures left { OnErr result
+        (IsLeft (setting P.ways (means P.Hold.fast P.Hold.dials K.port) P.Dial.dials) t.now who.now
+        (then_call (plain_supply t.now who.now.thread size nb cache.old)
+        (moved_from_mapping block))
+        (standing p.old space.old) (standing p.new space.new)) }
 {
     let found = match plain_supply(cache, alloc, p, who, size, nb, space, t) {
         Ok(found) => found,
@@ -186,6 +197,10 @@ fn resize_in_arena<P: Places, K: Kernel>(
     ensures short { IfErr result (λ back.
         ResizesShort (setting P.ways (means P.Hold.fast P.Hold.dials K.port) P.Dial.dials) block
         nb cache.old (standing p.old space.old) back cache.new (standing p.new space.new)) }
+    ensures left { OnErr result
+        (IsLeft (setting P.ways (means P.Hold.fast P.Hold.dials K.port) P.Dial.dials) t.now who.now
+        (resize_in_arena t.now who.now.thread size nb a block cache.old)
+        (standing p.old space.old) (standing p.new space.new)) }
 {
     let HeldResize { hold, resized } = cache.resize(alloc, p, a, who, block, nb, space, t)?;
     match resized {
@@ -225,6 +240,10 @@ fn realloc_in_arena<P: Places, K: Kernel>(
     ensures short { IfErr result (λ back.
         ResizesShort (setting P.ways (means P.Hold.fast P.Hold.dials K.port) P.Dial.dials) block
         nb cache.old (standing p.old space.old) back cache.new (standing p.new space.new)) }
+    ensures left { OnErr result
+        (IsLeft (setting P.ways (means P.Hold.fast P.Hold.dials K.port) P.Dial.dials) t.now who.now
+        (realloc_in_arena t.now who.now.thread size nb a block cache.old)
+        (standing p.old space.old) (standing p.new space.new)) }
 {
     match open_cache(cache, alloc, p, who, space, t) {
         Ok(()) => resize_in_arena(cache, alloc, p, who, a, block, size, nb, space, t),
@@ -271,6 +290,10 @@ fn realloc_in_mapping<P: Places, K: Kernel>(
     ensures short { IfErr result (λ back.
         ResizesShort (setting P.ways (means P.Hold.fast P.Hold.dials K.port) P.Dial.dials) block
         nb cache.old (standing p.old space.old) back cache.new (standing p.new space.new)) }
+    ensures left { OnErr result
+        (IsLeft (setting P.ways (means P.Hold.fast P.Hold.dials K.port) P.Dial.dials) t.now who.now
+        (realloc_in_mapping t.now who.now.thread size nb block cache.old)
+        (standing p.old space.old) (standing p.new space.new)) }
     ensures mapped { has_what_it_needs nb block ≡ true → is_ok result ≡ true }
 {
     if has_length(&block, nb) {
@@ -311,6 +334,10 @@ fn keep_or_move<P: Places, K: Kernel>(
     ensures short { IfErr result (λ back.
         ResizesShort (setting P.ways (means P.Hold.fast P.Hold.dials K.port) P.Dial.dials) block
         nb cache.old (standing p.old space.old) back cache.new (standing p.new space.new)) }
+    ensures left { OnErr result
+        (IsLeft (setting P.ways (means P.Hold.fast P.Hold.dials K.port) P.Dial.dials) t.now who.now
+        (not_remapped t.now who.now.thread size nb block cache.old)
+        (standing p.old space.old) (standing p.new space.new)) }
     ensures room { nat_le nb (block.size - 8) ≡ true → is_ok result ≡ true }
 {
     if has_room(&block, nb) {
@@ -346,6 +373,10 @@ fn realloc_block<P: Places, K: Kernel>(
     ensures short { IfErr result (λ back.
         ResizesShort (setting P.ways (means P.Hold.fast P.Hold.dials K.port) P.Dial.dials) block
         nb cache.old (standing p.old space.old) back cache.new (standing p.new space.new)) }
+    ensures left { OnErr result
+        (IsLeft (setting P.ways (means P.Hold.fast P.Hold.dials K.port) P.Dial.dials) t.now who.now
+        (realloc_in t.now who.now.thread size nb block block.arena cache.old)
+        (standing p.old space.old) (standing p.new space.new)) }
     ensures mapped { block.arena ≡ None → has_what_it_needs nb block ≡ true → is_ok result ≡ true }
 {
     match block.arena {
@@ -384,6 +415,11 @@ fn realloc_name<P: Places, K: Kernel>(
         (in_own own.new) (standing p.new space.new) }
     ensures others { (n : ℕ) → (n ≡ name → ⊥)
         → block_at own.new.names n ≡ block_at own.old.names n }
+    ensures left { (b : Piece) → block_at own.old.names name ≡ Some b → OnErr result
+        (IsLeft (setting P.ways (means P.Hold.fast P.Hold.dials K.port) P.Dial.dials) t.now who.now
+        (then_call (realloc_in t.now who.now.thread size nb b b.arena own.old.cache)
+        (λ r. Done (settled name own.old r)))
+        (standing p.old space.old) (standing p.new space.new)) }
     ensures back { OnErr result (HoldsStill nb name own.old.names own.new.names) }
     ensures mapped { (b : Piece) → block_at own.old.names name ≡ Some b → b.arena ≡ None
         → has_what_it_needs nb b ≡ true → is_ok result ≡ true }
@@ -432,6 +468,10 @@ pub fn realloc<P: Places, K: Kernel>(
         (in_own own.new) (standing p.new space.new) }
     ensures others { (n : ℕ) → (n ≡ name → ⊥)
         → block_at own.new.names n ≡ block_at own.old.names n }
+    ensures left { OnErr result
+        (IsLeft (setting P.ways (means P.Hold.fast P.Hold.dials K.port) P.Dial.dials) t.now who.now
+        (realloc_call t.now who.now.thread name size own.old)
+        (standing p.old space.old) (standing p.new space.new)) }
     ensures back { (size ≡ 0 → ⊥)
         → OnErr result (HoldsStill (chunk_size_of size) name own.old.names own.new.names) }
     ensures lost { size ≡ 0 → OnErr result

@@ -395,6 +395,11 @@ impl<K: Kernel> Thread<K> {
             (in_own (own_of self.new)) (standing p.new (space_of self.new)) }
         ensures others { (n : ℕ) → (n ≡ name → ⊥)
             → block_at (names_of self.new) n ≡ block_at (names_of self.old) n }
+        ensures left { OnErr result
+            (IsLeft (setting P.ways (means P.Hold.fast P.Hold.dials K.port) P.Dial.dials) t.now
+            (who_of line self.old)
+            (realloc_call t.now (number_of self.old) name size (own_of self.old))
+            (standing p.old (space_of self.old)) (standing p.new (space_of self.new))) }
         ensures back { (size ≡ 0 → ⊥) → OnErr result
             (HoldsStill (chunk_size_of size) name (names_of self.old) (names_of self.new)) }
         ensures lost { size ≡ 0 → OnErr result

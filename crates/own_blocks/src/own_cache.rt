@@ -7,6 +7,8 @@ ghost use Rattle.consolidate_trim.specs.Outside.{means};
 ghost use Rattle.thread_cache.specs.Caches.{opened, is_open, takes, newest, without_newest, with_newest, blocks_of, without_next, structure_of};
 ghost use Rattle.thread_cache.specs.Held.{IsCachedAt, IsSound};
 ghost use Rattle.block_names.specs.Blocks.{IsHeld};
+ghost use Rattle.arena_core.specs.declared.journal.Act.TheVariants.{Resize};
+ghost use Rattle.arena_holds.specs.Calls.{hold_of};
 ghost use Rattle.arena_holds.specs.Holding.{Finds, Resizes, ResizesShort};
 ghost use Rattle.arena_holds.specs.RunningShort.{RunsShort};
 ghost use Rattle.arena_holds.specs.Places.{setting, IsServed, Carries, standing, both_of, in_cache};
@@ -183,6 +185,10 @@ impl OwnCache {
         ensures short { IfErr result (λ back.
             ResizesShort (setting P.ways (means P.Hold.fast P.Hold.dials K.port) P.Dial.dials) b nb
             self.old (standing p.old space.old) back self.new (standing p.new space.new)) }
+        ensures left { OnErr result
+            (RunsShort (setting P.ways (means P.Hold.fast P.Hold.dials K.port) P.Dial.dials) t.now
+            who.now (hold_of a (Resize b.addr b.size nb) self.old)
+            (standing p.old space.old) (standing p.new space.new)) }
     {
         resize_held(alloc, p, a, who, b, nb, &mut self.cache, space, t)
     }

@@ -1,6 +1,7 @@
 use Rattle.std.proofs.Common.{refl}
 use Rattle.malloc_calls.specs.Reallocs.{moved_from_arena}
-use Rattle.malloc_calls.proofs.Resettlings.{nothing_got, moved_away, moved_short, short_before, served_got}
+use Rattle.own_blocks.proofs.LeftCalls.{left_behind}
+use Rattle.malloc_calls.proofs.Resettlings.{nothing_got, moved_away, moved_left, moved_short, short_before, served_got}
 use Rattle.malloc_calls.proofs.realloc.move_from_arena.Goals as goal
 
 pub release-requires-clause-served : goal.release-requires-clause-served
@@ -23,3 +24,10 @@ pub returns-in-Err-release-clause-short : goal.returns-in-Err-release-clause-sho
 returns-in-Err-release-clause-short g c =
     moved_short _ c.args.block c.in-Some.got c.in-Ok.found c.in-Err-release._lost.back c.in-Some.is c.in-Ok.ensures.supplies c.in-Err-release.ensures.short g.met.P.Places.laws.same
     g.met.P.Places.laws.fewer
+
+pub returns-in-Err-clause-left : goal.returns-in-Err-clause-left
+returns-in-Err-clause-left g c = left_behind (moved_from_arena c.args.t.now c.args.a c.args.block) c.in-Err.ensures.left
+
+pub returns-in-Err-release-clause-left : goal.returns-in-Err-release-clause-left
+returns-in-Err-release-clause-left g c =
+    moved_left c.args.a _ c.args.block c.in-Some.got c.in-Ok.found c.in-Some.is c.in-Ok.ensures.supplies c.in-Err-release.ensures.left

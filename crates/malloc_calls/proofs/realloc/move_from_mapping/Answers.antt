@@ -1,6 +1,7 @@
 use Rattle.std.proofs.Common.{refl, arith}
 use Rattle.malloc_calls.specs.Reallocs.{moved_from_mapping}
 use Rattle.arena_holds.proofs.Carrying.{served_fewer}
+use Rattle.own_blocks.proofs.LeftCalls.{left_behind}
 use Rattle.malloc_calls.proofs.Resettlings.{nothing_got, moved_out, short_before, served_own, served_got}
 use Rattle.malloc_calls.proofs.realloc.move_from_mapping.Goals as goal
 
@@ -20,3 +21,6 @@ returns-in-None-clause-resettles g c =
 pub returns-in-Some-clause-resettles : goal.returns-in-Some-clause-resettles
 returns-in-Some-clause-resettles g c =
     rw c.got_block.ensures (moved_out _ c.args.block c.in-Some.got c.in-Ok.found c.in-Some.is c.in-Ok.ensures.supplies c.unmap_mapped.ensures.unmaps g.met.P.Places.laws.same)
+
+pub returns-in-Err-clause-left : goal.returns-in-Err-clause-left
+returns-in-Err-clause-left g c = left_behind (moved_from_mapping c.args.block) c.in-Err.ensures.left

@@ -3,6 +3,8 @@ use Rattle.arena_holds.specs.Places.{in_cache}
 use Rattle.malloc_calls.specs.Reallocs.{resize_in_arena}
 use Rattle.own_blocks.proofs.Calling.{carries_hand}
 use Rattle.arena_holds.proofs.Carrying.{served_after, served_fewer}
+use Rattle.arena_holds.proofs.Searches.{err_map}
+use Rattle.own_blocks.proofs.LeftCalls.{left_behind, left_then}
 use Rattle.malloc_calls.proofs.Resettlings.{settles_then, short_then, short_before}
 use Rattle.malloc_calls.proofs.realloc.realloc_in_arena.Goals as goal
 
@@ -27,3 +29,12 @@ returns-in-Ok-clause-short g c =
 
 pub returns-in-Err-clause-short : goal.returns-in-Err-clause-short
 returns-in-Err-clause-short g c = short_before c.args.block g.met.P.Places.laws.same c.requires.held c.in-Err.ensures.carries
+
+pub returns-in-Ok-clause-left : goal.returns-in-Ok-clause-left
+returns-in-Ok-clause-left g c =
+    err_map c.resize_in_arena.result
+    (λ l. left_then (resize_in_arena c.args.t.now c.args.who.now.thread c.args.size c.args.nb c.args.a c.args.block) c.in-Ok.ensures.does l) c.resize_in_arena.ensures.left
+
+pub returns-in-Err-clause-left : goal.returns-in-Err-clause-left
+returns-in-Err-clause-left g c =
+    left_behind (resize_in_arena c.args.t.now c.args.who.now.thread c.args.size c.args.nb c.args.a c.args.block) c.in-Err.ensures.left

@@ -1,5 +1,5 @@
 use Rattle.std.proofs.Common.{refl, sym, ◌∙◌}
-use Rattle.malloc_calls.proofs.Resettlings.{kept_mapped, has_length_fits, remapped_to, remap_refused, served_unremapped, short_unremapped}
+use Rattle.malloc_calls.proofs.Resettlings.{kept_mapped, has_length_fits, remapped_to, remap_refused, served_unremapped, short_unremapped, unremapped_left}
 use Rattle.malloc_calls.proofs.realloc.realloc_in_mapping.Goals as goal
 
 pub returns-then-has_length-clause-resettles : goal.returns-then-has_length-clause-resettles
@@ -26,3 +26,8 @@ pub returns-in-Err-clause-short : goal.returns-in-Err-clause-short
 returns-in-Err-clause-short g c =
     short_unremapped c.args.block c.in-Err.block c.args.cache.now c.keep_or_move.new.cache _ c.keep_or_move.result c.in-Err.ensures.remaps g.met.P.Places.laws.same
     c.keep_or_move.ensures.short
+
+pub returns-in-Err-clause-left : goal.returns-in-Err-clause-left
+returns-in-Err-clause-left g c =
+    unremapped_left c.args.who.now.thread c.args.size c.args.nb c.args.block c.in-Err.block c.args.cache.now _ c.keep_or_move.result
+    (sym c.has_length.ensures ∙ c.if-has_length.false) c.in-Err.ensures.remaps c.keep_or_move.ensures.left

@@ -5,7 +5,7 @@ use Rattle.arena_holds.specs.Places.{both_of, in_cache}
 use Rattle.malloc_calls.specs.Reallocs.{realloc_in}
 use Rattle.own_blocks.proofs.Calling.{own_unnamed, carries_renamed}
 use Rattle.arena_holds.proofs.Carrying.{served_fewer}
-use Rattle.malloc_calls.proofs.Resettlings.{settled_does, holds_still, settled_fits}
+use Rattle.malloc_calls.proofs.Resettlings.{settled_does, settled_left, holds_still, settled_fits}
 use Rattle.malloc_calls.proofs.realloc.realloc_name.Goals as goal
 
 pub realloc_block-requires-clause-served : goal.realloc_block-requires-clause-served
@@ -49,3 +49,9 @@ returns-in-Ok-clause-fits g c =
     let at : block_at c.args.own.now.names c.args.name ≡ Some c.unwrap-block.result = cc in
     settled_fits c.in-Ok.field-0.reply c.args.nb c.args.name c.unwrap-block.result c.in-Ok.field-0.block c.args.own.now.names c.take.new.self c.put.new.self at c.take.ensures.rest
     c.put.ensures c.in-Ok.ensures.resettles.fits
+
+pub returns-in-Err-clause-left : goal.returns-in-Err-clause-left
+returns-in-Err-clause-left g c = λ b at.
+    let same : c.unwrap-block.result ≡ b = cc in
+    settled_left (λ x. realloc_in c.args.t.now c.args.who.now.thread c.args.size c.args.nb x x.arena c.args.own.now.cache) c.args.name b c.unwrap-block.result c.args.own.now
+    same c.in-Err.ensures.left

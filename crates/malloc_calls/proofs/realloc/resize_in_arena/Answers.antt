@@ -1,4 +1,5 @@
-use Rattle.malloc_calls.proofs.Resettlings.{resized_kept, resized_moved, resized_refused, resized_short, served_refused}
+use Rattle.arena_core.proofs.Opens.{on_err}
+use Rattle.malloc_calls.proofs.Resettlings.{resized_kept, resized_moved, resized_refused, resized_short, unresized_left, resized_left, served_refused}
 use Rattle.malloc_calls.proofs.realloc.resize_in_arena.Goals as goal
 
 pub move_from_arena-requires-clause-served : goal.move_from_arena-requires-clause-served
@@ -27,3 +28,13 @@ pub returns-in-Refused-clause-short : goal.returns-in-Refused-clause-short
 returns-in-Refused-clause-short g c =
     resized_short c.args.nb c.args.a c.args.block c.in-Refused.block c.args.cache.now c.move_from_arena.new.cache _ c.in_ok-hold.field-0.resized
     c.move_from_arena.result c.in-Refused.is c.in_ok-hold.ensures.resizes c.move_from_arena.ensures.short
+
+pub returns-in_err-hold-clause-left : goal.returns-in_err-hold-clause-left
+returns-in_err-hold-clause-left g c =
+    on_err c.from_residual.result
+    (unresized_left c.args.who.now.thread c.args.size c.args.nb c.args.a c.args.block c.args.cache.now c.in_err-hold.ensures.left)
+
+pub returns-in-Refused-clause-left : goal.returns-in-Refused-clause-left
+returns-in-Refused-clause-left g c =
+    resized_left c.args.who.now.thread c.args.size c.args.nb c.args.a c.args.block c.in-Refused.block c.args.cache.now _ c.in_ok-hold.field-0.resized c.move_from_arena.result
+    c.in-Refused.is c.in_ok-hold.ensures.resizes c.move_from_arena.ensures.left
