@@ -4,6 +4,7 @@ use Rattle.std.specs.Prelude.{codes}
 use Rattle.own_blocks.specs.declared.reply.Reply.{Reply}
 use Rattle.stats_text.specs.declared.records.Outcome.{Outcome}
 use Rattle.stats_text.specs.declared.summary.Counts.{Counts}
+use Rattle.stats_text.specs.Appends.{LacksRoom}
 use Rattle.stats_text.specs.Records.{record_text}
 use Rattle.stats_text.specs.Summary.{gives_block, is_null, is_missed, is_skip, counts_of, count_with, counts_with}
 use Rattle.stats_text.proofs.CountLaws.{counts_push}
@@ -12,7 +13,7 @@ use Rattle.trace_text.specs.Spelling.{spelling_of, texts_of}
 use Rattle.trace_replay.specs.declared.sheet.Records.{Records}
 use Rattle.trace_replay.specs.declared.sheet.Sheet.{Sheet}
 use Rattle.trace_replay.specs.declared.sheet.Sheet.TheVariants.{Report, Summary}
-use Rattle.trace_replay.specs.Sheets.{HasNoted, HasRoomFor, Awaits, CanNote, NotesReply}
+use Rattle.trace_replay.specs.Sheets.{HasNoted, HasRoomFor, Awaits, CanNote, NotesReply, LacksRoomFor}
 use Rattle.trace_replay.specs.Records.{outcome_of, outcomes_of, record_of, records_of}
 
 records_of-push : (replies : List (Line × Reply)) (x : Line × Reply) → records_of (replies ++ x ∷ []) ≡ records_of replies ++ record_of x
@@ -59,6 +60,15 @@ record_noted before old now line reply said rest is says appends awaits =
             | false ↦ λ has. text_more (codes "ptmreport 1 serial\n") old.text.items now.text.items line reply said replies has says appended.0
           ];
     })
+
+-- where that record lacks room, the reply can't be noted
+pub record_lacks : (before : Sheet) (old : Records) (line : Line) (reply : Reply) (said : Outcome) (rest : List Line) → before ≡ Report old → said ≡ outcome_of line.call reply →
+    ((next : Line) (others : List Line) → old.texts ≡ texts_of (next ∷ others) → LacksRoom old.text (record_text (spelling_of next) said false)) →
+    Awaits before (line ∷ rest) → LacksRoomFor before line reply
+record_lacks before old line reply said rest is says lacks awaits =
+    let at : old.texts ≡ texts_of (line ∷ rest) = rw is at awaits in
+    let lacking : LacksRoom old.text (record_text (spelling_of line) said false) = lacks line rest at in
+    rw is (rw says at lacking)
 
 within_one : (n : ℕ) (counts : Bool) → count_with n counts ≤ n + 1
 within_one n true = omega arith

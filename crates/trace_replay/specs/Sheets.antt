@@ -3,6 +3,7 @@
 use Rattle.std.specs.Prelude.{◌≡◌, ℕ, ◌+◌, ◌^◌, ◌<◌, Bool, true, false, List, [], ◌∷◌, ◌++◌, length, codes, Result, Ok}
 use Rattle.own_blocks.specs.declared.reply.Reply.{Reply}
 use Rattle.stats_text.specs.declared.summary.Counts.{Counts}
+use Rattle.stats_text.specs.Appends.{LacksRoom}
 use Rattle.stats_text.specs.Summary.{HasRoom, counts_of, summary_of}
 use Rattle.stats_text.specs.Views.{Shown}
 use Rattle.trace_text.specs.declared.trace.Line.{Line}
@@ -10,7 +11,7 @@ use Rattle.trace_text.specs.Spelling.{spelling, texts_of, Allows}
 use Rattle.trace_replay.specs.declared.exit.Exit.{Exit}
 use Rattle.trace_replay.specs.declared.sheet.Sheet.{Sheet}
 use Rattle.trace_replay.specs.declared.sheet.Sheet.TheVariants.{Report, Summary}
-use Rattle.trace_replay.specs.Records.{outcomes_of, records_of}
+use Rattle.trace_replay.specs.Records.{outcomes_of, record_of, records_of}
 use Rattle.trace_replay.specs.Runs.{Run}
 use Rattle.trace_replay.specs.SerialText.{sections}
 use Rattle.trace_replay.specs.World.{World}
@@ -60,6 +61,11 @@ pub record NotesReply (before : Sheet) (line : Line) (reply : Reply) (rest : Lis
   pub awaits : Awaits now rest
   pub noted : (summary : Bool) (replies : List (Line × Reply)) → HasNoted summary before replies →
       HasNoted summary now (replies ++ (line, reply) ∷ [])
+
+-- A reply can't be noted for want of memory: its record is longer than the room that is left. A summary wants no memory.
+abbrev pub LacksRoomFor : Sheet → Line → Reply → Type 0
+LacksRoomFor (Report records) line reply = LacksRoom records.text (record_of (line, reply))
+LacksRoomFor (Summary counts) line reply = ⊥
 
 -- Lines give a run, which ends in this world, and a sheet has its replies, where it had none before.
 pub record NotesRun {K : Type 0} (before now : Sheet) (rules : Result (Run K) Exit) (w : World K) : Type 0 where

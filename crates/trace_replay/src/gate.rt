@@ -1,7 +1,7 @@
 //! What a run with threads asks ahead of each line and behind it.
 
 /// A worker calls `before` ahead of each line and `after` behind it, with the thread's number and the line's.
-/// Both may wait. A serial run calls neither.
+/// Both may wait. A serial run calls neither, which no clause says and a test shows.
 pub trait Gate: Sync {
     fn before(&self, thread: u8, line: u64);
 

@@ -1,11 +1,12 @@
 //! What a run writes, line by line: the records of a report, or the counts of a summary.
 
-ghost use Rattle.std.specs.Prelude.{◌≡◌, ◌<◌, ◌^◌, ◌∷◌, ◌++◌, [], List, false, length, codes, IfOk, OnOk};
+ghost use Rattle.std.specs.Prelude.{◌≡◌, ◌<◌, ◌^◌, ◌∷◌, ◌++◌, [], List, false, length, codes, IfOk, OnOk, OnErr};
+ghost use Rattle.stats_text.specs.Appends.{LacksRoom};
 ghost use Rattle.stats_text.specs.Records.{record_text};
 ghost use Rattle.stats_text.specs.Totals.{HasTotals};
 ghost use Rattle.trace_text.specs.Spelling.{spelling_of, texts_of};
 ghost use Rattle.trace_text.specs.declared.trace.Line.{Line};
-ghost use Rattle.trace_replay.specs.Sheets.{IsTrace, HasNoted, Awaits, CanNote, NotesReply, Spells, text_with};
+ghost use Rattle.trace_replay.specs.Sheets.{IsTrace, HasNoted, Awaits, CanNote, NotesReply, LacksRoomFor, Spells, text_with};
 
 use crate::record::outcome;
 use chunk_tags::NoMemory;
@@ -38,10 +39,13 @@ impl<'a> Records<'a> {
 
     /// Appends the record of the next line.
     fn append(&mut self, said: &Outcome) -> Result<(), NoMemory>
-        ensures { OnOk result ((line : Line) (rest : List Line) →
+        ensures ok { OnOk result ((line : Line) (rest : List Line) →
             self.old.texts ≡ texts_of (line ∷ rest) → (self.new.text.items ≡
             self.old.text.items ++ record_text (spelling_of line) said.now false)
             × (self.new.texts ≡ texts_of rest)) }
+        ensures full { OnErr result ((line : Line) (rest : List Line) →
+            self.old.texts ≡ texts_of (line ∷ rest) →
+            LacksRoom self.old.text (record_text (spelling_of line) said.now false)) }
     {
         append_record(&mut self.text, self.texts.take(), said, false)
     }
@@ -68,11 +72,13 @@ impl<'a> Sheet<'a> {
         }
     }
 
-    /// Notes the reply to the next line.
+    /// Notes the reply to the next line. Of a summary that asks for no memory.
     pub fn note(&mut self, line: &Line, reply: &Reply) -> Result<(), NoMemory>
         requires { CanNote self.old }
-        ensures { OnOk result ((rest : List Line) → Awaits self.old (line.now ∷ rest) →
+        ensures noted { OnOk result ((rest : List Line) → Awaits self.old (line.now ∷ rest) →
             NotesReply self.old line.now reply.now rest self.new) }
+        ensures full { OnErr result ((rest : List Line) → Awaits self.old (line.now ∷ rest) →
+            LacksRoomFor self.old line.now reply.now) }
     {
         let said = outcome(&line.call, reply);
         match self {
