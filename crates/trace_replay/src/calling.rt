@@ -1,8 +1,8 @@
 //! A line of a trace as a call of its thread, over the places of one order of calls.
 
-ghost use Rattle.std.specs.Prelude.{◌≡◌, ◌≤◌, ◌*◌, ℕ, None, IfOk, length};
+ghost use Rattle.std.specs.Prelude.{◌≡◌, ◌≤◌, ◌*◌, ℕ, None, false, IfOk, OnErr, length};
 ghost use Rattle.chunk_tags.specs.Tunables.{IsTuned};
-ghost use Rattle.block_names.specs.Names.{block_at, IsTable};
+ghost use Rattle.block_names.specs.Names.{block_at, has_place, IsTable};
 ghost use Rattle.malloc_calls.specs.Threads.{names_of, number_of, own_of, who_of};
 ghost use Rattle.serial_places.specs.Trays.{tray_at};
 ghost use Rattle.serial_places.specs.declared.tray.Tray.TheVariants.{Empty};
@@ -163,7 +163,7 @@ fn exit<K: Kernel>(
     thread.exit(alloc, serial, line, t)
 }
 
-/// Posts a name's block to a tray that is empty.
+/// Posts a name's block to a tray that is empty. `NoMemory` comes only where the name has no place yet.
 fn post<K: Kernel>(
     thread: &mut Thread<K>,
     serial: &mut Serial,
@@ -181,12 +181,13 @@ fn post<K: Kernel>(
     ensures keeps { IfOk result (λ _. KeepsOn thread.old serial.old thread.new serial.new) }
     ensures names { IfOk result (λ reply. PostsName name tray reply
         (names_of thread.old) (names_of thread.new) serial.old.trays serial.new.trays) }
+    ensures full { OnErr result (has_place (names_of thread.old) name ≡ false) }
 {
     thread.ready(name)?;
     Ok(thread.post(serial, name, tray))
 }
 
-/// Takes a tray's block under a name that holds nothing.
+/// Takes a tray's block under a name that holds nothing. `NoMemory` comes only where the name has no place yet.
 fn take<K: Kernel>(
     thread: &mut Thread<K>,
     serial: &mut Serial,
@@ -204,6 +205,7 @@ fn take<K: Kernel>(
     ensures keeps { IfOk result (λ _. KeepsOn thread.old serial.old thread.new serial.new) }
     ensures names { IfOk result (λ reply. TakesName name tray reply
         (names_of thread.old) (names_of thread.new) serial.old.trays serial.new.trays) }
+    ensures full { OnErr result (has_place (names_of thread.old) name ≡ false) }
 {
     thread.ready(name)?;
     Ok(thread.take(serial, name, tray))
