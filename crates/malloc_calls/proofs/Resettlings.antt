@@ -16,7 +16,7 @@ use Rattle.arena_holds.specs.Calls.{Call, Done, then_call, hold_of, hold_end, ta
 use Rattle.own_blocks.specs.Calls.{Supplied, origin_of, plain_supply, releasing, FitsName, HoldsStill}
 use Rattle.chunk_tags.specs.Sizes.{padded_request}
 use Rattle.own_blocks.specs.Frees.{IsFreed, HoldsOrLoses}
-use Rattle.malloc_calls.specs.Reallocs.{realloc_call, Resettled, kept_block, got_block, refused_block, moved_from_arena, moved_from_mapping, after_resize, resize_in_arena, remapped, not_remapped, realloc_in_mapping, settled, IfAnswered}
+use Rattle.malloc_calls.specs.Reallocs.{realloc_call, realloc_in, Resettled, kept_block, got_block, refused_block, moved_from_arena, moved_from_mapping, after_resize, resize_in_arena, remapped, not_remapped, realloc_in_mapping, settled, IfAnswered}
 use Rattle.arena_holds.specs.Holding.{resized_to, placed_block}
 use Rattle.own_blocks.specs.declared.own.Own.{Own}
 use Rattle.malloc_calls.specs.declared.realloc.Reallocated.{Reallocated}
@@ -334,11 +334,11 @@ short_unremapped {s = s} {nb = nb} {p = p} b c cache left z (Err e) h same short
     let y : ResizesShort s b nb cache p e left z = subst (λ (k : Block). ResizesShort s k nb cache p e left z) h.back short in
     record { held = y.held; enough = y.enough; carries = carries_then (unremapped same b c cache h) y.carries }
 
-pub unremapped_left : {P H D K A E : Type 0} {s : Setting P H D K} {t : Tunables} {who : Who} {o p : Standing P K} (thread size nb : ℕ) (b c : Block) (cache : CacheValue) (z : Standing P K) (r : Result A E) →
+pub unremapped_left : {P H D K A E : Type 0} {s : Setting P H D K} {o p : Standing P K} (t : Tunables) (who : Who) (thread size nb : ℕ) (b c : Block) (cache : CacheValue) (z : Standing P K) (r : Result A E) →
     nat_eq (remap_length b nb) (mapping_bytes b) ≡ false → RemapsMapped s b nb o (Err c) p →
     OnErr r (IsLeft s t who (not_remapped t thread size nb c cache) p z) → OnErr r (IsLeft s t who (realloc_in_mapping t thread size nb b cache) o z)
-unremapped_left thread size nb b c cache z (Ok x) other h l = tt
-unremapped_left {s = s} {t = t} {who = who} {p = p} thread size nb b c cache z (Err e) other h l =
+unremapped_left t who thread size nb b c cache z (Ok x) other h l = tt
+unremapped_left {s = s} {p = p} t who thread size nb b c cache z (Err e) other h l =
     rw other (left_after (going.remapped h.step here) (subst (λ (k : Block). IsLeft s t who (not_remapped t thread size nb k cache) p z) h.back l))
 
 -- what is said of the tunables of the places themselves
@@ -450,3 +450,10 @@ freed_others s t who z name names now (Err e) gone short n other = elim short [
 pub realloc_big : {P H D K : Type 0} (s : Setting P H D K) (t : Tunables) (who : Who) (thread name size : ℕ) (b : Block) (own : Own) (o : Standing P K) →
     block_at own.names name ≡ Some b → nat_eq size 0 ≡ false → padded_request size ≡ None → Does s t who (realloc_call t thread name size own) o (Null Big, own) o
 realloc_big s t who thread name size b own o at some big = rw (at, some, big) (does_here (Null Big, own) o)
+
+-- a realloc is left where its block gets another size
+pub realloc_left : {P H D K A E : Type 0} (s : Setting P H D K) (t : Tunables) (who : Who) (thread name size nb : ℕ) (b : Block) (own : Own) (o z : Standing P K) (r : Result A E) →
+    block_at own.names name ≡ Some b → nat_eq size 0 ≡ false → padded_request size ≡ Some nb →
+    ((x : Block) → block_at own.names name ≡ Some x → OnErr r (IsLeft s t who (then_call (realloc_in t thread size nb x x.arena own.cache) (λ y. Done (settled name own y))) o z)) →
+    OnErr r (IsLeft s t who (realloc_call t thread name size own) o z)
+realloc_left s t who thread name size nb b own o z r at some padded left = rw (at, some, padded) (left b at)

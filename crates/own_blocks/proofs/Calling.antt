@@ -1,5 +1,5 @@
 -- Laws of the parts of a call: opening the cache, and a block beside the others of a thread.
-use Rattle.std.proofs.Common.{◌≡◌, ℕ, ◌<◌, Bool, true, false, List, Option, Some, None, length, refl, arith}
+use Rattle.std.proofs.Common.{◌≡◌, ℕ, Bool, true, false, Option, Some, None, refl, arith}
 use Rattle.std.specs.Prelude.{Result, Ok, Err, OnOk, OnErr, is_ok}
 use Rattle.chunk_tags.specs.Sizes.{structure_size}
 use Rattle.chunk_tags.specs.declared.block.Block.{Block}

@@ -1,7 +1,7 @@
 -- Laws of calls that are left for want of memory: calls in a row, and the opening of the cache.
-use Rattle.std.proofs.Common.{◌≡◌, ℕ, Bool, true, false, Option, Some, inl, inr, refl, sym, ap, subst, List, [], ◌++◌}
+use Rattle.std.proofs.Common.{◌≡◌, ℕ, false, Option, Some, None, inl, inr, refl, sym, ap, subst, List, [], ◌++◌}
 use Rattle.std.proofs.Math.Path.{fun_ext}
-use Rattle.std.specs.Prelude.{Result, Ok, Err, OnErr}
+use Rattle.std.specs.Prelude.{Result, OnErr}
 use Rattle.chunk_tags.specs.declared.block.Block.{Block}
 use Rattle.chunk_tags.specs.declared.tunables.Tunables.{Tunables}
 use Rattle.chunk_tags.specs.Sizes.{structure_size}
@@ -14,8 +14,8 @@ use Rattle.arena_holds.specs.Holding.{Finds}
 use Rattle.arena_holds.specs.Places.{Setting, Standing}
 use Rattle.arena_holds.specs.RunningShort.{RunsShort}
 use Rattle.arena_holds.specs.Searching.{search}
-use Rattle.own_blocks.specs.Calls.{opening, cache_with_structure, structure_bytes}
-use Rattle.own_blocks.specs.LeftCalls.{OpensShort, RunsUnopened, IsLeft}
+use Rattle.own_blocks.specs.Calls.{opening, cache_with_structure, structure_bytes, from_arena, from_cache}
+use Rattle.own_blocks.specs.LeftCalls.{IsLeft}
 use Rattle.arena_holds.proofs.Going.{goes_then, goes_behind}
 use Rattle.arena_holds.proofs.RunningShort.{short_behind, short_after}
 
@@ -101,3 +101,12 @@ left_unopened {s = s} {t = t} {who = who} {o = o} {place = place} {left = left} 
   goes = subst (λ q. Goes s t who (opening t who.thread cache) o [] q o) (sym (call_then-done (opening t who.thread cache))) here;
   short = record { place = place; block = block; left = left; closed = closed; finds = h.does };
 })
+
+-- ---- a block for a request
+
+-- the cache had none
+pub left_uncached : {P H D K A E : Type 0} (s : Setting P H D K) (t : Tunables) (who : Who) (thread bytes nb : ℕ) (o z : Standing P K) (cache now : CacheValue) (newest : Option Block) (r : Result A E) →
+    newest ≡ None → now ≡ cache → OnErr r (RunsShort s t who (from_arena t thread bytes bytes (acts.Take nb) now) o z) →
+    OnErr r (RunsShort s t who (from_cache t thread bytes nb newest cache) o z)
+left_uncached s t who thread bytes nb o z cache now newest r none same d =
+    rw none (subst (λ (c : CacheValue). OnErr r (RunsShort s t who (from_arena t thread bytes bytes (acts.Take nb) c) o z)) same d)

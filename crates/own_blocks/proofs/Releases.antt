@@ -1,5 +1,5 @@
 -- Laws of a block of an arena that is released, and of a name that loses its block.
-use Rattle.std.proofs.Common.{◌≡◌, ℕ, true, false, List, [], ◌∷◌, Option, Some, None, inl, inr, refl, sym, ap, ◌∙◌, subst, arith}
+use Rattle.std.proofs.Common.{◌≡◌, ℕ, true, false, [], ◌∷◌, Option, Some, None, inl, inr, refl, sym, ap, ◌∙◌, subst, arith}
 use Rattle.std.specs.Prelude.{Result, Ok, Err, IfOk, IfErr, OnErr, IfSome, nat_le}
 use Rattle.chunk_tags.specs.Sizes.{fast_index_of}
 use Rattle.chunk_tags.specs.declared.block.Block.{Block}
@@ -12,7 +12,7 @@ use Rattle.arena_core.specs.declared.take.GiveShort.{GiveShort}
 use Rattle.block_names.specs.Blocks.{IsHeld}
 use Rattle.block_names.specs.Names.{NameTable, block_at, with_block, with_some, without_block}
 use Rattle.own_blocks.specs.Calls.{past_cache, releasing, opening, with_cache}
-use Rattle.own_blocks.specs.Frees.{free_call, free_of_block, free_to, without_name, LosesBlock, HoldsOrLoses}
+use Rattle.own_blocks.specs.Frees.{free_call, free_of_block, free_to, without_name, HoldsOrLoses}
 use Rattle.own_blocks.specs.declared.own.Own.{Own}
 use Rattle.own_blocks.specs.declared.reply.Reply.{Reply}
 use Rattle.own_blocks.specs.declared.reply.Reply.TheVariants.{Freed}
@@ -153,11 +153,11 @@ free_unopened {s = s} {t = t} {who = who} {o = o} {z = z} a name b own at arena 
     let P : Option ℕ → Type 0 = λ x. IsLeft s t who (free_of_block t who.thread name b x own) o z in
     rw at (subst P (sym arena) (left_behind (λ c. free_to t a name b (with_cache c own)) l))
 
-pub free_left : {P H D K A E : Type 0} {s : Setting P H D K} {t : Tunables} {who : Who} {o p z : Standing P K} (a name : ℕ) (b : Block) (own : Own) (cache : CacheValue) (r : Result A E) →
+pub free_left : {P H D K A E : Type 0} {s : Setting P H D K} {t : Tunables} {who : Who} {o p : Standing P K} (z : Standing P K) (a name : ℕ) (b : Block) (own : Own) (cache : CacheValue) (r : Result A E) →
     block_at own.names name ≡ Some b → b.arena ≡ Some a → Does s t who (opening t who.thread own.cache) o cache p →
     ((x : Block) → block_at own.names name ≡ Some x → OnErr r (RunsShort s t who (free_to t a name x (with_cache cache own)) p z)) → OnErr r (IsLeft s t who (free_call t who.thread name own) o z)
-free_left a name b own cache (Ok x) at arena d short = tt
-free_left {s = s} {t = t} {who = who} {o = o} {z = z} a name b own cache (Err e) at arena d short =
+free_left z a name b own cache (Ok x) at arena d short = tt
+free_left {s = s} {t = t} {who = who} {o = o} z a name b own cache (Err e) at arena d short =
     let P : Option ℕ → Type 0 = λ x. IsLeft s t who (free_of_block t who.thread name b x own) o z in
     rw at (subst P (sym arena) (left_then (λ c. free_to t a name b (with_cache c own)) d (inl (short b at))))
 

@@ -1,5 +1,5 @@
 -- Laws of a block that is got for a request.
-use Rattle.std.proofs.Common.{◌≡◌, ℕ, ◌-◌, ◌≤◌, Bool, true, false, cond, Option, Some, None, refl, sym, ◌∙◌, subst, arith}
+use Rattle.std.proofs.Common.{◌≡◌, ℕ, ◌≤◌, Bool, true, false, cond, Option, Some, None, refl, sym, ◌∙◌, subst, arith}
 use Rattle.std.specs.Prelude.{Result, Ok, Err, IfOk, OnErr, IsSome, IfSome, option_map}
 use Rattle.chunk_tags.specs.Sizes.{padded_request, cache_index_of}
 use Rattle.chunk_tags.specs.declared.block.Block.{Block}
@@ -22,6 +22,7 @@ use Rattle.arena_holds.specs.Going.{Does}
 use Rattle.arena_holds.specs.declared.holding.Search.{Search}
 use Rattle.arena_holds.specs.Holding.{Finds}
 use Rattle.arena_holds.specs.Places.{PlaceWays, Setting, Standing, Carries, Hands, in_cache}
+use Rattle.arena_holds.specs.RunningShort.{RunsShort}
 use Rattle.own_blocks.specs.Supplying.{Supplies, block_of}
 use Rattle.arena_holds.proofs.Going.{does_here, does_last, does_then}
 use Rattle.arena_holds.proofs.Carrying.{SameLaw, carries_here, carries_as, carries_then}
@@ -60,6 +61,10 @@ pub finds_at : {P H D K E : Type 0} (s : Setting P H D K) (t : Tunables) (who : 
     IfOk r (λ f. Finds s t who (search t thread bytes again act cache) act cache o f.hold f.block left z)
 finds_at s t who thread bytes again act cache now left o z r same d =
     subst (λ (c : CacheValue). IfOk r (λ f. Finds s t who (search t thread bytes again act c) act c o f.hold f.block left z)) same d
+
+pub short_at : {P H D K A E : Type 0} (s : Setting P H D K) (t : Tunables) (who : Who) (thread bytes again : ℕ) (act : Act) (cache now : CacheValue) (o z : Standing P K) (r : Result A E) → now ≡ cache →
+    OnErr r (RunsShort s t who (search t thread bytes again act now) o z) → OnErr r (RunsShort s t who (search t thread bytes again act cache) o z)
+short_at s t who thread bytes again act cache now o z r same d = subst (λ (c : CacheValue). OnErr r (RunsShort s t who (search t thread bytes again act c) o z)) same d
 
 -- a search gave it
 pub supplies_found : {P H D K : Type 0} {s : Setting P H D K} {t : Tunables} {who : Who} {left : CacheValue} {o z : Standing P K}

@@ -1,5 +1,5 @@
 -- What the blocks of a thread weigh, when one of them moves.
-use Rattle.std.proofs.Common.{◌≡◌, ℕ, zero, suc, ◌+◌, ◌<◌, Bool, true, false, ◌&&◌, List, [], ◌∷◌, Option, Some, None, length, get_or, cond, refl, ap, arith}
+use Rattle.std.proofs.Common.{◌≡◌, ℕ, ◌+◌, ◌<◌, Bool, true, false, ◌&&◌, [], ◌∷◌, Option, Some, None, length, get_or, cond, refl, ap, arith}
 use Rattle.std.specs.Prelude.{IfSome, IsTrue, is_some, nat_le}
 use Rattle.std.proofs.lemmas.List.{length-set}
 use Rattle.chunk_tags.specs.Sizes.{max_cached, cache_index_of}

@@ -29,5 +29,5 @@ returns-in-Err-clause-short g c =
 
 pub returns-in-Err-clause-left : goal.returns-in-Err-clause-left
 returns-in-Err-clause-left g c =
-    unremapped_left c.args.who.now.thread c.args.size c.args.nb c.args.block c.in-Err.block c.args.cache.now _ c.keep_or_move.result
+    unremapped_left c.args.t.now c.args.who.now c.args.who.now.thread c.args.size c.args.nb c.args.block c.in-Err.block c.args.cache.now _ c.keep_or_move.result
     (sym c.has_length.ensures ∙ c.if-has_length.false) c.in-Err.ensures.remaps c.keep_or_move.ensures.left

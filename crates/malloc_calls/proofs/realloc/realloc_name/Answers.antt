@@ -55,3 +55,8 @@ returns-in-Err-clause-left g c = λ b at.
     let same : c.unwrap-block.result ≡ b = cc in
     settled_left (λ x. realloc_in c.args.t.now c.args.who.now.thread c.args.size c.args.nb x x.arena c.args.own.now.cache) c.args.name b c.unwrap-block.result c.args.own.now
     same c.in-Err.ensures.left
+
+pub put-requires-in-Err-clause-room : goal.put-requires-in-Err-clause-room
+put-requires-in-Err-clause-room g c =
+    let at : block_at c.args.own.now.names c.args.name ≡ Some c.unwrap-block.result = cc in
+    subst (λ (names : NameTable). has_place names c.args.name ≡ true) (sym c.take.ensures.rest) (place_left c.args.own.now.names c.args.name c.unwrap-block.result at)

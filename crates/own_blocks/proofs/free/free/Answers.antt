@@ -73,5 +73,5 @@ returns-in_err-open_cache-in-Some-arena-clause-left g c =
 
 pub returns-in_ok-open_cache-in-Some-arena-clause-left : goal.returns-in_ok-open_cache-in-Some-arena-clause-left
 returns-in_ok-open_cache-in-Some-arena-clause-left g c =
-    free_left c.in-Some-arena.a c.args.name c.in-Some.named.now c.args.own.now c.open_cache.new.cache c.free_chunk.result (sym c.in-Some.ensures.block) c.in-Some-arena.is
+    free_left _ c.in-Some-arena.a c.args.name c.in-Some.named.now c.args.own.now c.open_cache.new.cache c.free_chunk.result (sym c.in-Some.ensures.block) c.in-Some-arena.is
     c.in_ok-open_cache-in-Some-arena.ensures.does c.free_chunk.ensures.left

@@ -1,4 +1,4 @@
-use Rattle.std.proofs.Common.{true, false, sym, ◌∙◌, arith}
+use Rattle.std.proofs.Common.{false, sym, ◌∙◌, arith}
 use Rattle.arena_holds.specs.Places.{both_of}
 use Rattle.own_blocks.proofs.Releases.{released_fast, released_given, short_given, short_pushed, left_pushed, left_given}
 use Rattle.own_blocks.proofs.releasing.release_past_cache.Goals as goal

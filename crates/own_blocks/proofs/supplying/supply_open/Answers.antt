@@ -1,4 +1,5 @@
 use Rattle.std.proofs.Common.{sym, refl, ◌∙◌}
+use Rattle.own_blocks.proofs.LeftCalls.{left_uncached}
 use Rattle.own_blocks.proofs.Supplies.{supplies_past, supplies_cached}
 use Rattle.own_blocks.proofs.supplying.supply_open.Goals as goal
 
@@ -20,4 +21,5 @@ returns-in-Some-clause-supplies g c =
 
 pub returns-in-None-clause-left : goal.returns-in-None-clause-left
 returns-in-None-clause-left g c =
-    rw (sym c.in-None.ensures.unchanged, sym (sym c.take_newest.ensures.newest ∙ c.in-None.is)) c.supply_from_arena.ensures.left
+    left_uncached _ _ _ c.args.who.now.thread c.args.bytes c.args.nb _ _ c.args.cache.now c.take_newest.new.cache _ c.supply_from_arena.result
+    (sym c.take_newest.ensures.newest ∙ c.in-None.is) c.in-None.ensures.unchanged c.supply_from_arena.ensures.left
