@@ -4,6 +4,7 @@ mod CallEnds
 mod Sums
 mod TrayEnds
 mod Keeping
+mod LineEnds
 mod Settling
 mod FirstThreads
 mod Results

@@ -12,7 +12,6 @@ use Rattle.arena_core.specs.declared.journal.Who.{Who}
 use Rattle.own_blocks.specs.declared.reply.Reply.{Reply}
 use Rattle.malloc_calls.specs.declared.thread.Thread.{Thread}
 use Rattle.malloc_calls.specs.Threads.{own_of, space_of, number_of, who_of}
-use Rattle.block_names.specs.Names.{IsTable}
 use Rattle.malloc_calls.specs.Threads.{names_of}
 use Rattle.arena_holds.specs.Going.{Does}
 use Rattle.arena_holds.specs.Places.{standing}
@@ -20,8 +19,9 @@ use Rattle.serial_places.specs.SerialWays.{SerialState, serial_setting, world_at
 use Rattle.serial_places.proofs.Serving.{PlaysTo, plays_call}
 use Rattle.trace_text.specs.declared.trace.Line.{Line}
 use Rattle.trace_replay.specs.Naming.{LeavesLine, MayCall, MayRun}
-use Rattle.trace_replay.specs.Processes.{thread_world, world_with, ThreadTells, AreBetweenCalls, Calls}
-use Rattle.trace_replay.specs.World.{World, ThreadWorld, who_in, call_of, answer_left, played_line, step}
+use Rattle.trace_replay.specs.Processes.{thread_world, world_with, ThreadTells, AreBetweenCalls, Calls, EndsLine}
+use Rattle.trace_replay.specs.World.{World, ThreadWorld, who_in, call_of, name_in, answer_left, played_line, step}
+use Rattle.trace_replay.proofs.LineEnds.{thread_tidied, ended_keeps, ended_leaves}
 use Rattle.trace_replay.proofs.Settling.{settled_next}
 
 -- ---- the thread of a line
@@ -57,35 +57,37 @@ plays_line {K} port t line th new st next reply number tunables tells c =
 left_world : {K : Type 0} (threads : List (Thread K)) (k n : ℕ) (new : Thread K) → k ≡ n → set (map thread_world threads) n (thread_world new) ≡ map thread_world (set threads k new)
 left_world threads k n new is = ap (λ i. set (map thread_world threads) i (thread_world new)) (sym is) ∙ sym (map-set thread_world threads k new)
 
-pub step_told : {K : Type 0} (port : Port K) (t : Tunables) (line : Line) (threads : List (Thread K)) (st next : SerialState) (th new : Thread K) (reply : Reply) (k : ℕ) → k ≡ line.thread → slice_get threads line.thread ≡ Some th →
-    AreBetweenCalls t threads st → All (ThreadTells port) threads → Calls port t line th st reply new next → step port t line (world_with threads st) ≡ Some (reply, world_with (set threads k new) next)
+pub step_told : {K : Type 0} (port : Port K) (t : Tunables) (line : Line) (threads : List (Thread K)) (st next : SerialState) (th new end : Thread K) (reply : Reply) (k : ℕ) → k ≡ line.thread → slice_get threads line.thread ≡ Some th →
+    AreBetweenCalls t threads st → All (ThreadTells port) threads → Calls port t line th st reply new next → EndsLine line new end → step port t line (world_with threads st) ≡ Some (reply, world_with (set threads k end) next)
 unfolding step
-step_told {K} port t line threads st next th new reply k is at s tells c =
+step_told {K} port t line threads st next th new end reply k is at s tells c e =
     let w : World K = world_with threads st in
     let p = plays_line port t line th new st next reply (s.ready line.thread th at).numbered s.tunables (tells_there port threads line.thread th at tells) c in
-    ap (option_and_then (λ (x : ThreadWorld K). option_map (answer_left w line.thread) (played_line port t line w x))) (world_there threads line.thread th at)
-    ∙ ap (option_map (answer_left w line.thread)) p.played
-    ∙ ap (λ ts. Some (reply, record (world_with threads next) { threads = ts })) (left_world threads k line.thread new is)
+    ap (option_and_then (λ (x : ThreadWorld K). option_map (answer_left w line) (played_line port t line w x))) (world_there threads line.thread th at)
+    ∙ ap (option_map (answer_left w line)) p.played
+    ∙ ap (λ ts. Some (reply, record (world_with threads next) { threads = ts })) (left_world threads k line.thread (thread_tidied (name_in line.call) new) is)
+    ∙ ap (λ (x : Thread K). Some (reply, world_with (set threads k x) next)) (sym e.is)
 
-pub tells_next : {K : Type 0} (port : Port K) (t : Tunables) (line : Line) (threads : List (Thread K)) (st next : SerialState) (th new : Thread K) (reply : Reply) (k : ℕ) → slice_get threads line.thread ≡ Some th →
-    AreBetweenCalls t threads st → All (ThreadTells port) threads → Calls port t line th st reply new next → All (ThreadTells port) (set threads k new)
-tells_next port t line threads st next th new reply k at s tells c =
-    All-set (ThreadTells port) threads k new
-    (plays_line port t line th new st next reply (s.ready line.thread th at).numbered s.tunables (tells_there port threads line.thread th at tells) c).at.tells tells
+pub tells_next : {K : Type 0} (port : Port K) (t : Tunables) (line : Line) (threads : List (Thread K)) (st next : SerialState) (th new end : Thread K) (reply : Reply) (k : ℕ) → slice_get threads line.thread ≡ Some th →
+    AreBetweenCalls t threads st → All (ThreadTells port) threads → Calls port t line th st reply new next → EndsLine line new end → All (ThreadTells port) (set threads k end)
+tells_next port t line threads st next th new end reply k at s tells c e =
+    All-set (ThreadTells port) threads k end
+    (subst (ThreadTells port) (sym e.is)
+    (plays_line port t line th new st next reply (s.ready line.thread th at).numbered s.tunables (tells_there port threads line.thread th at tells) c).at.tells) tells
 
 -- ---- what it leaves
 
-pub line_left : {K : Type 0} (port : Port K) (t : Tunables) (line : Line) (threads : List (Thread K)) (st next : SerialState) (th new : Thread K) (reply : Reply) (k : ℕ) → k ≡ line.thread → slice_get threads line.thread ≡ Some th →
-    Calls port t line th st reply new next → LeavesLine line reply (world_with threads st) (world_with (set threads k new) next)
-line_left port t line threads st next th new reply k is at c = record {
+pub line_left : {K : Type 0} (port : Port K) (t : Tunables) (line : Line) (threads : List (Thread K)) (st next : SerialState) (th new end : Thread K) (reply : Reply) (k : ℕ) → k ≡ line.thread → slice_get threads line.thread ≡ Some th →
+    Calls port t line th st reply new next → EndsLine line new end → LeavesLine line reply (world_with threads st) (world_with (set threads k end) next)
+line_left port t line threads st next th new end reply k is at c e = record {
   old = thread_world th;
-  new = thread_world new;
+  new = thread_world end;
   thread = world_there threads line.thread th at;
-  threads = sym (left_world threads k line.thread new is);
-  blocks = c.blocks;
+  threads = sym (left_world threads k line.thread end is);
+  blocks = ended_leaves line reply (names_of th) new end st.trays next.trays e c.blocks;
 }
 
-pub step_settled : {K : Type 0} (port : Port K) (t : Tunables) (line : Line) (threads : List (Thread K)) (st next : SerialState) (th new : Thread K) (reply : Reply) (k : ℕ) → k ≡ line.thread → slice_get threads line.thread ≡ Some th →
-    Calls port t line th st reply new next → IsTable (names_of new) → AreBetweenCalls t threads st → AreBetweenCalls t (set threads k new) next
-step_settled port t line threads st next th new reply k is at c held s =
-    subst (λ i. AreBetweenCalls t (set threads i new) next) (sym is) (settled_next t threads st next line.thread th new at c.keeps held s)
+pub step_settled : {K : Type 0} (port : Port K) (t : Tunables) (line : Line) (threads : List (Thread K)) (st next : SerialState) (th new end : Thread K) (reply : Reply) (k : ℕ) → k ≡ line.thread → slice_get threads line.thread ≡ Some th →
+    Calls port t line th st reply new next → EndsLine line new end → AreBetweenCalls t threads st → AreBetweenCalls t (set threads k end) next
+step_settled port t line threads st next th new end reply k is at c e s =
+    subst (λ i. AreBetweenCalls t (set threads i end) next) (sym is) (settled_next t threads st next line.thread th end at (ended_keeps line th new end st next e c.keeps) e.held s)

@@ -8,9 +8,9 @@ use Rattle.arena_rules.specs.Rules.{windows_of}
 use Rattle.own_blocks.specs.declared.own.Own.{Own}
 use Rattle.own_blocks.specs.declared.reply.Reply.{Reply}
 use Rattle.malloc_calls.specs.declared.thread.Thread.{Thread}
-use Rattle.block_names.specs.Names.{IsTable}
+use Rattle.block_names.specs.Names.{IsTable, FarNamesRise}
 use Rattle.own_blocks.specs.Own.{in_own}
-use Rattle.malloc_calls.specs.Threads.{new_thread, own_of, names_of, space_of, number_of, who_of, IsSpaceOf}
+use Rattle.malloc_calls.specs.Threads.{new_thread, own_of, with_own, names_of, space_of, number_of, who_of, IsSpaceOf}
 use Rattle.arena_holds.specs.Calls.{Call}
 use Rattle.arena_holds.specs.Going.{Does}
 use Rattle.arena_holds.specs.Places.{Hands, both_of, as_mapped_byte, given_byte, IsServed, standing}
@@ -21,7 +21,7 @@ use Rattle.trace_replay.specs.declared.exit.Exit.{Exit}
 use Rattle.trace_replay.specs.declared.process.Process.{Process}
 use Rattle.trace_replay.specs.Naming.{LeavesBlocks}
 use Rattle.trace_replay.specs.Runs.{Run, run_of}
-use Rattle.trace_replay.specs.World.{World, ThreadWorld, call_of, step}
+use Rattle.trace_replay.specs.World.{World, ThreadWorld, call_of, name_in, own_tidied, step}
 
 -- ---- its world
 
@@ -126,3 +126,10 @@ pub record Calls {K : Type 0} (port : Port K) (t : Tunables) (line : Line) (th :
   pub does : DoesAt port t line.number (call_of t line.thread line.call (own_of th)) th st reply new next
   pub keeps : KeepsOn th st new next
   pub blocks : LeavesBlocks line reply (names_of th) (names_of new) st.trays next.trays
+
+-- A line's thread at its end, where its call left this; all that a thread has is a table.
+pub record EndsLine {K : Type 0} (line : Line) (left end : Thread K) : Type 0 where
+  pub is : end ≡ with_own (own_tidied (name_in line.call) (own_of left)) left
+  pub rising : FarNamesRise (names_of left)
+  pub table : IsTable (names_of left)
+  pub held : IsTable (names_of end)

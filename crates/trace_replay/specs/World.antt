@@ -1,7 +1,7 @@
 -- The threads of a trace and what their calls go over: each thread's cache, blocks by name and address space, and the arenas with
 -- their fast bins, the words beside them, the book of arenas and the trays (this project's own). The rules of a call are those of
 -- malloc_calls.
-use Rattle.std.specs.Prelude.{ℕ, ◌+◌, List, [], ◌∷◌, Option, option_map, slice_get, slice_set}
+use Rattle.std.specs.Prelude.{ℕ, ◌+◌, List, [], ◌∷◌, Option, Some, None, option_map, slice_get, slice_set}
 use Rattle.std.specs.Option.{option_and_then}
 use Rattle.chunk_tags.specs.declared.tunables.Tunables.{Tunables}
 use Rattle.address_space.specs.declared.space.Space.{Space}
@@ -13,7 +13,7 @@ use Rattle.arena_core.specs.declared.journal.Who.{Who}
 use Rattle.arena_choice.specs.Books.{BookValue, first_book}
 use Rattle.own_blocks.specs.declared.own.Own.{Own}
 use Rattle.own_blocks.specs.declared.reply.Reply.{Reply}
-use Rattle.block_names.specs.Names.{with_place}
+use Rattle.block_names.specs.Names.{with_place, tidied}
 use Rattle.own_blocks.specs.Own.{new_own}
 use Rattle.arena_holds.specs.Calls.{Call}
 use Rattle.malloc_calls.specs.Mallocs.{malloc_call, calloc_call, posix_memalign_call}
@@ -78,22 +78,38 @@ call_of t thread (calls.Post name tray) own = post_call name tray (own_with_plac
 call_of t thread (calls.Take name tray) own = take_call name tray (own_with_place name own)
 call_of t thread calls.Exit own = exit_call t thread own
 
+-- the name of a call; the end of a thread has none
+abbrev pub name_in : traced.Call → Option ℕ
+name_in (calls.Malloc name size) = Some name
+name_in (calls.Calloc name n size) = Some name
+name_in (calls.Realloc name size) = Some name
+name_in (calls.Align name align size) = Some name
+name_in (calls.Free name) = Some name
+name_in (calls.Post name tray) = Some name
+name_in (calls.Take name tray) = Some name
+name_in calls.Exit = None
+
+-- the thread at the end of its line: the place of the line's name goes, where that is one of its own and empty
+abbrev pub own_tidied : Option ℕ → Own → Own
+own_tidied None own = own
+own_tidied (Some name) own = record own { names = tidied name own.names }
+
 -- what a thread's call goes over
 abbrev pub serial_of : {K : Type 0} → World K → ThreadWorld K → SerialWorld K
 serial_of w th = record { slots = w.slots; dials = w.dials; book = w.book; trays = w.trays; space = th.space }
 
--- the world when a thread's call left this
-abbrev pub world_left : {K : Type 0} → World K → ℕ → Own → SerialWorld K → World K
-world_left w thread own s = record {
-  threads = slice_set w.threads thread (record { own = own; space = s.space });
+-- the world at the end of a line whose call left this
+abbrev pub world_left : {K : Type 0} → World K → Line → Own → SerialWorld K → World K
+world_left w line own s = record {
+  threads = slice_set w.threads line.thread (record { own = own_tidied (name_in line.call) own; space = s.space });
   slots = s.slots;
   dials = s.dials;
   book = s.book;
   trays = s.trays;
 }
 
-abbrev pub answer_left : {K : Type 0} → World K → ℕ → (Reply × Own) × SerialWorld K → Reply × World K
-answer_left w thread played = (played.0.0, world_left w thread played.0.1 played.1)
+abbrev pub answer_left : {K : Type 0} → World K → Line → (Reply × Own) × SerialWorld K → Reply × World K
+answer_left w line played = (played.0.0, world_left w line played.0.1 played.1)
 
 -- the call of a line, over what its thread has
 abbrev pub played_line : {K : Type 0} → Port K → Tunables → Line → World K → ThreadWorld K → Option ((Reply × Own) × SerialWorld K)
@@ -102,4 +118,4 @@ played_line port t line w th = played_call port t (who_in line) (call_of t line.
 -- one line of the trace: the reply, and the world; `None` where the call has no world to go to
 unfoldable pub step : {K : Type 0} → Port K → Tunables → Line → World K → Option (Reply × World K)
 step port t line w =
-    option_and_then (λ th. option_map (answer_left w line.thread) (played_line port t line w th)) (slice_get w.threads line.thread)
+    option_and_then (λ th. option_map (answer_left w line) (played_line port t line w th)) (slice_get w.threads line.thread)

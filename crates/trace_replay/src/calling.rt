@@ -3,14 +3,14 @@
 ghost use Rattle.std.specs.Prelude.{◌≡◌, ◌≤◌, ◌*◌, ℕ, None, false, IfOk, OnErr, length};
 ghost use Rattle.chunk_tags.specs.Tunables.{IsTuned};
 ghost use Rattle.block_names.specs.Names.{block_at, has_place, IsTable};
-ghost use Rattle.malloc_calls.specs.Threads.{names_of, number_of, own_of, who_of};
+ghost use Rattle.malloc_calls.specs.Threads.{names_of, number_of, own_of, with_own, who_of};
 ghost use Rattle.serial_places.specs.Trays.{tray_at};
 ghost use Rattle.serial_places.specs.declared.tray.Tray.TheVariants.{Empty};
 ghost use Rattle.trace_text.specs.declared.trace.Call.TheVariants.{Malloc, Calloc, Realloc, Align, Free, Post, Take, Exit};
 ghost use Rattle.trace_replay.specs.Naming.{MayCall, MakesName, ResizesName, EmptiesName, PostsName, TakesName};
 ghost use Rattle.trace_replay.specs.Processes.{IsServedBy, KeepsOn, DoesAt, Calls};
 ghost use Rattle.trace_replay.specs.Tiling.{bytes_wanted, aligned_wanted};
-ghost use Rattle.trace_replay.specs.World.{call_of};
+ghost use Rattle.trace_replay.specs.World.{call_of, name_in, own_tidied};
 
 use address_space::Kernel;
 use chunk_tags::{NoMemory, Tunables};
@@ -241,5 +241,30 @@ pub fn call<K: Kernel>(
         Call::Post { name, tray } => post(thread, serial, name, tray, t),
         Call::Take { name, tray } => take(thread, serial, name, tray, t),
         Call::Exit => exit(alloc, thread, serial, number, t),
+    }
+}
+
+/// The name of a call; the end of a thread has none.
+fn name_of(call: &Call) -> Option<u32>
+    ensures { result ≡ name_in call.now }
+{
+    match *call {
+        Call::Malloc { name, .. }
+        | Call::Calloc { name, .. }
+        | Call::Align { name, .. }
+        | Call::Realloc { name, .. }
+        | Call::Free { name }
+        | Call::Post { name, .. }
+        | Call::Take { name, .. } => Some(name),
+        Call::Exit => None,
+    }
+}
+
+/// The end of a line: the place of its name goes, where that is one of its own and empty.
+pub fn tidy<K: Kernel>(thread: &mut Thread<K>, line: &Line)
+    ensures { thread.new ≡ with_own (own_tidied (name_in line.now.call) (own_of thread.old)) thread.old }
+{
+    if let Some(name) = name_of(&line.call) {
+        thread.tidy(name);
     }
 }

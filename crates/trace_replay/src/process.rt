@@ -3,7 +3,7 @@
 ghost use Rattle.std.specs.Prelude.{◌≡◌, ◌≤◌, vec_len, IfOk, OnOk};
 ghost use Rattle.chunk_tags.specs.Tunables.{IsTuned};
 
-use crate::calling::call;
+use crate::calling::{call, tidy};
 use crate::threads::{line_threads, new_threads};
 use address_space::Kernel;
 use chunk_tags::{NoMemory, Tunables};
@@ -76,6 +76,8 @@ impl<K: Kernel> Process<K> {
     {
         let thread = &mut self.threads[usize::from(line.thread)];
         let reply = call(alloc, thread, &mut self.serial, line, &self.t)?;
+        thread.laws();
+        tidy(thread, line);
         thread.laws();
         Ok(reply)
     }

@@ -24,26 +24,26 @@ pub returns-clause-told : goal.returns-clause-told
 returns-clause-told g c = λ tells.
     let p = c.args.self.now in
     let at = thread_at p.threads.items c.from.result c.args.line.now.thread _ c.index_mut-thread.result.now c.from.ensures c.requires.may.thread c.requires.settled.count c.index_mut-thread.ensures.value in
-    step_told g.K.Kernel.port p.t c.args.line.now p.threads.items p.serial c.call.new.serial c.index_mut-thread.result.now c.call.new.thread c.in_ok-reply.reply c.from.result c.from.ensures at
-    c.requires.settled tells c.in_ok-reply.ensures
+    step_told g.K.Kernel.port p.t c.args.line.now p.threads.items p.serial c.call.new.serial c.index_mut-thread.result.now c.call.new.thread c.tidy.new.thread c.in_ok-reply.reply c.from.result c.from.ensures at
+    c.requires.settled tells c.in_ok-reply.ensures (record { is = c.tidy.ensures; rising = c.laws.ensures.rising; table = c.laws.ensures.held; held = c.laws-2.ensures.held })
 
 pub returns-clause-telling : goal.returns-clause-telling
 returns-clause-telling g c = λ tells.
     let p = c.args.self.now in
     let at = thread_at p.threads.items c.from.result c.args.line.now.thread _ c.index_mut-thread.result.now c.from.ensures c.requires.may.thread c.requires.settled.count c.index_mut-thread.ensures.value in
-    tells_next g.K.Kernel.port p.t c.args.line.now p.threads.items p.serial c.call.new.serial c.index_mut-thread.result.now c.call.new.thread c.in_ok-reply.reply c.from.result at
-    c.requires.settled tells c.in_ok-reply.ensures
+    tells_next g.K.Kernel.port p.t c.args.line.now p.threads.items p.serial c.call.new.serial c.index_mut-thread.result.now c.call.new.thread c.tidy.new.thread c.in_ok-reply.reply c.from.result at
+    c.requires.settled tells c.in_ok-reply.ensures (record { is = c.tidy.ensures; rising = c.laws.ensures.rising; table = c.laws.ensures.held; held = c.laws-2.ensures.held })
 
 pub returns-clause-blocks : goal.returns-clause-blocks
 returns-clause-blocks g c =
     let p = c.args.self.now in
     let at = thread_at p.threads.items c.from.result c.args.line.now.thread _ c.index_mut-thread.result.now c.from.ensures c.requires.may.thread c.requires.settled.count c.index_mut-thread.ensures.value in
-    line_left g.K.Kernel.port p.t c.args.line.now p.threads.items p.serial c.call.new.serial c.index_mut-thread.result.now c.call.new.thread c.in_ok-reply.reply c.from.result c.from.ensures at
-    c.in_ok-reply.ensures
+    line_left g.K.Kernel.port p.t c.args.line.now p.threads.items p.serial c.call.new.serial c.index_mut-thread.result.now c.call.new.thread c.tidy.new.thread c.in_ok-reply.reply c.from.result c.from.ensures at
+    c.in_ok-reply.ensures (record { is = c.tidy.ensures; rising = c.laws.ensures.rising; table = c.laws.ensures.held; held = c.laws-2.ensures.held })
 
 pub returns-clause-settled : goal.returns-clause-settled
 returns-clause-settled g c =
     let p = c.args.self.now in
     let at = thread_at p.threads.items c.from.result c.args.line.now.thread _ c.index_mut-thread.result.now c.from.ensures c.requires.may.thread c.requires.settled.count c.index_mut-thread.ensures.value in
-    step_settled g.K.Kernel.port p.t c.args.line.now p.threads.items p.serial c.call.new.serial c.index_mut-thread.result.now c.call.new.thread c.in_ok-reply.reply c.from.result c.from.ensures at
-    c.in_ok-reply.ensures c.laws.ensures.held c.requires.settled
+    step_settled g.K.Kernel.port p.t c.args.line.now p.threads.items p.serial c.call.new.serial c.index_mut-thread.result.now c.call.new.thread c.tidy.new.thread c.in_ok-reply.reply c.from.result c.from.ensures at
+    c.in_ok-reply.ensures (record { is = c.tidy.ensures; rising = c.laws.ensures.rising; table = c.laws.ensures.held; held = c.laws-2.ensures.held }) c.requires.settled
