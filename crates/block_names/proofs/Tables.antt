@@ -3,7 +3,10 @@ use Rattle.std.proofs.Common.{◌≡◌, ℕ, zero, suc, ◌+◌, ◌-◌, ◌<�
 use Rattle.std.specs.Prelude.{nat_lt, IfSome}
 use Rattle.std.specs.Map.{lookup, set_value, remove_entry, values_of}
 use Rattle.std.specs.Option.{unwrap_or, option_map}
+use Rattle.std.specs.BTreeMap.{insert_entry}
+use Rattle.std.specs.Ordering.{nat_cmp}
 use Rattle.std.proofs.lemmas.Bool.{cases_Bool, ltb-true, lt-ltb}
+use Rattle.std.proofs.lemmas.Bool.Decides.{eqb_tells}
 use Rattle.std.proofs.lemmas.List.{length-set, length-append, length-replicate, get_or-set_same, get_or-set_other, set-get_or, set-set}
 use Rattle.std.proofs.lemmas.List.Sums.{sum_by-cons, sum_by-append, sum_by-set}
 use Rattle.std.proofs.lemmas.Map.Entries.{sum_by-set_value, sum_by-remove_entry}
@@ -403,6 +406,38 @@ removed_table name seen names es same gone far none rise table =
     } in
     let is : without_far_place name seen ≡ less = ap (λ x. without_far_place name x) same in
     subst (λ (fs : List (ℕ × Option Block)). IsTable (record { near = seen.near; far = fs })) (sym gone) (subst IsTable (sym is) now)
+
+-- ---- a table is still one
+
+-- with something else in the place of a far name
+pub set_table : (name : ℕ) (o : Option Block) (names : NameTable) (es : List (ℕ × Option Block)) → is_near name ≡ false → es ≡ set_value (is_name name) names.far o →
+    IfSome o IsHeld → IsTable names → IsTable (record { near = names.near; far = es })
+set_table name o names es far is held table =
+    let left : NameTable = with_in_far name o names in
+    let with : List (ℕ × Option Block) → NameTable = λ fs. record { near = names.near; far = fs } in
+    let at_name : IfSome (block_at left name) IsHeld = elim (cases_Bool (in_far names name)) [
+      | inl there ↦ subst (λ (p : Option Block). IfSome p IsHeld) (sym (at_far left name far ∙ far_same names name o there)) held
+      | inr none ↦ subst (λ (x : NameTable). IfSome (block_at x name) IsHeld) (sym (ap with (set_none (is_name name) names.far o none))) (table.held name)
+    ] in
+    let all : IsTable left = record {
+      row = table.row;
+      held = λ n. elim (eqb_tells n name) [
+        | inl same ↦ subst (λ (m : ℕ). IfSome (block_at left m) IsHeld) (sym same.1) at_name
+        | inr apart ↦ subst (λ (p : Option Block). IfSome p IsHeld) (sym (far_other names name n o apart.1)) (table.held n)
+      ];
+    } in
+    subst (λ (fs : List (ℕ × Option Block)). IsTable (record { near = names.near; far = fs })) (sym is) all
+
+-- with a place for another far name
+pub placed_table : (name : ℕ) (names : NameTable) (es : List (ℕ × Option Block)) → is_near name ≡ false → has_place names name ≡ false →
+    es ≡ insert_entry nat_cmp names.far name None → IsTable names → IsTable (record { near = names.near; far = es })
+placed_table name names es far empty is table =
+    let none : in_far names name ≡ false = sym (place_far names name far) ∙ empty in
+    let all : IsTable (with_far_place name names) = record {
+      row = table.row;
+      held = λ n. subst (λ (p : Option Block). IfSome p IsHeld) (sym (far_placed name n names none)) (table.held n);
+    } in
+    subst (λ (fs : List (ℕ × Option Block)). IsTable (record { near = names.near; far = fs })) (sym is) all
 
 -- ---- a table without a place
 

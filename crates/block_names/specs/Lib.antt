@@ -2,3 +2,4 @@ pub use Rattle.chunk_tags.specs.Sizes
 pub use Rattle.mapped_chunks.specs.Mappings
 pub mod Blocks
 pub mod Names
+pub mod FarNames

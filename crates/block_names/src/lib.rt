@@ -2,8 +2,11 @@
 //! something holds a chunk (`IsTable`), and that every call says exactly what the table is then.
 #![tactic(auto)]
 
+mod far;
 mod names;
+mod slot;
 
+pub use far::FarNames;
 pub use names::Names;
 
 #[cfg(test)]

@@ -4,9 +4,9 @@ ghost use Rattle.std.specs.Prelude.{◌≡◌, ◌-◌, ◌^◌, ◌<◌, ◌≤
 ghost use Rattle.block_names.specs.Blocks.{IsHeld};
 ghost use Rattle.block_names.specs.Names.{IsTable, FarNamesRise, no_names, has_place, block_at, with_place, with_block, without_block, tidied};
 
+use crate::far::FarNames;
 use chunk_tags::{Block, NoMemory};
 use std::alloc::Global;
-use std::collections::BTreeMap;
 use std::marker::Model;
 
 /// The names below this have their places in a row (this project's own).
@@ -17,7 +17,7 @@ const NEAR_NAMES: u32 = 65536;
 #[derive(Debug, Drop)]
 pub struct Names {
     near: Vec<Option<Block>>,
-    far: BTreeMap<u32, Option<Block>, Global>,
+    far: FarNames,
 }
 
 impl Model for Names {
@@ -25,9 +25,9 @@ impl Model for Names {
 
     ghost Value = { NameTable };
 
-    ghost view = { λ n. record { near = n.near.items; far = n.far.entries } };
+    ghost view = { λ n. record { near = n.near.items; far = n.far } };
 
-    ghost invariant = { λ n. IsTable (record { near = n.near.items; far = n.far.entries }) };
+    ghost invariant = { λ n. IsTable (record { near = n.near.items; far = n.far }) };
 }
 
 /// Appends so many places without a block. After `NoMemory` nothing changed.
@@ -50,7 +50,7 @@ impl Names {
     {
         Names {
             near: Vec::new(alloc),
-            far: BTreeMap::new(alloc),
+            far: FarNames::new(alloc),
         }
     }
 
@@ -60,7 +60,7 @@ impl Names {
         ensures rising { FarNamesRise self.now }
     {
         let _ = &self.near;
-        let _ = self.far.len();
+        let _ = self.far.names();
     }
 
     /// Whether a name has a place.
@@ -71,7 +71,7 @@ impl Names {
         if name < NEAR_NAMES {
             (name as usize) < self.near.len()
         } else {
-            self.far.contains_key(&name)
+            self.far.contains(name)
         }
     }
 
@@ -89,14 +89,14 @@ impl Names {
             let missing = name as usize + 1 - self.near.len();
             append_empty(&mut self.near, missing)
         } else {
-            self.far.insert(name, None)?;
+            self.far.make(name)?;
             Ok(())
         }
     }
 
     /// The places of the names from 65,536 on, by name.
-    pub fn far(&self) -> &BTreeMap<u32, Option<Block>, Global>
-        ensures { result.now.entries ≡ self.now.far }
+    pub fn far(&self) -> &FarNames
+        ensures { result.now ≡ self.now.far }
     {
         &self.far
     }
@@ -124,7 +124,7 @@ impl Names {
         if name < NEAR_NAMES {
             self.near.get(name as usize)?.as_ref()
         } else {
-            self.far.get(&name)?.as_ref()
+            self.far.get(name)
         }
     }
 
@@ -139,7 +139,7 @@ impl Names {
         if name < NEAR_NAMES {
             self.near[name as usize] = Some(block);
         } else {
-            *self.far.get_mut(&name).unwrap() = Some(block);
+            self.far.put(name, block);
         }
     }
 
@@ -157,10 +157,7 @@ impl Names {
             }
             return None;
         }
-        let Some(place) = self.far.get_mut(&name) else {
-            return None;
-        };
-        place.take()
+        self.far.take(name)
     }
 
     /// Lets the place of a name go, where that is one of its own and empty; nothing else changes.
@@ -172,6 +169,6 @@ impl Names {
             return;
         }
         self.laws();
-        let _ = self.far.remove(&name);
+        self.far.remove(name);
     }
 }

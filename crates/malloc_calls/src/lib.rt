@@ -10,7 +10,7 @@ mod malloc;
 mod realloc;
 mod thread;
 
-pub use block_names::Names;
+pub use block_names::{FarNames, Names};
 pub use own_blocks::{CachedFree, Origin, Own, OwnCache, Reply, To, Why};
 pub use thread::Thread;
 

@@ -34,12 +34,12 @@ use crate::realloc::realloc;
 use address_space::{Kernel, Space};
 use arena_core::Who;
 use arena_holds::Places;
+use block_names::FarNames;
 use chunk_tags::{Addr, Block, NoMemory, Tunables};
 use own_blocks::exit::exit;
 use own_blocks::free::free;
 use own_blocks::{CachedFree, Own, Reply};
 use std::alloc::Global;
-use std::collections::BTreeMap;
 use thread_cache::Cache;
 
 /// A thread of a trace: its number, its cache, its blocks by name, and its address space.
@@ -102,8 +102,8 @@ impl<K: Kernel> Thread<K> {
     }
 
     /// The places of the names from 65,536 on, by name.
-    pub fn far(&self) -> &BTreeMap<u32, Option<Block>, Global>
-        ensures { result.now.entries ≡ (names_of self.now).far }
+    pub fn far(&self) -> &FarNames
+        ensures { result.now ≡ (names_of self.now).far }
     {
         self.own.names.far()
     }

@@ -3,6 +3,7 @@ mod Placing
 mod Going
 mod InRows
 mod ByAddress
+mod FarFinds
 mod Finding
 mod InUse
 mod MappedShown

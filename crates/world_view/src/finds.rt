@@ -62,6 +62,7 @@ fn append_row<K: Kernel>(
 }
 
 /// Appends those whose names have places of their own.
+#[tactic(auto, using(crate::proofs::FarFinds::found_behind))]
 fn append_far<K: Kernel>(
     finds: &mut Vec<Find>,
     number: u8,
@@ -69,8 +70,8 @@ fn append_far<K: Kernel>(
 ) -> Result<(), NoMemory>
     ensures { OnOk result (finds.new.items ≡ finds.old.items ++ far_finds number (names_of thread.now).far) }
 {
-    for (name, place) in thread.far() {
-        if let Some(block) = place {
+    for name in thread.far().names() {
+        if let Some(block) = thread.far().get(*name) {
             let place = Place::Live {
                 thread: number,
                 name: *name,
