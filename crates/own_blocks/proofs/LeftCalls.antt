@@ -60,13 +60,13 @@ pub left_behind : {P H D K A B : Type 0} {s : Setting P H D K} {t : Tunables} {w
 left_behind {s = s} {t = t} {who = who} {c = c} {o = o} f l = elim l [
   | inl r ↦ inl (short_behind f r)
   | inr r ↦ inr (record {
-      told = r.told;
-      cache = r.cache;
-      rest = λ x. then_call (r.rest x) f;
-      at = r.at;
-      goes = subst (λ q. Goes s t who (then_call c f) o r.told q r.at) (call_then-then (opening t who.thread r.cache) r.rest f) (goes_behind f r.goes);
-      short = r.short;
-    })
+    told = r.told;
+    cache = r.cache;
+    rest = λ x. then_call (r.rest x) f;
+    at = r.at;
+    goes = subst (λ q. Goes s t who (then_call c f) o r.told q r.at) (call_then-then (opening t who.thread r.cache) r.rest f) (goes_behind f r.goes);
+    short = r.short;
+  })
 ]
 
 -- some steps, and a part that is left
