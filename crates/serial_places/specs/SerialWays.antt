@@ -456,7 +456,7 @@ world_pushed b w =
 
 -- ---- a call
 
--- A call from a world on: its result, and the world. `None` where an arena isn't there.
+-- A call from a world on: its result, and the world. `None` where an arena isn't there, or the rules of a hold go nowhere.
 abbrev pub played_call : {K A : Type 0} → Port K → Tunables → Who → Call A → SerialWorld K → Option (A × SerialWorld K)
 played_call port t who (Done x) w = Some (x, w)
 played_call port t who (Holds n act cache next) w =
