@@ -29,7 +29,8 @@ use realloc_align::{Resized, aligned, resize};
 use std::alloc::Global;
 use thread_cache::Cache;
 
-/// What a search in a hold came to: the place of the hold's entry in the journal of the arena, and the block that was found.
+/// What a search came to: the place of its hold's entry in the journal of the arena, 0 where a mapping stands in for an arena,
+/// and the block that was found.
 #[derive(Debug, Drop)]
 pub struct Search {
     pub hold: u64,

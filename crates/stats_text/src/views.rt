@@ -20,7 +20,7 @@ pub enum Place {
     Bin { bin: u8 },
     /// The chunk at the end of an arena that others are cut from.
     Top,
-    /// The end of a region that isn't the last.
+    /// The end of a region that top has left.
     Fence,
 }
 
@@ -122,7 +122,7 @@ pub struct Snapshot {
     pub caches: Vec<CacheView>,
     /// The threads that have lines, each with its arena.
     pub threads: Vec<(u8, Option<u8>)>,
-    /// The arenas to which no thread is attached, the next to be taken first.
+    /// The free arenas, to which no thread was attached any more when one ended; the next to be taken first.
     pub free: Vec<u8>,
     /// The arena that is reused next; `None` until one was.
     pub next: Option<u8>,
