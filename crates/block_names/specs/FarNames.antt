@@ -19,11 +19,11 @@ abbrev pub next_in : SlotValue → Option ℕ
 next_in (Full b) = None
 next_in (Empty next) = next
 
--- how it is kept: a block of size 0 is none, and its lead is one more than the number
+-- how it is kept: a block of size 0 is none, and its lead is 0, or one more than the number
 abbrev pub slot_of : Block → SlotValue
 slot_of b = if nat_eq b.size 0 then Empty (if nat_eq b.lead 0 then None else Some (b.lead - 1)) else Full b
 
--- that is a number of 32 bits
+-- a number has 32 bits
 pub record HasNumber (b : Block) : Type 0 where
   pub bound : b.size ≡ 0 → b.lead ≤ 2 ^ 32
 
