@@ -1,6 +1,6 @@
 //! The blocks of far names.
 
-ghost use Rattle.std.specs.Prelude.{◌≡◌, ◌<◌, ◌≤◌, ◌++◌, [], false, None, Some, is_some, length, option_copied, vec_capacity, IsTrue, OnOk, OnErr};
+ghost use Rattle.std.specs.Prelude.{◌≡◌, ◌<◌, [], false, None, Some, is_some, length, option_copied, vec_capacity, OnOk, IfOk, OnErr};
 ghost use Rattle.std.specs.BTreeMap.{insert_entry};
 ghost use Rattle.std.specs.List.Sorted.{IsStrictlySortedBy};
 ghost use Rattle.std.specs.Map.{keys_of, set_value, remove_entry};
@@ -23,25 +23,25 @@ const LEAST_STEP: usize = 1024;
 const STEP_PARTS: usize = 32;
 
 /// Places by rising name, each empty or with a block. A map has the number of a slot for each name, and the slots stand in
-/// a row, so that what is large doesn't stand in nodes that may be half empty. A slot whose name went is used again.
+/// a row, so that what is large doesn't stand in nodes that may be half empty. A slot whose name went is used again: the
+/// free slots are a chain, each with the number of the next.
 #[derive(Debug, Drop)]
 pub struct FarNames {
     index: BTreeMap<u32, u32, Global>,
     slots: Vec<Slot>,
-    free: Vec<u32>,
+    free: Option<u32>,
 }
 
 impl Model for FarNames {
-    ghost use Rattle.std.specs.Prelude.{ℕ, ◌≤◌, List, Option, length, vec_capacity};
+    ghost use Rattle.std.specs.Prelude.{ℕ, List, Option};
     ghost use Rattle.chunk_tags.specs.declared.block.Block.{Block as Piece};
-    ghost use Rattle.block_names.specs.FarNames.{places_in, AreSlots};
+    ghost use Rattle.block_names.specs.FarNames.{places_in, AreChained};
 
     ghost Value = { List (ℕ × Option Piece) };
 
     ghost view = { λ f. places_in f.slots.items f.index.entries };
 
-    ghost invariant = { λ f. AreSlots f.slots.items f.index.entries f.free.items
-        × (length f.slots.items ≤ vec_capacity f.free) };
+    ghost invariant = { λ f. AreChained f.slots.items f.index.entries f.free };
 }
 
 /// Makes room for more slots where there is none.
@@ -55,28 +55,23 @@ fn make_room(slots: &mut Vec<Slot>) -> Result<(), NoMemory>
     Ok(())
 }
 
-/// Sees to it that a slot is free, by one more where none is. After `NoMemory` nothing changed.
-fn refill(slots: &mut Vec<Slot>, free: &mut Vec<u32>) -> Result<(), NoMemory>
-    requires room { length slots.old.items ≤ vec_capacity free.old }
-    ensures free { OnOk result (0 < length free.new.items) }
-    ensures ok { OnOk result
-        (Refills slots.old.items free.old.items slots.new.items free.new.items) }
+/// The number of the first free slot, which is a new one where none was free. After `NoMemory` nothing changed.
+fn first_free(slots: &mut Vec<Slot>, free: &mut Option<u32>) -> Result<u32, NoMemory>
+    ensures first { IfOk result (λ slot. free.new ≡ Some slot) }
+    ensures ok { OnOk result (Refills slots.old.items free.old slots.new.items free.new) }
     ensures slots { OnErr result (slots.new.items ≡ slots.old.items) }
-    ensures none { OnErr result (free.new.items ≡ free.old.items) }
-    ensures room { length slots.new.items ≤ vec_capacity free.new }
+    ensures free { OnErr result (free.new ≡ free.old) }
 {
-    if !free.is_empty() {
-        return Ok(());
+    if let Some(slot) = *free {
+        return Ok(slot);
     }
-    let number = slots.len();
-    let Ok(slot) = u32::try_from(number) else {
+    let Ok(slot) = u32::try_from(slots.len()) else {
         return Err(NoMemory);
     };
-    free.reserve(number + 1)?;
     make_room(slots)?;
-    slots.push(Slot::empty()).unwrap();
-    free.push(slot).unwrap();
-    Ok(())
+    slots.push(Slot::empty(None)).unwrap();
+    *free = Some(slot);
+    Ok(slot)
 }
 
 impl FarNames {
@@ -87,7 +82,7 @@ impl FarNames {
         FarNames {
             index: BTreeMap::new(alloc),
             slots: Vec::new(alloc),
-            free: Vec::new(alloc),
+            free: None,
         }
     }
 
@@ -127,16 +122,10 @@ impl FarNames {
         ensures ok { OnOk result (self.new ≡ insert_entry nat_cmp self.old name None) }
         ensures err { OnErr result (self.new ≡ self.old) }
     {
-        refill(&mut self.slots, &mut self.free)?;
-        let slot = self.free.pop().unwrap();
-        self.slots[slot as usize] = Slot::empty();
-        match self.index.insert(name, slot) {
-            Ok(_none) => Ok(()),
-            Err(_short) => {
-                self.free.push(slot).unwrap();
-                Err(NoMemory)
-            }
-        }
+        let slot = first_free(&mut self.slots, &mut self.free)?;
+        self.index.insert(name, slot)?;
+        self.free = self.slots[slot as usize].next();
+        Ok(())
     }
 
     /// Puts a block of some bytes into the place of a name, where it has one.
@@ -163,7 +152,8 @@ impl FarNames {
         ensures { self.new ≡ remove_entry (is_name name) self.old }
     {
         if let Some(slot) = self.index.remove(&name) {
-            self.free.push(slot).unwrap();
+            self.slots[slot as usize] = Slot::empty(self.free);
+            self.free = Some(slot);
         }
     }
 }

@@ -1,9 +1,10 @@
-ghost use Rattle.std.specs.Prelude.{◌≡◌};
+ghost use Rattle.std.specs.Prelude.{◌≡◌, ◌+◌, ◌<◌};
 ghost use Rattle.chunk_tags.specs.Sizes.{IsChunkSize};
 ghost use Rattle.block_names.specs.Blocks.{IsHeld};
 
 use super::*;
 use chunk_tags::{Addr, Block, Size};
+use std::process::Abort;
 use std::test::Fail;
 
 #[test]
@@ -79,5 +80,43 @@ fn far_names_have_places_of_their_own(rt: HostRuntime) -> Result<(), Fail> {
     let block = names.take(65_536).ok_or("a block")?;
     assert_eq!(rt; block.addr, Addr(0x5555_5555_9290));
     assert!(rt; names.take(65_536).is_none());
+    Ok(())
+}
+
+/// Makes so many far names ready from one on, and gives each a block of its own.
+fn give_all(names: &mut Names, first: u32, count: u32) -> Result<(), Fail>
+    requires { first + count < 100_000 }
+{
+    for n in 0..count {
+        let name = first + n;
+        names.ready(name)?;
+        give(names, name, chunk(0x5555_5550_0000 + 32 * name as u64, 32));
+    }
+    Ok(())
+}
+
+/// Takes these blocks, and lets the names go.
+fn take_all(names: &mut Names, first: u32, count: u32, rt: &impl Abort) -> Result<(), Fail>
+    requires { first + count < 100_000 }
+{
+    for n in 0..count {
+        let name = first + n;
+        let block = names.take(name).ok_or("a block")?;
+        assert_eq!(rt; block.addr, Addr(0x5555_5550_0000 + 32 * name as u64));
+        names.tidy(name);
+    }
+    Ok(())
+}
+
+#[test]
+fn far_names_come_and_go(rt: HostRuntime) -> Result<(), Fail> {
+    let mut names = Names::new(rt.alloc());
+    give_all(&mut names, 70_000, 3)?;
+    give_all(&mut names, 80_000, 5)?;
+    take_all(&mut names, 70_000, 3, &rt)?;
+    give_all(&mut names, 90_000, 4)?;
+    take_all(&mut names, 80_000, 5, &rt)?;
+    take_all(&mut names, 90_000, 4, &rt)?;
+    assert_eq!(rt; names.far().len(), 0);
     Ok(())
 }

@@ -1,41 +1,20 @@
-use Rattle.std.proofs.Common.{◌≡◌, ◌++◌, ℕ, List, [], ◌∷◌, Option, set, sym, ap, ◌∙◌, subst, arith, rules}
-use Rattle.std.specs.Option.{option_to_list}
-use Rattle.std.proofs.lemmas.List.{length-set}
-use Rattle.chunk_tags.specs.declared.block.Block.{Block}
-use Rattle.block_names.specs.FarNames.{places_in, AreSlots}
-use Rattle.block_names.proofs.FarPlaces.{unmade_places, made_places, made_slots, free_there}
+use Rattle.std.proofs.Common.{ℕ, List, Option, get_or, ap, sym, ◌∙◌, subst, arith}
+use Rattle.block_names.specs.FarNames.{SlotValue, next_in, places_in, AreChained}
+use Rattle.block_names.proofs.FarPlaces.{made_places, made_chained, refilled_chained, first_there}
 use Rattle.block_names.proofs.far.FarNames.make.Goals as goal
 
-pub index_mut-requires : goal.index_mut-requires
-index_mut-requires c =
-    let is : c.refill.new.free.items ≡ c.pop.new.self.items ++ c.unwrap-slot.result ∷ [] =
-    c.pop.ensures.items ∙ ap (λ (o : Option ℕ). c.pop.new.self.items ++ option_to_list o) c.unwrap-slot.ensures in
-    let all = c.in_ok-refill.ensures.ok.keeps c.self.inside.index.entries c.self.invariant.0 in
-    omega (arith, free_there c.refill.new.slots.items c.self.inside.index.entries c.refill.new.free.items c.pop.new.self.items c.unwrap-slot.result is all)
+pub index-requires : goal.index-requires
+index-requires c =
+    let all = refilled_chained c.in_ok-slot.slot c.self.inside.slots.items c.first_free.new.slots.items c.self.inside.index.entries c.self.inside.free c.first_free.new.free c.in_ok-slot.ensures.ok c.in_ok-slot.ensures.first c.self.invariant in
+    omega (arith, (first_there c.first_free.new.slots.items c.in_ok-slot.slot c.self.inside.index.entries all).0)
 
-pub invariant_of-self-in-Ok : goal.invariant_of-self-in-Ok
-invariant_of-self-in-Ok c =
-    let is : c.refill.new.free.items ≡ c.pop.new.self.items ++ c.unwrap-slot.result ∷ [] =
-    c.pop.ensures.items ∙ ap (λ (o : Option ℕ). c.pop.new.self.items ++ option_to_list o) c.unwrap-slot.ensures in
-    let all = made_slots c.args.name c.unwrap-slot.result c.self.inside.slots.items c.refill.new.slots.items c.self.inside.index.entries c.self.inside.free.items c.refill.new.free.items c.pop.new.self.items c.empty.result c.args.self.now c.in_ok-refill.ensures.ok is c.self.invariant.0 c.self.view_is c.requires in
-    let left : List (Option Block) = set c.refill.new.slots.items c.unwrap-slot.result c.empty.result in (
-      subst (λ (es : List (ℕ × ℕ)). AreSlots left es c.pop.new.self.items) (sym c.in-Ok.ensures.entries) all,
-      omega (arith, length-set c.refill.new.slots.items c.unwrap-slot.result c.empty.result, c.refill.ensures.room, c.pop.ensures.capacity),
-    )
+pub invariant_of-self-2 : goal.invariant_of-self-2
+invariant_of-self-2 c =
+    let all = made_chained c.args.name c.in_ok-slot.slot c.index.result.now c.self.inside.slots.items c.first_free.new.slots.items c.self.inside.index.entries c.self.inside.free c.first_free.new.free c.args.self.now c.in_ok-slot.ensures.ok c.in_ok-slot.ensures.first c.self.invariant c.self.view_is c.requires in
+    subst (λ (o : Option ℕ). AreChained c.first_free.new.slots.items c.insert.new.self.entries o) (sym (c.next-self-inside.ensures ∙ ap (λ (x : SlotValue). next_in x) c.index.ensures))
+    (subst (λ (es : List (ℕ × ℕ)). AreChained c.first_free.new.slots.items es (next_in (get_or c.first_free.new.slots.items c.in_ok-slot.slot c.index.result.now))) (sym c.in_ok-insert.ensures.entries) all)
 
-pub returns-in-Ok-clause-ok : goal.returns-in-Ok-clause-ok
-returns-in-Ok-clause-ok c =
-    let is : c.refill.new.free.items ≡ c.pop.new.self.items ++ c.unwrap-slot.result ∷ [] =
-    c.pop.ensures.items ∙ ap (λ (o : Option ℕ). c.pop.new.self.items ++ option_to_list o) c.unwrap-slot.ensures in
-    let left : List (Option Block) = set c.refill.new.slots.items c.unwrap-slot.result c.empty.result in
-    ap (λ (es : List (ℕ × ℕ)). places_in left es) c.in-Ok.ensures.entries
-    ∙ made_places c.args.name c.unwrap-slot.result c.self.inside.slots.items c.refill.new.slots.items c.self.inside.index.entries c.self.inside.free.items c.refill.new.free.items c.pop.new.self.items c.empty.result c.args.self.now c.in_ok-refill.ensures.ok is c.self.invariant.0 c.self.view_is c.empty.ensures
-
-pub returns-in-Err-clause-err : goal.returns-in-Err-clause-err
-returns-in-Err-clause-err c =
-    let is : c.refill.new.free.items ≡ c.pop.new.self.items ++ c.unwrap-slot.result ∷ [] =
-    c.pop.ensures.items ∙ ap (λ (o : Option ℕ). c.pop.new.self.items ++ option_to_list o) c.unwrap-slot.ensures in
-    let left : List (Option Block) = set c.refill.new.slots.items c.unwrap-slot.result c.empty.result in
-    let stay : c.insert.new.self.entries ≡ c.self.inside.index.entries = search rules in
-    ap (λ (es : List (ℕ × ℕ)). places_in left es) stay
-    ∙ unmade_places c.unwrap-slot.result c.self.inside.slots.items c.refill.new.slots.items c.self.inside.index.entries c.self.inside.free.items c.refill.new.free.items c.pop.new.self.items c.empty.result c.args.self.now c.in_ok-refill.ensures.ok is c.self.invariant.0 c.self.view_is
+pub returns-clause-ok : goal.returns-clause-ok
+returns-clause-ok c =
+    ap (λ (es : List (ℕ × ℕ)). places_in c.first_free.new.slots.items es) c.in_ok-insert.ensures.entries
+    ∙ made_places c.args.name c.in_ok-slot.slot c.self.inside.slots.items c.first_free.new.slots.items c.self.inside.index.entries c.self.inside.free c.first_free.new.free c.args.self.now c.in_ok-slot.ensures.ok c.in_ok-slot.ensures.first c.self.invariant c.self.view_is
