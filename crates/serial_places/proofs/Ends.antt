@@ -1,12 +1,12 @@
 -- What places have, slot by slot and tray by tray.
-use Rattle.std.proofs.Common.{◌≡◌, ℕ, zero, suc, ◌+◌, ◌*◌, ◌<◌, false, List, [], ◌∷◌, ◌++◌, length, map, flat_map, Option, Some, None, refl, sym, ap, ◌∙◌, subst, arith, append-nil, replicate}
+use Rattle.std.proofs.Common.{◌≡◌, ℕ, zero, suc, ◌+◌, ◌*◌, ◌<◌, false, List, [], ◌∷◌, ◌++◌, length, map, flat_map, Option, Some, None, refl, sym, ap, ◌∙◌, subst, arith, append-nil}
 use Rattle.std.specs.Prelude.{IfSome, option_map}
 use Rattle.chunk_tags.specs.declared.block.Block.{Block}
 use Rattle.arena_rules.specs.HeapPlaces.{IsHeapPlaced}
 use Rattle.arena_rules.specs.PlainArena.{is_main}
 use Rattle.arena_ground.specs.Grounds.{GroundView}
 use Rattle.arena_core.specs.declared.arena.Arena.{Arena}
-use Rattle.serial_places.specs.Trays.{full_before, full_trays, empty_trays}
+use Rattle.serial_places.specs.Trays.{full_before, full_trays}
 use Rattle.serial_places.specs.declared.slot.Slot.{Slot}
 use Rattle.serial_places.specs.declared.tray.Tray.{Tray}
 use Rattle.serial_places.specs.declared.tray.Tray.TheVariants.{Empty, Full, Taken}
@@ -53,10 +53,6 @@ not_full n Taken other = refl
 pub full_same : (trays : List Tray) (t : Tray) (old : List (ℕ × Block)) → ((b : Block) → t ≡ Full b → ⊥) → old ≡ full_trays 0 trays → old ≡ full_trays 0 (trays ++ t ∷ [])
 full_same trays t old other before =
     before ∙ (sym (append-nil (full_trays 0 trays)) ∙ (ap (λ bs. full_trays 0 trays ++ bs) (sym (not_full (0 + length trays) t other)) ∙ sym (full-append 0 trays t)))
-
-pub trays_empty : (n : ℕ) → n ≡ 65536 → replicate n Empty ≡ empty_trays
-unfolding empty_trays
-trays_empty n e = ap (λ k. replicate k Empty) e
 
 -- what follows in each slot
 

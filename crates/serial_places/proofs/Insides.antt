@@ -1,6 +1,6 @@
 -- The fields of the places, before a call and behind it.
 use Rattle.std.proofs.Common.{◌≡◌, ℕ, ◌<◌, Bool, true, false, List, [], ◌∷◌, length, map, zero, suc, Option, Some, None, Result, Ok, Err, IsTrue, refl, sym, ap, ◌∙◌, subst, arith, length-set, flat_map}
-use Rattle.std.specs.Prelude.{is_some, IfSome, OnOk, OnErr, option_map, slice_index_or, slice_set}
+use Rattle.std.specs.Prelude.{is_some, IfSome, OnOk, OnErr, option_map, slice_index_or}
 use Rattle.chunk_tags.specs.Sizes.{IsChunkSize, fast_index_of}
 use Rattle.chunk_tags.specs.declared.block.Block.{Block}
 use Rattle.chunk_tags.specs.declared.refusals.NoMemory.{NoMemory}
@@ -22,8 +22,7 @@ use Rattle.serial_places.specs.Playing.{PlainPort}
 use Rattle.serial_places.specs.declared.serial.Serial.TheInside.{Inside}
 use Rattle.serial_places.specs.declared.slot.Slot.{Slot}
 use Rattle.serial_places.specs.declared.tray.Tray.{Tray}
-use Rattle.serial_places.specs.declared.tray.Tray.TheVariants.{Empty}
-use Rattle.serial_places.specs.Trays.{tray_at, trays_taken, found_by_take, taken_tray, full_trays}
+use Rattle.serial_places.specs.Trays.{tray_at, trays_taken, found_by_take, full_trays}
 use Rattle.serial_places.specs.SerialWays.{SerialState, KeptSlot, IsSerial, IsKeptIn, HasSlotRoom, Serves, LentSlot, GaveSlot, IdleSlot, PushedSlot, EndsAs, those_in, fast_lists, slot_in, put_in, taken_out, slot_with, kept_slot, kept_ground, kept_lent, is_there, state_at, state_ways}
 use Rattle.serial_places.specs.SerialPlaces.{serves_same, known}
 use Rattle.serial_places.proofs.Slots.{slot_within, some_within, slot-map, there-map, put_here}
@@ -33,11 +32,11 @@ use Rattle.serial_places.proofs.SerialLaws.{same_some, unseen, gone, is_added, i
 
 -- the state of these fields
 abbrev pub seen : Inside → SerialState
-seen i = state_at i.arenas.items i.dials i.book i.trays.items i.lent i.tunables
+seen i = state_at i.arenas.items i.dials i.book i.trays i.lent i.tunables
 
 -- with another slot, and without one
 abbrev pub with_slot : Inside → ℕ → Slot → SerialState
-with_slot i n s = state_at (put_in i.arenas.items n s) i.dials i.book i.trays.items i.lent i.tunables
+with_slot i n s = state_at (put_in i.arenas.items n s) i.dials i.book i.trays i.lent i.tunables
 
 pub with_slot_is : (i : Inside) (now : SerialState) (m n : ℕ) (s : Slot) → seen i ≡ now → m ≡ n → with_slot i m s ≡ record now { slots = put_in now.slots n (kept_slot s) }
 with_slot_is i now m n s view same =
@@ -86,7 +85,7 @@ there_listed i now n view there s =
 -- ---- an arena is lent
 
 abbrev pub without_slot : Inside → ℕ → SerialState
-without_slot i n = state_at (taken_out i.arenas.items n) i.dials i.book i.trays.items (Some n) i.tunables
+without_slot i n = state_at (taken_out i.arenas.items n) i.dials i.book i.trays (Some n) i.tunables
 
 without_slot_is : (i : Inside) (now : SerialState) (n : ℕ) → seen i ≡ now → without_slot i n ≡ record now { slots = taken_out now.slots n; lent = Some n }
 without_slot_is i now n view =
@@ -110,7 +109,7 @@ lent_slot i now n slot view s at = record {
 
 abbrev pub with_back : Inside → ℕ → Arena BoxedGround → PlainPort → Option ℕ → SerialState
 with_back i n arena port lent =
-    state_at (put_in i.arenas.items n (record { arena = arena; bins = port.bins })) port.dials i.book i.trays.items lent i.tunables
+    state_at (put_in i.arenas.items n (record { arena = arena; bins = port.bins })) port.dials i.book i.trays lent i.tunables
 
 with_back_is : (i : Inside) (now : SerialState) (n : ℕ) (arena : Arena BoxedGround) (port : PlainPort) → seen i ≡ now →
     with_back i n arena port None ≡ record now { slots = put_in now.slots n (slot_with (kept_lent arena) port.bins); dials = port.dials; lent = None }
@@ -250,7 +249,7 @@ chosen i now book thread fresh t choice view tunables s is after =
 -- ---- a new arena
 
 abbrev pub with_added : Inside → ℕ → Arena BoxedGround → PlainBins → BookValue → SerialState
-with_added i n arena bins book = state_at (put_in i.arenas.items n (record { arena = arena; bins = bins })) i.dials book i.trays.items i.lent i.tunables
+with_added i n arena bins book = state_at (put_in i.arenas.items n (record { arena = arena; bins = bins })) i.dials book i.trays i.lent i.tunables
 
 with_added_is : (i : Inside) (now : SerialState) (m thread : ℕ) (arena : Arena BoxedGround) (bins : PlainBins) (book : BookValue) → seen i ≡ now → m ≡ (kept_lent arena).arena.number →
     book ≡ attached_book i.book thread (kept_lent arena).arena.number →
@@ -284,25 +283,23 @@ pub may_attach : (i : Inside) (now : SerialState) (n : ℕ) (arena : Arena Boxed
 may_attach i now n arena view same new =
     subst (λ (k : ℕ). CanAttach i.book k) (sym same) (subst (λ (st : SerialState). CanAttach st.book (kept_lent arena).arena.number) (sym view) new.owed.may)
 
--- ---- a tray
+-- ---- trays
 
-abbrev pub with_tray : Inside → ℕ → Tray → SerialState
-with_tray i n t = state_at i.arenas.items i.dials i.book (slice_set i.trays.items n t) i.lent i.tunables
+abbrev pub with_trays : Inside → List Tray → SerialState
+with_trays i trays = state_at i.arenas.items i.dials i.book trays i.lent i.tunables
 
-pub taken : (i : Inside) (now : SerialState) (n : ℕ) (tray new : Tray) (found : Result Block ℕ) → seen i ≡ now → n < length i.trays.items → tray ≡ slice_index_or i.trays.items n tray →
-    found ≡ found_by_take tray → new ≡ taken_tray tray → IsSerial (seen i) → IsTaken state_ways n now found (with_tray i n new)
-taken i now n tray new found view within read told after s =
-    let at : tray_at i.trays.items n ≡ tray = read_at i.trays.items n tray Empty within read in
-    let same : i.trays.items ≡ now.trays = ap (λ (st : SerialState). st.trays) view in
-    is_taken now (with_tray i n new) n found (omega (arith, within, ap (λ (ts : List Tray). length ts) same)) ((now_serial i now view s).held n)
-    (told ∙ ap found_by_take (sym at ∙ ap (λ (ts : List Tray). tray_at ts n) same))
-    (ap (with_tray i n) (after ∙ ap taken_tray (sym at))
-    ∙ ap (λ (st : SerialState). let r : SerialState = record st { trays = trays_taken n st.trays } in r) view)
+pub taken : (i : Inside) (now : SerialState) (n : ℕ) (found : Result Block ℕ) (trays : List Tray) → seen i ≡ now → n < 65536 → found ≡ found_by_take (tray_at i.trays n) →
+    trays ≡ trays_taken n i.trays → IsSerial (seen i) → IsTaken state_ways n now found (with_trays i trays)
+taken i now n found trays view below told is s =
+    let sound : IsSerial now = now_serial i now view s in
+    is_taken now (with_trays i trays) n found (omega (arith, below, sound.trays)) (sound.held n)
+    (told ∙ ap (λ (st : SerialState). found_by_take (tray_at st.trays n)) view)
+    (ap (with_trays i) is ∙ ap (λ (st : SerialState). let r : SerialState = record st { trays = trays_taken n st.trays } in r) view)
 
 -- ---- the end
 
 pub ended : (i : Inside) (now : SerialState) (arenas : List (Arena GroundView)) (fast : List (List ℕ)) (book : BookValue) (trays : List (ℕ × Block)) → seen i ≡ now →
     map kept_ground arenas ≡ map (λ s. s.kept) (those_in (map (option_map kept_slot) i.arenas.items)) → fast ≡ flat_map fast_lists (those_in (map (option_map kept_slot) i.arenas.items)) →
-    book ≡ i.book → trays ≡ full_trays 0 i.trays.items → EndsAs now arenas fast book trays i.dials.state
+    book ≡ i.book → trays ≡ full_trays 0 i.trays → EndsAs now arenas fast book trays i.dials.state
 ended i now arenas fast book trays view same fs is ts =
     subst (λ (st : SerialState). EndsAs st arenas fast book trays i.dials.state) view (record { arenas_are = same; fast_are = fs; book_is = is; trays_are = ts; words_are = refl })

@@ -7,5 +7,6 @@ pub mod SerialLaws
 pub mod SerialFirst
 pub mod Opening
 pub mod Serving
+mod TrayLists
 mod Insides
 mod Ends

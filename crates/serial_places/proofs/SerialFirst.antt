@@ -27,17 +27,13 @@ use Rattle.serial_places.specs.declared.tray.Tray.TheVariants.{Empty}
 use Rattle.serial_places.specs.SerialWays.{SerialState, KeptSlot, WorldSlot, IsKept, IsKeptIn, IsSerial, IsFirst, IsWhole, Serves, Notes, world_slot, slot_in, kept_slot, kept_lent, state_at, seen_slot, first_slots, no_slots, first_words, first_world, world_at, stock_in, used_in, is_there}
 use Rattle.serial_places.proofs.Slots.{slot-map, there-map}
 use Rattle.serial_places.proofs.SerialBooks.{has_cases}
+use Rattle.serial_places.proofs.TrayLists.{no_tray}
 
 -- ---- the trays
 
-trays_none : (m n : ℕ) → tray_at (replicate m Empty) n ≡ Empty
-trays_none zero n = refl
-trays_none (suc m) zero = refl
-trays_none (suc m) (suc n) = trays_none m n
-
 no_block : (n : ℕ) → tray_at empty_trays n ≡ Empty
 unfolding empty_trays
-no_block n = trays_none 65536 n
+no_block n = no_tray 65536 n
 
 length-empty_trays : length empty_trays ≡ 65536
 unfolding empty_trays

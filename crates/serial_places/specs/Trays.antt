@@ -1,6 +1,6 @@
 -- Trays, in which threads leave blocks for each other (this project's own). What is found in one has a number: 0 empty, 2 full,
 -- 3 taken; 1 is claimed, which nobody finds in one order of calls.
-use Rattle.std.specs.Prelude.{ℕ, ◌+◌, List, [], ◌∷◌, Option, Some, None, Result, Ok, Err, replicate, slice_index_or, slice_set, sum_by}
+use Rattle.std.specs.Prelude.{ℕ, ◌+◌, ◌-◌, List, [], ◌∷◌, ◌++◌, length, Option, Some, None, Result, Ok, Err, replicate, slice_index_or, slice_set, sum_by}
 use Rattle.chunk_tags.specs.declared.block.Block.{Block}
 use Rattle.block_names.specs.Blocks.{IsHeld}
 use Rattle.arena_holds.specs.Places.{Hands}
@@ -64,6 +64,10 @@ trays_taken n trays = slice_set trays n (taken_tray (tray_at trays n))
 -- all trays, as they begin
 unfoldable pub empty_trays : List Tray
 empty_trays = replicate 65536 Empty
+
+-- all trays, where these are the first of them and the others are empty
+unfoldable pub all_trays : List Tray → List Tray
+all_trays first = first ++ replicate (65536 - length first) Empty
 
 -- a block before others, with the number of its tray
 abbrev pub full_before : ℕ → Tray → List (ℕ × Block) → List (ℕ × Block)

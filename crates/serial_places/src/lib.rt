@@ -8,6 +8,7 @@ mod end;
 mod serial;
 mod slot;
 mod tray;
+mod trays;
 
 pub use both::Both;
 pub use boxed::BoxedGround;

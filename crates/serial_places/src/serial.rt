@@ -4,13 +4,12 @@ ghost use Rattle.std.specs.Prelude.{◌≡◌, ℕ, ◌*◌, ◌≤◌, false, L
 ghost use Rattle.arena_rules.specs.HeapPlaces.{IsHeapPlaced};
 ghost use Rattle.arena_rules.specs.PlainArena.{empty_main, is_main};
 ghost use Rattle.serial_places.specs.SerialWays.{IsFirst, IsSerial, EndsAs, is_there, slot_in};
-ghost use Rattle.serial_places.specs.Trays.{empty_trays};
 
 use crate::both::Both;
 use crate::boxed::BoxedGround;
-use crate::end::{SerialEnd, blocks_in, split_slots};
+use crate::end::{SerialEnd, split_slots};
 use crate::slot::Slot;
-use crate::tray::{self, Tray};
+use crate::trays::Trays;
 use arena_choice::{Book, Choice};
 use arena_core::{Arena, Entry};
 use arena_ground::Ground;
@@ -25,9 +24,6 @@ use std::marker::Model;
 /// How many arenas there may be beside main.
 const OTHERS: usize = 63;
 
-/// How many trays there are.
-const TRAYS: usize = 65536;
-
 /// The places of one order of calls: the arenas with their fast bins, but while one is lent, the words, the book of arenas and
 /// the trays stand in it. Nothing waits.
 #[derive(Drop)]
@@ -35,7 +31,7 @@ pub struct Serial {
     arenas: Vec<Option<Slot>>,
     dials: PlainDials,
     book: Book,
-    trays: Vec<Tray>,
+    trays: Trays,
     // The arena that is lent: it comes back into its slot, whichever others aren't there.
     lent: Option<u8>,
     tunables: Tunables,
@@ -48,10 +44,10 @@ impl Model for Serial {
 
     ghost Value = { SerialState };
 
-    ghost view = { λ s. state_at s.arenas.items s.dials s.book s.trays.items s.lent s.tunables };
+    ghost view = { λ s. state_at s.arenas.items s.dials s.book s.trays s.lent s.tunables };
 
     ghost invariant = { λ s.
-        IsSerial (state_at s.arenas.items s.dials s.book s.trays.items s.lent s.tunables) };
+        IsSerial (state_at s.arenas.items s.dials s.book s.trays s.lent s.tunables) };
 }
 
 /// Main before its first growth.
@@ -73,17 +69,6 @@ fn first_slots(alloc: Global, main: Slot, others: usize) -> Result<Vec<Option<Sl
         slots.push(None)?;
     }
     Ok(slots)
-}
-
-/// Trays without a block.
-fn empty_trays(alloc: Global) -> Result<Vec<Tray>, NoMemory>
-    ensures { IfOk result (λ v. v.items ≡ empty_trays) }
-{
-    let mut trays = Vec::with_capacity(alloc, TRAYS)?;
-    for _ in 0..TRAYS {
-        trays.push(Tray::Empty)?;
-    }
-    Ok(trays)
 }
 
 impl Serial {
@@ -114,7 +99,7 @@ impl Serial {
                 },
             },
             book: Book::new(alloc, t.records)?,
-            trays: empty_trays(alloc)?,
+            trays: Trays::new(alloc)?,
             lent: None,
             tunables: *t,
             alloc,
@@ -167,7 +152,7 @@ impl Serial {
             arenas,
             fast,
             book,
-            trays: blocks_in(alloc, trays)?,
+            trays: trays.blocks(alloc)?,
             dials: dials.state,
         })
     }
@@ -272,10 +257,10 @@ impl Places for Serial {
     }
 
     fn post(&mut self, tray: u32, b: Block) -> Result<(), Full> {
-        tray::post(&mut self.trays[tray as usize], b)
+        self.trays.post(tray, b)
     }
 
     fn take(&mut self, tray: u32) -> Result<Block, Empty> {
-        tray::take(&mut self.trays[tray as usize])
+        self.trays.take(tray)
     }
 }

@@ -8,7 +8,7 @@ use arena_holds::{Empty, Full};
 use chunk_tags::Block;
 
 /// What is found in an empty tray, a full one, and one whose block was taken.
-const EMPTY: u64 = 0;
+pub const EMPTY: u64 = 0;
 
 const FULL: u64 = 2;
 

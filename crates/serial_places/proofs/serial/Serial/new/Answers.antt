@@ -12,11 +12,11 @@ new_main c = record { ground = c.in_ok-first_ground.ensures; journal = c.new.ens
 pub invariant_of-result : goal.invariant_of-result
 unfolding main_of
 invariant_of-result c =
-    first_serial c.args.t.now (main_of c) c.in_ok-first_slots.field-0.items _ c.in_ok-new.field-0 c.in_ok-empty_trays.field-0.items c.requires.one c.requires.most (new_main c)
-    c.in_ok-first_slots.ensures c.in_ok-new.ensures c.in_ok-empty_trays.ensures
+    first_serial c.args.t.now (main_of c) c.in_ok-first_slots.field-0.items _ c.in_ok-new.field-0 c.in_ok-new-2.field-0 c.requires.one c.requires.most (new_main c)
+    c.in_ok-first_slots.ensures c.in_ok-new.ensures c.in_ok-new-2.ensures
 
 pub returns : goal.returns
 unfolding main_of
 returns c =
-    is_first c.args.t.now (main_of c) c.in_ok-first_slots.field-0.items c.in_ok-new.field-0 c.in_ok-empty_trays.field-0.items (new_main c)
-    c.in_ok-first_slots.ensures c.in_ok-new.ensures c.in_ok-empty_trays.ensures
+    is_first c.args.t.now (main_of c) c.in_ok-first_slots.field-0.items c.in_ok-new.field-0 c.in_ok-new-2.field-0 (new_main c)
+    c.in_ok-first_slots.ensures c.in_ok-new.ensures c.in_ok-new-2.ensures
