@@ -50,6 +50,8 @@ fn make_break_room<M: Moves>(g: &mut M, growth: u64, t: &Tunables) -> Result<(),
         → M.break_room g.new growth) }
     ensures arena { M.plain g.new ≡ M.plain g.old }
     ensures full { OnErr result (M.break_room g.new growth → ⊥) }
+    ensures window { OnErr result
+        (break_passes (windows_of t.now) ((M.plain g.old).break_at + growth) ≡ false) }
 {
     if g.break_at() + growth - MAIN_START > t.main_max {
         return Ok(());
@@ -77,7 +79,9 @@ pub fn ask_break<M: Moves, K: Kernel>(
         result space.new said.new.items }
     ensures room { IfOk result (λ granted. granted ≡ true → M.break_room g.new growth) }
     ensures arena { M.plain g.new ≡ M.plain g.old }
-    ensures lacks { OnErr result (IsFull said.new ⊎ (M.break_room g.new growth → ⊥)) }
+    ensures lacks { OnErr result (IsFull said.new
+        ⊎ (break_passes (windows_of t.now) ((M.plain g.old).break_at + growth) ≡ false)
+        × (M.break_room g.new growth → ⊥)) }
 {
     make_break_room(g, growth, t)?;
     make_room(said)?;
@@ -118,6 +122,8 @@ fn make_piece_room<M: Moves>(g: &mut M, len: u64, t: &Tunables) -> Result<(), No
         → M.piece_room g.new len) }
     ensures arena { M.plain g.new ≡ M.plain g.old }
     ensures full { OnErr result (M.piece_room g.new len → ⊥) }
+    ensures window { OnErr result
+        (piece_passes (windows_of t.now) (M.plain g.old).next_piece len ≡ false) }
 {
     if g.next_piece() + len - PIECE_START > t.main_max {
         return Ok(());
@@ -144,7 +150,9 @@ pub fn ask_piece<M: Moves, K: Kernel>(
         result space.new said.new.items }
     ensures room { IfOk result (λ granted. granted ≡ true → M.piece_room g.new len) }
     ensures arena { M.plain g.new ≡ M.plain g.old }
-    ensures lacks { OnErr result (IsFull said.new ⊎ (M.piece_room g.new len → ⊥)) }
+    ensures lacks { OnErr result (IsFull said.new
+        ⊎ (piece_passes (windows_of t.now) (M.plain g.old).next_piece len ≡ false)
+        × (M.piece_room g.new len → ⊥)) }
 {
     make_piece_room(g, len, t)?;
     make_room(said)?;

@@ -73,6 +73,8 @@ fn make_extension_room<M: Moves>(g: &mut M, growth: u64) -> Result<(), NoMemory>
         → M.extension_room g.new growth) }
     ensures arena { M.plain g.new ≡ M.plain g.old }
     ensures full { OnErr result (M.extension_room g.new growth → ⊥) }
+    ensures window { OnErr result
+        (last_length (M.plain g.old) + growth ≤ (M.plain g.old).windows.heap_max) }
 {
     if g.last_length() + growth > g.heap_max() {
         return Ok(());
@@ -99,7 +101,9 @@ pub fn ask_extension<M: Moves, K: Kernel>(
         space.old said.old.items result space.new said.new.items }
     ensures room { IfOk result (λ granted. granted ≡ true → M.extension_room g.new growth) }
     ensures arena { M.plain g.new ≡ M.plain g.old }
-    ensures lacks { OnErr result (IsFull said.new ⊎ (M.extension_room g.new growth → ⊥)) }
+    ensures lacks { OnErr result (IsFull said.new
+        ⊎ (last_length (M.plain g.old) + growth ≤ (M.plain g.old).windows.heap_max)
+        × (M.extension_room g.new growth → ⊥)) }
 {
     make_extension_room(g, growth)?;
     make_room(said)?;
@@ -136,6 +140,8 @@ fn make_heap_room<M: Moves>(g: &mut M, len: u64) -> Result<(), NoMemory>
         → M.heap_room g.new len) }
     ensures arena { M.plain g.new ≡ M.plain g.old }
     ensures full { OnErr result (M.heap_room g.new len → ⊥) }
+    ensures window { OnErr result (len ≤ (M.plain g.old).windows.heap_max) }
+    ensures place { OnErr result (last_heap (M.plain g.old) + 1 < (M.plain g.old).windows.heaps) }
 {
     if len > g.heap_max() || g.last_heap() + 1 >= g.heaps() {
         return Ok(());
@@ -161,7 +167,10 @@ pub fn ask_heap<M: Moves, K: Kernel>(
         space.old said.old.items result space.new said.new.items }
     ensures room { IfOk result (λ granted. granted ≡ true → M.heap_room g.new len) }
     ensures arena { M.plain g.new ≡ M.plain g.old }
-    ensures lacks { OnErr result (IsFull said.new ⊎ (M.heap_room g.new len → ⊥)) }
+    ensures lacks { OnErr result (IsFull said.new
+        ⊎ (len ≤ (M.plain g.old).windows.heap_max)
+        × (last_heap (M.plain g.old) + 1 < (M.plain g.old).windows.heaps)
+        × (M.heap_room g.new len → ⊥)) }
 {
     make_heap_room(g, len)?;
     make_room(said)?;

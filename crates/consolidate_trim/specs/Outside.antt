@@ -2,7 +2,6 @@
 use Rattle.std.specs.Prelude.{◌≡◌, ℕ, Bool, IsTrue}
 use Rattle.chunk_tags.specs.BinOrder.{fast_chunk}
 use Rattle.chunk_tags.specs.Dials.{Dial}
-use Rattle.chunk_tags.specs.Sizes.{cache_index_of}
 use Rattle.chunk_tags.specs.declared.tiles.Chunk.{Chunk}
 use Rattle.address_space.specs.Ports.{Port}
 use Rattle.address_space.specs.Spaces.{AsksWithin, MapsWithin, GivesWithin, map_place, map_ask, granted_place}
@@ -10,12 +9,12 @@ use Rattle.address_space.specs.declared.asks.Ask.{Ask}
 use Rattle.address_space.specs.declared.asks.Back.{Back}
 use Rattle.address_space.specs.declared.asks.Answer.{Answer}
 use Rattle.address_space.specs.declared.space.Space.{Space}
-use Rattle.thread_cache.specs.Caches.{CacheValue, has_room, with_newest, without_newest}
+use Rattle.thread_cache.specs.Caches.{CacheValue, has_room}
 use Rattle.fast_bins.specs.FastPorts as fasts
 use Rattle.fast_bins.specs.FastPorts.{Fast, Did, Idles}
 use Rattle.mapped_chunks.specs.DialPorts as dial_steps
 use Rattle.mapped_chunks.specs.DialPorts.{Dialled}
-use Rattle.arena_rules.specs.Rules.{Need, Flagged, Pops, Owns, Rooms, Asks, Maps, Reads, Deed, Clears, Gathers, Pushes, Stashes, Draws, Gives, Counts, block_of, passes_window}
+use Rattle.arena_rules.specs.Rules.{Need, Flagged, Pops, Owns, Rooms, Asks, Maps, Reads, Deed, Clears, Gathers, Pushes, Stashes, Draws, Gives, Counts, cache_after_deed, passes_window}
 use Rattle.arena_rules.specs.Walks.{Ways}
 use Rattle.arena_rules.specs.declared.said.Said.{Said}
 use Rattle.arena_rules.specs.declared.said.Said.TheVariants as told
@@ -88,8 +87,8 @@ abbrev pub Does : {P K : Type 0} → Means P K → ℕ → Outside P K → Deed 
 Does m number o Clears p = FastGoes m o fasts.Clears p
 Does m number o (Gathers bin) p = FastGoes m o (fasts.Gathers bin) p
 Does m number o (Pushes bin at) p = PushGoes m o bin at p
-Does m number o (Stashes c) p = p ≡ record o { cache = with_newest o.cache (block_of number c) }
-Does m number o (Draws size) p = p ≡ record o { cache = without_newest o.cache (cache_index_of size) }
+Does m number o (Stashes c) p = p ≡ record o { cache = cache_after_deed number (Stashes c) o.cache }
+Does m number o (Draws size) p = p ≡ record o { cache = cache_after_deed number (Draws size) o.cache }
 Does m number o (Gives back) p = GiveGoes m o back p
 Does m number o (Counts len) p = DialGoes m o (dial_steps.Maps len) p
 

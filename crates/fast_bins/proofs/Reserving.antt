@@ -57,6 +57,13 @@ full_at old bins i d so_far below within full had =
     let clash : true ≡ false = sym room ∙ full in
     absurd cc
 
+-- and has none
+pub full_now : (n : ℕ) (bins : List RoomyBin) (i : ℕ) (b' : RoomyBin) → i < n → i < length bins → has_room b' ≡ false → HaveRoom n (set bins i b') → ⊥
+full_now n bins i b' within below full had =
+    let room : has_room b' ≡ true = subst (λ x. IsTrue (has_room x)) (get_or-set_same bins i b' no_bin below) (had i within) in
+    let clash : true ≡ false = sym room ∙ full in
+    absurd cc
+
 -- what is true in any case is true at a refusal
 pub on_err : {A E : Type 0} (P : Type 0) (r : Result A E) → IsErr r → P → OnErr r P
 on_err P (Ok x) refused p = absurd cc
@@ -68,11 +75,15 @@ ten_all : (bins : List RoomyBin) → length bins ≡ 10 → ten_bins bins ≡ bi
 ten_all [] long = absurd (omega (arith, long))
 ten_all (b ∷ bins) long = refl
 
-pub roomier_kept : (old : List RoomyBin) (v : Vec RoomyBin) (bins : List RoomyBin) → Roomier old (ten_bins v.items) → length v.items ≡ 10 → Roomier v.items bins → Roomier old (ten_bins (with_items v bins).items)
-roomier_kept old v bins so_far long next =
+ten_kept : (v : Vec RoomyBin) (bins : List RoomyBin) → length v.items ≡ 10 → Roomier v.items bins → ten_bins (with_items v bins).items ≡ bins
+ten_kept v bins long next =
     let bin : RoomyBin → FastBin = λ b. b.bin in
     let same : length bins ≡ length v.items = omega (arith, length-map bins bin, length-map v.items bin, ap (λ (bs : List FastBin). length bs) next.bins) in
-    let now : ten_bins (with_items v bins).items ≡ bins = ap ten_bins (with_items_is v bins (omega (arith, same, v.ok.0))) ∙ ten_all bins (omega (arith, same, long)) in
+    ap ten_bins (with_items_is v bins (omega (arith, same, v.ok.0))) ∙ ten_all bins (omega (arith, same, long))
+
+pub roomier_kept : (old : List RoomyBin) (v : Vec RoomyBin) (bins : List RoomyBin) → Roomier old (ten_bins v.items) → length v.items ≡ 10 → Roomier v.items bins → Roomier old (ten_bins (with_items v bins).items)
+roomier_kept old v bins so_far long next =
+    let now : ten_bins (with_items v bins).items ≡ bins = ten_kept v bins long next in
     let before : Roomier old v.items = subst (Roomier old) (ten_all v.items long) so_far in
     subst (Roomier old) (sym now) (record { bins = next.bins ∙ before.bins; room = λ k had. next.room k (before.room k had) })
 
@@ -82,6 +93,11 @@ full_kept old bins (Ok u) so_far long full = tt
 full_kept old bins (Err e) so_far long full =
     let before : Roomier old bins = subst (Roomier old) (ten_all bins long) so_far in
     λ had. full (λ k below. before.room k (had k (omega (arith, below, long))))
+
+pub still_kept : (v : Vec RoomyBin) (bins : List RoomyBin) (r : Result (Unit {0}) NoMemory) → length v.items ≡ 10 → Roomier v.items bins → OnErr r (HaveRoom (length v.items) bins → ⊥) → OnErr r (HaveRoom 10 (ten_bins (with_items v bins).items) → ⊥)
+still_kept v bins (Ok u) long next full = tt
+still_kept v bins (Err e) long next full =
+    λ had. full (λ k below. subst (λ (bs : List RoomyBin). IsTrue (has_room (get_or bs k no_bin))) (ten_kept v bins long next) (had k (omega (arith, below, long))))
 
 -- a bin that has room is in the list
 pub kept_below : (bins : List RoomyBin) (k : ℕ) → k < 10 → length (ten_bins bins) ≡ 10 → IsTrue (has_room (get_or (ten_bins bins) k no_bin)) → k < length bins

@@ -48,6 +48,7 @@ fn reserve_each(bins: &mut [BinStack]) -> Result<(), NoMemory>
     ensures roomier { Roomier bins.old bins.new }
     ensures room { OnOk result (HaveRoom (length bins.new) bins.new) }
     ensures full { OnErr result (HaveRoom (length bins.old) bins.old → ⊥) }
+    ensures still { OnErr result (HaveRoom (length bins.old) bins.new → ⊥) }
 {
     for b in bins.iter_mut() {
         b.make_room()?;
@@ -61,6 +62,7 @@ fn make_bins(bins: &mut Vec<BinStack>, alloc: Global) -> Result<(), NoMemory>
     ensures roomier { Roomier (ten_bins bins.old.items) (ten_bins bins.new.items) }
     ensures ten { OnOk result (length bins.new.items ≡ 10) }
     ensures none { OnErr result (bins.old.items ≡ []) }
+    ensures still { OnErr result (bins.new.items ≡ []) }
 {
     if !bins.is_empty() {
         return Ok(());
@@ -75,6 +77,7 @@ fn make_room_in(bins: &mut Vec<BinStack>, alloc: Global) -> Result<(), NoMemory>
     ensures roomier { Roomier (ten_bins bins.old.items) (ten_bins bins.new.items) }
     ensures room { OnOk result (HaveRoom 10 (ten_bins bins.new.items)) }
     ensures full { OnErr result (HaveRoom 10 (ten_bins bins.old.items) → ⊥) }
+    ensures still { OnErr result (HaveRoom 10 (ten_bins bins.new.items) → ⊥) }
 {
     make_bins(bins, alloc)?;
     reserve_each(bins)

@@ -12,11 +12,11 @@ pub trait FastPort {
     ghost fast: { Fast Self };
 
     /// Makes room for one push into any bin. No bin changes, whatever the answer; `NoMemory` comes only where a bin had no
-    /// room.
+    /// room, and has none.
     fn make_room(&mut self) -> Result<(), NoMemory>
         ensures idle { Idles fast self.old self.new }
         ensures room { OnOk result (HasRoom fast self.new) }
-        ensures full { OnErr result (HasRoom fast self.old → ⊥) };
+        ensures full { OnErr result ((HasRoom fast self.old → ⊥) × (HasRoom fast self.new → ⊥)) };
 
     /// Whether chunks may be in a bin (glibc's `have_fastchunks`).
     fn flag(&mut self) -> bool

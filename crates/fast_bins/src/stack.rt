@@ -45,6 +45,7 @@ impl BinStack {
         ensures more { self.old.room ≤ self.new.room }
         ensures room { OnOk result (IsTrue (has_room self.new)) }
         ensures full { OnErr result (has_room self.old ≡ false) }
+        ensures still { OnErr result (has_room self.new ≡ false) }
     {
         if self.has_room() {
             return Ok(());

@@ -2,17 +2,16 @@
 -- accounted for (this project's own). A body that needs the caller's cache alone promises it over the cache, one that
 -- needs the fast bins too over both; what holds there holds beside all the rest of a hold.
 use Rattle.std.specs.Prelude.{◌≡◌, ℕ, ◌+◌, ◌≤◌, Bool, List, None, Result, IfOk, OnErr}
-use Rattle.chunk_tags.specs.Sizes.{cache_index_of}
 use Rattle.chunk_tags.specs.declared.tiles.Chunk.{Chunk}
 use Rattle.chunk_tags.specs.declared.tunables.Tunables.{Tunables}
-use Rattle.thread_cache.specs.Caches.{CacheValue, has_room, with_newest, without_newest}
+use Rattle.thread_cache.specs.Caches.{CacheValue, has_room}
 use Rattle.fast_bins.specs.FastPorts as fasts
 use Rattle.fast_bins.specs.FastPorts.{Fast, Did, Idles}
 use Rattle.mapped_chunks.specs.DialPorts as dial_steps
 use Rattle.mapped_chunks.specs.DialPorts.{Dialled}
 use Rattle.arena_rules.specs.PlainArena.{Plain, IsSound, times_used}
 use Rattle.arena_rules.specs.MainPlaces.{IsPlaced}
-use Rattle.arena_rules.specs.Rules.{Rules, Need, Flagged, Pops, Owns, Rooms, Reads, Deed, Clears, Gathers, Stashes, Draws, block_of}
+use Rattle.arena_rules.specs.Rules.{Rules, Need, Flagged, Pops, Owns, Rooms, Reads, Deed, Clears, Gathers, Stashes, Draws, cache_after_deed}
 use Rattle.arena_rules.specs.Walks.{Ways, Performs}
 use Rattle.arena_rules.specs.declared.said.Said.{Said}
 use Rattle.arena_rules.specs.declared.said.Said.TheVariants as told
@@ -83,8 +82,8 @@ CacheGoes c (Rooms size) (told.Room b) d = RoomTold c size b d
 CacheGoes c need said d = ⊥
 
 abbrev pub CacheDoes : ℕ → CacheValue → Deed → CacheValue → Type 0
-CacheDoes number c (Stashes k) d = d ≡ with_newest c (block_of number k)
-CacheDoes number c (Draws size) d = d ≡ without_newest c (cache_index_of size)
+CacheDoes number c (Stashes k) d = d ≡ cache_after_deed number (Stashes k) c
+CacheDoes number c (Draws size) d = d ≡ cache_after_deed number (Draws size) c
 CacheDoes number c deed d = ⊥
 
 abbrev pub shelf : Ledger CacheValue
@@ -126,8 +125,8 @@ NearGoes fast o need said p = ⊥
 abbrev pub NearDoes : {P : Type 0} → Fast P → ℕ → Near P → Deed → Near P → Type 0
 NearDoes fast number o Clears p = PortGoes fast o fasts.Clears p
 NearDoes fast number o (Gathers bin) p = PortGoes fast o (fasts.Gathers bin) p
-NearDoes fast number o (Stashes k) p = CacheStep o (λ c d. d ≡ with_newest c (block_of number k)) p
-NearDoes fast number o (Draws size) p = CacheStep o (λ c d. d ≡ without_newest c (cache_index_of size)) p
+NearDoes fast number o (Stashes k) p = CacheStep o (λ c d. d ≡ cache_after_deed number (Stashes k) c) p
+NearDoes fast number o (Draws size) p = CacheStep o (λ c d. d ≡ cache_after_deed number (Draws size) c) p
 NearDoes fast number o deed p = ⊥
 
 abbrev pub near_ledger : {P : Type 0} → Fast P → Ledger (Near P)

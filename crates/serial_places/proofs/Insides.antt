@@ -177,11 +177,11 @@ room_made i now m n slot bins (Ok u) view same at h =
     subst (λ (st : SerialState). HasSlotRoom st n) (sym (with_slot_is i now m n (record { arena = slot.arena; bins = bins }) view same))
     (subst (λ (o : Option KeptSlot). IfSome o (λ s. HasRoom plain_fast s.bins)) (sym (put_here now.slots n (slot_with (kept_lent slot.arena) bins) (some_within now.slots n (kept_slot slot) here))) h)
 
-pub no_room : (i : Inside) (now : SerialState) (n : ℕ) (slot : Slot) (r : Result (Unit {0}) NoMemory) → seen i ≡ now → slot_in i.arenas.items n ≡ Some slot →
-    OnErr r (HasRoom plain_fast slot.bins → ⊥) → OnErr r (HasSlotRoom now n → ⊥)
-no_room i now n slot (Ok u) view at h = tt
-no_room i now n slot (Err e) view at h =
-    λ room. h (subst (λ (o : Option KeptSlot). IfSome o (λ s. HasRoom plain_fast s.bins)) (slot_seen i now n slot view at) room)
+pub no_room : (i : Inside) (now : SerialState) (n : ℕ) (slot : Slot) (bins : PlainBins) (r : Result (Unit {0}) NoMemory) → seen i ≡ now → slot_in i.arenas.items n ≡ Some slot →
+    OnErr r ((HasRoom plain_fast slot.bins → ⊥) × (HasRoom plain_fast bins → ⊥)) → OnErr r (HasSlotRoom now n → ⊥)
+no_room i now n slot bins (Ok u) view at h = tt
+no_room i now n slot bins (Err e) view at h =
+    λ room. h.0 (subst (λ (o : Option KeptSlot). IfSome o (λ s. HasRoom plain_fast s.bins)) (slot_seen i now n slot view at) room)
 
 -- the arena of a block that is given out is there
 pub known_alone : (now : SerialState) (b : Block) (n : ℕ) → Serves false now (λ weigh. weigh b) → b.arena ≡ Some n → IsTrue (is_there now n)

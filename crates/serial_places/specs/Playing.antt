@@ -2,12 +2,11 @@
 -- leaves follow from the world that it begins with (this project's own).
 use Rattle.std.specs.Prelude.{ℕ, List, [], ◌∷◌, Option, Some, None}
 use Rattle.std.specs.Option.{option_map}
-use Rattle.chunk_tags.specs.Sizes.{cache_index_of}
 use Rattle.chunk_tags.specs.Dials.{Dial, MmapThreshold, TrimThreshold, MappedCount}
 use Rattle.address_space.specs.declared.space.Space.{Space}
 use Rattle.address_space.specs.Ports.{Port}
 use Rattle.address_space.specs.Spaces.{space_answer, space_asked, space_place, space_mapped, map_ask, place_answer}
-use Rattle.thread_cache.specs.Caches.{CacheValue, has_room, with_newest, without_newest}
+use Rattle.thread_cache.specs.Caches.{CacheValue, has_room}
 use Rattle.fast_bins.specs.FastPorts as fasts
 use Rattle.fast_bins.specs.PlainBins as bins
 use Rattle.fast_bins.specs.PlainBins.{FastState, PlainBins, state_of, bin_at, front_of, own_front, plain_fast}
@@ -18,7 +17,7 @@ use Rattle.mapped_chunks.specs.declared.plain.DialState.{DialState}
 use Rattle.mapped_chunks.specs.declared.plain.PlainDials.{PlainDials}
 use Rattle.arena_rules.specs.declared.said.Said.{Said}
 use Rattle.arena_rules.specs.declared.said.Said.TheVariants as told
-use Rattle.arena_rules.specs.Rules.{Rules, Stop, Misfit, Does, Needs, Need, Flagged, Pops, Owns, Rooms, Asks, Maps, Reads, Deed, Clears, Gathers, Pushes, Stashes, Draws, Gives, Counts, passes_window, block_of}
+use Rattle.arena_rules.specs.Rules.{Rules, Stop, Misfit, Does, Needs, Need, Flagged, Pops, Owns, Rooms, Asks, Maps, Reads, Deed, Clears, Gathers, Pushes, Stashes, Draws, Gives, Counts, passes_window, cache_after_deed}
 use Rattle.consolidate_trim.specs.Outside.{Means, Outside, means}
 use Rattle.serial_places.specs.declared.both.Both.{Both}
 use Rattle.serial_places.specs.Joined.{joined_fast, joined_dials}
@@ -70,8 +69,8 @@ abbrev pub world_done : {K : Type 0} → Port K → ℕ → Deed → HoldWorld K
 world_done port number Clears w = record w { bins = bins.after_step fasts.Clears w.bins }
 world_done port number (Gathers bin) w = record w { bins = bins.after_step (fasts.Gathers bin) w.bins }
 world_done port number (Pushes bin at) w = record w { bins = bins.after_step (fasts.Pushes bin at) w.bins }
-world_done port number (Stashes c) w = record w { cache = with_newest w.cache (block_of number c) }
-world_done port number (Draws size) w = record w { cache = without_newest w.cache (cache_index_of size) }
+world_done port number (Stashes c) w = record w { cache = cache_after_deed number (Stashes c) w.cache }
+world_done port number (Draws size) w = record w { cache = cache_after_deed number (Draws size) w.cache }
 world_done port number (Gives back) w = record w { space = record w.space { kernel = port.given w.space.kernel back } }
 world_done port number (Counts len) w = record w { dials = words.after_step (dials.Maps len) w.dials }
 

@@ -1,5 +1,5 @@
-use Rattle.std.proofs.Common.{arith}
-use Rattle.fast_bins.proofs.Reserving.{roomier_more, room_more, gains, full_at, on_err}
+use Rattle.std.proofs.Common.{length, arith}
+use Rattle.fast_bins.proofs.Reserving.{roomier_more, room_more, gains, full_at, full_now, on_err}
 use Rattle.fast_bins.proofs.plain.reserve_each.Goals as goal
 
 pub returns-in_err-make_room-clause-roomier : goal.returns-in_err-make_room-clause-roomier
@@ -19,3 +19,7 @@ loop-b-preserved c =
 pub returns-in_err-make_room-clause-full : goal.returns-in_err-make_room-clause-full
 returns-in_err-make_room-clause-full c =
     on_err _ c.from_residual.result c.from_residual.ensures.0 (full_at c.args.bins.now c.loop-b.bins c.loop-b.b-index c.b-item.result c.loop-b.invariant.0 (omega arith) (omega arith) c.in_err-make_room.ensures.full)
+
+pub returns-in_err-make_room-clause-still : goal.returns-in_err-make_room-clause-still
+returns-in_err-make_room-clause-still c =
+    on_err _ c.from_residual.result c.from_residual.ensures.0 (full_now (length c.args.bins.now) c.loop-b.bins c.loop-b.b-index c.make_room.new.self (omega arith) (omega arith) c.in_err-make_room.ensures.still)

@@ -20,7 +20,7 @@ returns-clause-room c =
     room_made c.self.inside c.args.self.now c.from.result c.args.a c.unwrap-slot.result.now c.make_room.new.self c.make_room.result c.self.view_is c.from.ensures (at_slot c) c.make_room.ensures.room
 
 pub returns-clause-full : goal.returns-clause-full
-returns-clause-full c = no_room c.self.inside c.args.self.now c.args.a c.unwrap-slot.result.now c.make_room.result c.self.view_is (at_slot c) c.make_room.ensures.full
+returns-clause-full c = no_room c.self.inside c.args.self.now c.args.a c.unwrap-slot.result.now c.make_room.new.self c.make_room.result c.self.view_is (at_slot c) c.make_room.ensures.full
 
 pub returns-clause-unseen : goal.returns-clause-unseen
 returns-clause-unseen c = unseen_slot c.self.inside c.args.self.now c.from.result c.args.a c.unwrap-slot.result.now c.make_room.new.self c.self.view_is c.from.ensures (at_slot c) c.make_room.ensures.idle
