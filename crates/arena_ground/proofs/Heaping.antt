@@ -8,6 +8,7 @@ use Rattle.bin_links.specs.Lists.{Linked, empty_lists, times_listed as times_lin
 use Rattle.part_words.specs.Extents.{Extent, AreOpen, Covers, IsWithinPart, extended}
 use Rattle.part_words.proofs.Opening.{AreOpen-range, Covers-same, IsWithinPart-part}
 use Rattle.chunk_image.specs.Rows.{TileRow, no_tiles}
+use Rattle.ordinary_bins.specs.BinLists.{lists_without}
 use Rattle.arena_rules.specs.PlainArena.{Plain, HeapWindows, IsSound, empty_bins, is_main}
 use Rattle.arena_rules.specs.Moves.{chunk_of, left_of_top, top_end, top_size, with_top_size, Gains}
 use Rattle.arena_rules.specs.Heaps.{end_before_heap, heap_added, heap_extended, heap_shortened, heap_start, last_heap, last_length, opened_arena, unopened, without_free_part, without_heap}
@@ -19,12 +20,12 @@ use Rattle.arena_rules.proofs.HeapPlaces.{heap_added_placed, heap_extended_place
 use Rattle.arena_rules.proofs.HeapRanges.{start_from}
 use Rattle.arena_rules.proofs.HeapTiles.{HasLastTop, last_top}
 use Rattle.heap_top.specs.declared.regions.Regions.{Regions}
-use Rattle.heap_top.specs.Regions.{arena_of, HasTop}
+use Rattle.heap_top.specs.Regions.{address_of, arena_of, HasTop}
 use Rattle.heap_top.specs.HeapRanges.{IsHeapGrowth, IsNewHeap}
 use Rattle.heap_top.proofs.DropLaws.{IsHeapEnd, heap_end}
 use Rattle.heap_top.proofs.MainMoves.{but_tiles, moved_same, sized_same}
 use Rattle.heap_top.proofs.TopLaws.{knows_top}
-use Rattle.arena_ground.specs.Grounds.{arena_with, bins_at, lists_without, part_bytes, words_start, IsGround, IsPlacedIn}
+use Rattle.arena_ground.specs.Grounds.{arena_with, bins_at, part_bytes, words_start, IsGround, IsPlacedIn}
 use Rattle.arena_ground.proofs.Bridges.{bins_without}
 use Rattle.arena_ground.proofs.Joining.{free_linked}
 use Rattle.arena_ground.proofs.Keeping.{windows_of, IsDone, IsSoundGround, lists_of}
@@ -122,7 +123,7 @@ added_gains r w l last len g other range =
 -- the free chunk at the end of the heap before
 pub record IsFreeEnd (r : Regions) (w : TileRow) (l : Linked) (last : Option ℕ) (u : Tile) : Type 0 where
   pub linked : 1 ≤ times_linked u.addr l.lists
-  pub bins : bins_at w.tiles (lists_without (Some u) l.lists) ≡ (without_free_part (arena_with r w l last) (Some u)).bins
+  pub bins : bins_at w.tiles (lists_without (Some u.addr) l.lists) ≡ (without_free_part (arena_with r w l last) (Some u)).bins
 
 pub free_end : (r : Regions) (w : TileRow) (l : Linked) (last : Option ℕ) (e : HeapEnd) (u : Tile) → IsSoundGround r w l last → end_before_heap (arena_with r w l last) ≡ Some e → e.before ≡ Some u → IsFreeEnd r w l last u
 free_end r w l last e u g end before =
@@ -135,10 +136,10 @@ free_end r w l last e u g end before =
       bins = bins_without a l.lists (chunk_of u) (lists_of r w l last g) (omega (arith, tile_listed a u g.sound (h.free u before) found));
     }
 
-end_bins : (r : Regions) (w : TileRow) (l : Linked) (last : Option ℕ) (e : HeapEnd) → IsSoundGround r w l last → end_before_heap (arena_with r w l last) ≡ Some e → bins_at w.tiles (lists_without e.before l.lists) ≡ (without_free_part (arena_with r w l last) e.before).bins
+end_bins : (r : Regions) (w : TileRow) (l : Linked) (last : Option ℕ) (e : HeapEnd) → IsSoundGround r w l last → end_before_heap (arena_with r w l last) ≡ Some e → bins_at w.tiles (lists_without (address_of e.before) l.lists) ≡ (without_free_part (arena_with r w l last) e.before).bins
 end_bins r w l last e g end = go e.before refl
   where
-    go : (o : Option Tile) → e.before ≡ o → bins_at w.tiles (lists_without o l.lists) ≡ (without_free_part (arena_with r w l last) o).bins
+    go : (o : Option Tile) → e.before ≡ o → bins_at w.tiles (lists_without (address_of o) l.lists) ≡ (without_free_part (arena_with r w l last) o).bins
     go None is = refl
     go (Some u) is = (free_end r w l last e u g end is).bins
 
@@ -161,7 +162,7 @@ pub record IsHeapGone (r s : Regions) (w v : TileRow) (l m : Linked) (last : Opt
   pub closed : (len : ℕ) × (r.closed.items ≡ s.closed.items ++ len ∷ [])
   pub room : vec_capacity r.closed ≤ vec_capacity s.closed
   pub extent : v.extent ≡ w.extent
-  pub lists : m.lists ≡ lists_without e.before l.lists
+  pub lists : m.lists ≡ lists_without (address_of e.before) l.lists
   pub links : m.extent ≡ l.extent
 
 pub dropped_moved : (r s : Regions) (w v : TileRow) (l m : Linked) (last : Option ℕ) (e : HeapEnd) → IsSoundGround r w l last → is_main (arena_with r w l last) ≡ false → end_before_heap (arena_with r w l last) ≡ Some e → IsHeapGone r s w v l m last e → IsHeapDropped (arena_with r w l last) s.closed.items e

@@ -1,6 +1,6 @@
 -- A plain arena as words say it: tiles by address, and bins of addresses, whose sizes are those of the tiles (this
 -- project's own).
-use Rattle.std.specs.Prelude.{◌≡◌, ℕ, ◌-◌, ◌/◌, ◌≤◌, false, List, Option, Some, None, map, if◌then◌else◌, IsTrue, vec_capacity}
+use Rattle.std.specs.Prelude.{◌≡◌, ℕ, ◌-◌, ◌/◌, ◌≤◌, false, List, Option, map, if◌then◌else◌, IsTrue, vec_capacity}
 use Rattle.chunk_tags.specs.declared.tiles.Chunk.{Chunk}
 use Rattle.chunk_tags.specs.declared.tiles.Tile.{Tile}
 use Rattle.chunk_tags.specs.Sizes.{is_small_size, small_index_of}
@@ -66,8 +66,3 @@ pub record IsGround (r : Regions) (w : TileRow) (l : Linked) (last : Option ℕ)
   pub covers : Covers w.extent l.extent
   pub base : w.extent.base ≡ words_start (arena_with r w l last)
   pub width : w.extent.width ≡ part_bytes (arena_with r w l last) / 16
-
--- the lists without the free chunk at the end of a heap
-abbrev pub lists_without : Option Tile → List (List ℕ) → List (List ℕ)
-lists_without None lists = lists
-lists_without (Some u) lists = map (without u.addr) lists

@@ -9,8 +9,10 @@ ghost use Rattle.chunk_tags.specs.Tiles.{Row, is_edge, is_free as is_free_tile, 
 ghost use Rattle.part_words.specs.Extents.{Covers};
 ghost use Rattle.bin_links.specs.Lists.{bin_count, list_at, put_front, times_listed, without};
 ghost use Rattle.large_bins.specs.SeenChunks.{large_chunks, HaveTiles};
+ghost use Rattle.ordinary_bins.specs.BinLists.{lists_without};
 ghost use Rattle.arena_rules.specs.Moves.{tile_of};
-ghost use Rattle.arena_ground.specs.Grounds.{bins_at, chunk_at, chunks_at, lists_without, sorted_lists};
+ghost use Rattle.heap_top.specs.Regions.{address_of};
+ghost use Rattle.arena_ground.specs.Grounds.{bins_at, chunk_at, chunks_at, sorted_lists};
 ghost use Rattle.arena_rules.specs.Search.{first_oldest};
 
 use arena_rules::HeapEnd;
@@ -123,7 +125,7 @@ pub(crate) fn claim(tiles: &mut TileWords, links: &mut LinkWords, c: Chunk)
 /// The free chunk at the end of a heap leaves its bin.
 pub(crate) fn unlink_end(links: &mut LinkWords, end: &HeapEnd)
     requires { (u : Square) → end.now.before ≡ Some u → 1 ≤ times_listed u.addr links.old.lists }
-    ensures lists { links.new.lists ≡ lists_without end.now.before links.old.lists }
+    ensures lists { links.new.lists ≡ lists_without (address_of end.now.before) links.old.lists }
     ensures extent { links.new.extent ≡ links.old.extent }
 {
     match end.before {

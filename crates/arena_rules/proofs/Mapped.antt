@@ -1,22 +1,21 @@
 -- A search maps once at most, and no other rules map (public for the crates above).
-use Rattle.std.proofs.Common.{◌≡◌, ℕ, ◌+◌, ◌-◌, suc, zero, Bool, true, false, List, [], ◌∷◌, length, reverse, Option, Some, None, refl, sym, ap, subst}
+use Rattle.std.proofs.Common.{ℕ, ◌+◌, suc, zero, Bool, true, false, List, [], ◌∷◌, length, reverse, Option, Some, None, refl, sym, ap, subst}
 use Rattle.std.specs.Prelude.{if◌then◌else◌, nat_lt, nat_le, nat_eq}
 use Rattle.chunk_tags.specs.Pages.{mapping_length}
 use Rattle.chunk_tags.specs.BinOrder.{oldest_of, fast_chunk}
 use Rattle.chunk_tags.specs.Sizes.{is_small_size, small_index_of, fast_index_of}
 use Rattle.chunk_tags.specs.declared.tiles.Chunk.{Chunk}
-use Rattle.chunk_tags.specs.declared.tiles.Tile.{Tile}
 use Rattle.chunk_tags.specs.declared.tunables.Tunables.{Tunables}
 use Rattle.arena_rules.specs.declared.said.Said.{Said}
 use Rattle.arena_rules.specs.PlainArena.{Plain, unsorted_of, is_main, is_own, bin_at}
 use Rattle.arena_rules.specs.Moves.{claimed, left_of_top, top_start, cut_from_top}
 use Rattle.arena_rules.specs.Rules.{Rules, Stop, Misfit, Does, Needs, Maps, Counts, behind, flag_of, place_told, chunk_told, number_told}
-use Rattle.arena_rules.specs.Trim.{trimmed, trimmed_main, trimmed_heaps, dropped_heaps, heap_cut, spare_bytes, main_spare, is_enough_end}
+use Rattle.arena_rules.specs.Trim.{trimmed, dropped_heaps, heap_cut, spare_bytes, main_spare, is_enough_end}
 use Rattle.arena_rules.specs.Heaps.{end_before_heap, heap_added, without_heap}
 use Rattle.arena_rules.specs.Release.{Merging, merged, merging_bin, merging_bins, consolidated, consolidated_if, trimmed_by_threshold, settled, given, released, settling_size}
-use Rattle.arena_rules.specs.Growth.{Found, InArena, InMapping, Nowhere, Took, closing, break_rest, break_taken, main_growth, main_grown, piece_grown, first_length, next_heap_grown, heaps_grown, opened, from_top, noted, has_top_for, cut_from_grown, grown_again, other_grown, maps_first, maps_else, grown, system_asked}
-use Rattle.arena_rules.specs.Search.{Step, Taken, Onward, next_step, most_stashed, stashing_fast, fast_taken, stashing_small, small_taken, consolidated_first, splits_remainder, most_sorted, sorted_in, scan_end, scanned, scanned_all, best_taken, larger_taken, top_taken, looked, rounds, searched}
-use Rattle.arena_rules.specs.Mapped.{NeverMaps, MapsOnce, EndsMapped}
+use Rattle.arena_rules.specs.Growth.{InArena, InMapping, Nowhere, Took, closing, break_rest, break_taken, main_growth, main_grown, piece_grown, first_length, next_heap_grown, heaps_grown, opened, from_top, noted, has_top_for, cut_from_grown, grown_again, other_grown, maps_first, maps_else, grown, system_asked}
+use Rattle.arena_rules.specs.Search.{Step, Taken, Onward, next_step, most_stashed, stashing_fast, fast_taken, stashing_small, small_taken, consolidated_first, splits_remainder, most_sorted, sorted_in, scan_end, scanned, scanned_all, best_taken, larger_taken, looked, rounds, searched}
+use Rattle.arena_rules.specs.Mapped.{NeverMaps, MapsOnce}
 
 -- ---- parts in a row, and branches
 

@@ -1,6 +1,6 @@
 -- An arena asks the system for more: glibc 2.31 malloc/malloc.c, sysmalloc, and malloc/arena.c, new_heap and grow_heap.
 -- How an old top is closed, and what is gone through once more, is this project's own.
-use Rattle.std.specs.Prelude.{ℕ, ◌+◌, ◌-◌, suc, zero, max, Bool, true, false, nat_eq, nat_lt, nat_le, List, [], ◌∷◌, Option, Some, None, if◌then◌else◌}
+use Rattle.std.specs.Prelude.{ℕ, ◌+◌, ◌-◌, suc, zero, max, Bool, true, false, nat_eq, nat_lt, nat_le, Option, Some, None, if◌then◌else◌}
 use Rattle.chunk_tags.specs.declared.tiles.Chunk.{Chunk}
 use Rattle.chunk_tags.specs.Pages.{page_up_of, mapping_length}
 use Rattle.chunk_tags.specs.Dials.{MmapThreshold, MappedCount}
@@ -30,6 +30,12 @@ closing t (Some c) a = released t a c
 -- whether top can give nb bytes and keep the smallest chunk
 abbrev pub has_top_for : Plain → ℕ → Bool
 has_top_for a nb = nat_le (nb + 32) (top_size a)
+
+-- A chunk of nb bytes is cut from top, where that suffices: what is made of it and the arena, and what of the arena where
+-- it isn't cut.
+abbrev pub cut_or : {A : Type 0} → (Chunk → Plain → A) → (Plain → A) → ℕ → Plain → A
+cut_or cut uncut nb a =
+    if has_top_for a nb then cut (record { at = top_start a; size = nb }) (cut_from_top a nb) else uncut a
 
 -- The main arena.
 
@@ -135,10 +141,7 @@ noted a = record a { most = max a.most a.system }
 
 -- a chunk of nb bytes from top, where that suffices
 abbrev pub from_top : ℕ → Plain → Took
-from_top nb a =
-    if has_top_for a nb
-    then record { found = InArena (record { at = top_start a; size = nb }); arena = cut_from_top a nb }
-    else record { found = Nowhere; arena = a }
+from_top = cut_or (λ c b. record { found = InArena c; arena = b }) (λ b. record { found = Nowhere; arena = b })
 
 -- A mapping is asked for. Where it is granted it is counted.
 abbrev pub mapping : ℕ → Plain → Rules (Option Chunk)

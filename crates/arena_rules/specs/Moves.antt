@@ -121,11 +121,11 @@ with_moved_top a at size = elim (top_of a.tiles) [
 ]
 
 -- the used chunk that a closed top leaves
+abbrev pub left_of_closed : Tile → Option Chunk
+left_of_closed t = if nat_lt t.size 64 then None else Some (record { at = t.addr; size = t.size - 32 })
+
 abbrev pub left_of_top : Plain → Option Chunk
-left_of_top a = elim (top_of a.tiles) [
-  | None ↦ None
-  | Some t ↦ if nat_lt t.size 64 then None else Some (record { at = t.addr; size = t.size - 32 })
-]
+left_of_top a = elim (top_of a.tiles) [ None ↦ None | Some t ↦ left_of_closed t ]
 
 -- A move after which the arena is sound, and its used chunks are those that there were, with one that may have come.
 pub record Gains (a : Plain) (came : Option Chunk) (b : Plain) : Type 0 where

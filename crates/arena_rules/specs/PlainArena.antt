@@ -85,7 +85,7 @@ is_chunk c t = nat_eq c.at t.addr && nat_eq c.size t.size
 abbrev pub times_tiled : (Tile → Bool) → Chunk → Plain → ℕ
 times_tiled kind c a = count_by (λ t. kind t && is_chunk c t) a.tiles
 
--- what a bin may hold: none without a bin, any in unsorted, and else those of its index
+-- what a bin may hold: any chunk in unsorted, and else those of its index
 abbrev pub BelongsIn : ℕ → Chunk → Type 0
 BelongsIn i c = (i ≡ 1 → ⊥) → bin_of c.size ≡ i
 

@@ -6,10 +6,10 @@ use Rattle.chunk_tags.specs.declared.tiles.Chunk.{Chunk}
 use Rattle.chunk_tags.specs.Sizes.{is_small_size, small_index_of, large_index_of, bin_of, fast_index_of}
 use Rattle.chunk_tags.specs.declared.tunables.Tunables.{Tunables}
 use Rattle.arena_rules.specs.PlainArena.{Plain, bin_at, with_bin, with_front, unsorted_of, unlinked, is_own}
-use Rattle.arena_rules.specs.Moves.{claimed, parted, shelved, cut_from_top, top_start}
+use Rattle.arena_rules.specs.Moves.{claimed, parted, shelved}
 use Rattle.arena_rules.specs.Rules.{Rules, Stop, Misfit, Does, Stashes, Draws, behind, asks_flag, asks_room, pops}
 use Rattle.arena_rules.specs.Release.{consolidated, consolidated_if}
-use Rattle.arena_rules.specs.Growth.{Took, InArena, has_top_for, system_asked}
+use Rattle.arena_rules.specs.Growth.{Took, InArena, cut_or, system_asked}
 
 -- A step of the search: a chunk was taken, and it ends; or it goes on.
 pub data Step : Type 0 where
@@ -149,8 +149,7 @@ larger_taken nb a = Stop (taken_from nb a (first_oldest (drop (bin_of nb + 1) a.
 
 -- Top, where it suffices.
 abbrev pub top_taken : ℕ → Plain → Rules Step
-top_taken nb a =
-    Stop (if has_top_for a nb then Taken (record { at = top_start a; size = nb }) (cut_from_top a nb) else Onward a)
+top_taken nb a = Stop (cut_or Taken Onward nb a)
 
 -- the scan and what follows it, as far as top
 abbrev pub looked : ℕ → Plain → Rules Step

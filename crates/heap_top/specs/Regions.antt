@@ -1,6 +1,6 @@
 -- An arena as its regions, its tiles and its bins together make it (this project's own; glibc 2.31 malloc/malloc.c
 -- keeps the numbers of regions in malloc_state, mp_ and heap_info).
-use Rattle.std.specs.Prelude.{◌≡◌, ℕ, ◌+◌, ◌-◌, ◌^◌, ◌<◌, ◌≤◌, Bool, false, nat_lt, List, [], ◌∷◌, Option, Some, None, if◌then◌else◌, vec_capacity}
+use Rattle.std.specs.Prelude.{◌≡◌, ℕ, ◌+◌, ◌^◌, ◌<◌, ◌≤◌, Bool, false, List, [], ◌∷◌, Option, Some, None, vec_capacity}
 use Rattle.chunk_tags.specs.declared.tiles.Chunk.{Chunk}
 use Rattle.chunk_tags.specs.Tiles.{is_edge, Row, swapped, fused, tile_at, tile_behind, top_of}
 use Rattle.chunk_tags.specs.declared.tiles.Tile.{Tile}
@@ -38,10 +38,6 @@ address_of (Some t) = Some t.addr
 -- the tiles with top closed, where there is one
 abbrev pub closed_tiles : List Tile → List Tile
 closed_tiles ts = elim (top_of ts) [ None ↦ ts | Some t ↦ swapped t.addr (closed_top t) ts ]
-
--- the used chunk that a tile leaves where it is closed
-abbrev pub left_of_closed : Tile → Option Chunk
-left_of_closed t = if nat_lt t.size 64 then None else Some (record { at = t.addr; size = t.size - 32 })
 
 -- tiles in a row, of which the one at this address is top
 pub record KnowsTop (top : Option ℕ) (ts : List Tile) : Type 0 where

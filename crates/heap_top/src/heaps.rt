@@ -31,6 +31,7 @@ impl Regions {
             ≡ unopened number (record { heap_max = heap_max; heaps = heaps })) }
         ensures closed { IfOk result (λ r. r.closed.items ≡ []) }
         ensures room { IfOk result (λ r. r.heaps ≤ vec_capacity r.closed) }
+        ensures top { IfOk result (λ r. r.top ≡ None) }
     {
         Ok(Regions {
             number,

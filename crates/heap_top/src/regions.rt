@@ -10,11 +10,11 @@ ghost use Rattle.address_space.specs.Spaces.{main_start, piece_start};
 ghost use Rattle.chunk_image.specs.Rows.{IsRoom, IsWordSize};
 ghost use Rattle.arena_rules.specs.PlainArena.{Plain, empty_bins, empty_main, tiled_bytes};
 ghost use Rattle.arena_rules.specs.MainPlaces.{times_covered, IsMainPlaced};
-ghost use Rattle.arena_rules.specs.Moves.{tile_of, absorbed, closed_top, cut_from_top, left_of_top, top_end, top_size, top_start, with_moved_top, with_top_size};
+ghost use Rattle.arena_rules.specs.Moves.{tile_of, absorbed, closed_top, cut_from_top, left_of_closed, left_of_top, top_end, top_size, top_start, with_moved_top, with_top_size};
 ghost use Rattle.arena_rules.specs.Growth.{is_top_at_break, break_taken, break_rest, has_top_for, noted, piece_taken};
 ghost use Rattle.arena_rules.specs.Trim.{main_cut, CanCutMain};
 ghost use Rattle.arena_rules.specs.Resize.{grown_into_top};
-ghost use Rattle.heap_top.specs.Regions.{arena_of, bare_arena, closed_tiles, left_of_closed, KnowsTop, HasTop};
+ghost use Rattle.heap_top.specs.Regions.{arena_of, bare_arena, closed_tiles, KnowsTop, HasTop};
 ghost use Rattle.heap_top.specs.MainRanges.{IsNewRange};
 
 use address_space::{MAIN_START, PIECE_START};

@@ -113,8 +113,8 @@ pub fn unmap<K: Kernel, D: Dials>(b: Block, space: &mut Space<K>, dials: &mut D)
     dials.note_unmap(len);
 }
 
-/// Frees a mapped chunk. Where the thresholds are dynamic and the chunk is above the mmap threshold, but not above the
-/// largest, they are raised to its size and to twice that first (in glibc's `__libc_free`).
+/// Frees a mapped chunk. Where the thresholds are dynamic and its size word, which is the size and 2, is above the mmap
+/// threshold and at most the largest, they are set to its size and to twice that first (in glibc's `__libc_free`).
 pub fn unmap_freed<K: Kernel, D: Dials>(
     b: Block,
     dynamic: bool,

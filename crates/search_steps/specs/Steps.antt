@@ -6,9 +6,8 @@ use Rattle.chunk_tags.specs.declared.refusals.NoMemory.{NoMemory}
 use Rattle.chunk_tags.specs.declared.tiles.Chunk.{Chunk}
 use Rattle.chunk_tags.specs.declared.tunables.Tunables.{Tunables}
 use Rattle.arena_rules.specs.PlainArena.{Plain, bin_at, unsorted_of}
-use Rattle.arena_rules.specs.Moves.{top_start, cut_from_top}
 use Rattle.arena_rules.specs.Rules.{Rules}
-use Rattle.arena_rules.specs.Growth.{has_top_for}
+use Rattle.arena_rules.specs.Growth.{cut_or}
 use Rattle.arena_rules.specs.Search as search
 use Rattle.arena_rules.specs.Search.{taken_from, first_oldest, next_step, fast_taken, small_taken, consolidated_first, stashing_fast, stashing_small, most_stashed}
 use Rattle.fast_bins.specs.FastPorts.{Fast}
@@ -51,8 +50,7 @@ chosen nb a =
 
 -- what is taken from top
 abbrev pub topped : ℕ → Plain → search.Step
-topped nb a =
-    if has_top_for a nb then search.Taken (record { at = top_start a; size = nb }) (cut_from_top a nb) else search.Onward a
+topped = cut_or search.Taken search.Onward
 
 -- what is taken from the bins, else from top
 abbrev pub binned : ℕ → Plain → search.Step

@@ -1,5 +1,5 @@
 use Rattle.std.proofs.Common.{None, Some, ap, ◌∙◌}
-use Rattle.heap_top.specs.Regions.{left_of_closed}
+use Rattle.arena_rules.specs.Moves.{left_of_closed}
 use Rattle.heap_top.proofs.regions.Regions.close_top.Goals as goal
 
 pub returns-in-Some-clause-rest : goal.returns-in-Some-clause-rest
