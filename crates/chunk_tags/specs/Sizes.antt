@@ -31,9 +31,13 @@ cache_index_of s = (s - 32 + 15) / 16
 abbrev pub cached_size_at : ℕ → ℕ
 cached_size_at index = 32 + 16 * index
 
--- the size of the chunk for a cache's structure: 64 counts of 2 bytes and 64 heads of 8 (tcache_perthread_struct)
+-- the bytes of a cache's structure: 64 counts of 2 bytes and 64 heads of 8 (tcache_perthread_struct)
+abbrev pub structure_bytes : ℕ
+structure_bytes = 640
+
+-- the size of the chunk for it
 abbrev pub structure_size : ℕ
-structure_size = chunk_size_of 640
+structure_size = chunk_size_of structure_bytes
 
 -- small bins are for sizes below 1,024, one bin a size
 abbrev pub is_small_size : ℕ → Bool

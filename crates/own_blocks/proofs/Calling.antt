@@ -1,7 +1,7 @@
 -- Laws of the parts of a call: opening the cache, and a block beside the others of a thread.
 use Rattle.std.proofs.Common.{◌≡◌, ℕ, Bool, true, false, Option, Some, None, refl, arith}
 use Rattle.std.specs.Prelude.{Result, Ok, Err, OnOk, OnErr, is_ok}
-use Rattle.chunk_tags.specs.Sizes.{structure_size}
+use Rattle.chunk_tags.specs.Sizes.{structure_bytes, structure_size}
 use Rattle.chunk_tags.specs.declared.block.Block.{Block}
 use Rattle.chunk_tags.specs.declared.tunables.Tunables.{Tunables}
 use Rattle.thread_cache.specs.Caches.{CacheValue, is_open, opened}
@@ -12,7 +12,7 @@ use Rattle.arena_holds.specs.Going.{Does}
 use Rattle.arena_holds.specs.Holding.{Finds}
 use Rattle.arena_holds.specs.Places.{PlaceWays, Setting, Standing, Carries, Hands, both_of, weight_of, in_cache}
 use Rattle.arena_holds.specs.Searching.{search}
-use Rattle.own_blocks.specs.Calls.{opening, cache_with_structure, structure_bytes}
+use Rattle.own_blocks.specs.Calls.{opening, cache_with_structure}
 use Rattle.block_names.specs.Names.{NameTable, has_place, block_at, with_block, without_block}
 use Rattle.own_blocks.specs.Own.{in_names, in_own}
 use Rattle.own_blocks.specs.declared.own.Own.{Own}

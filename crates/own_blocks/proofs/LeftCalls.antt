@@ -4,7 +4,7 @@ use Rattle.std.proofs.Math.Path.{fun_ext}
 use Rattle.std.specs.Prelude.{Result, OnErr}
 use Rattle.chunk_tags.specs.declared.block.Block.{Block}
 use Rattle.chunk_tags.specs.declared.tunables.Tunables.{Tunables}
-use Rattle.chunk_tags.specs.Sizes.{structure_size}
+use Rattle.chunk_tags.specs.Sizes.{structure_bytes, structure_size}
 use Rattle.thread_cache.specs.Caches.{CacheValue, is_open}
 use Rattle.arena_core.specs.declared.journal.Act.TheVariants as acts
 use Rattle.arena_core.specs.declared.journal.Who.{Who}
@@ -14,7 +14,7 @@ use Rattle.arena_holds.specs.Holding.{Finds}
 use Rattle.arena_holds.specs.Places.{Setting, Standing}
 use Rattle.arena_holds.specs.RunningShort.{RunsShort}
 use Rattle.arena_holds.specs.Searching.{search}
-use Rattle.own_blocks.specs.Calls.{opening, cache_with_structure, structure_bytes, from_arena, from_cache}
+use Rattle.own_blocks.specs.Calls.{opening, cache_with_structure, from_arena, from_cache}
 use Rattle.own_blocks.specs.LeftCalls.{IsLeft}
 use Rattle.arena_holds.proofs.Going.{goes_then, goes_behind}
 use Rattle.arena_holds.proofs.RunningShort.{short_behind, short_after}

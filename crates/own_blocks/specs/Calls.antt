@@ -1,7 +1,7 @@
 -- The parts that calls of a thread share: glibc 2.31 malloc/malloc.c, tcache_init, _int_malloc and _int_memalign as their
 -- callers see them, and _int_free outside the arena's lock.
 use Rattle.std.specs.Prelude.{ℕ, ◌≤◌, ◌≡◌, ◌⊎◌, nat_le, Option, Some, None, option_map, if◌then◌else◌}
-use Rattle.chunk_tags.specs.Sizes.{structure_size, fast_index_of}
+use Rattle.chunk_tags.specs.Sizes.{structure_bytes, structure_size, fast_index_of}
 use Rattle.chunk_tags.specs.declared.block.Block.{Block}
 use Rattle.chunk_tags.specs.declared.tunables.Tunables.{Tunables}
 use Rattle.thread_cache.specs.Caches.{CacheValue, opened, is_open, with_newest, takes}
@@ -35,10 +35,6 @@ with_cache cache own = record own { cache = cache }
 abbrev pub cache_with_structure : Tunables → Option Block → CacheValue → CacheValue
 cache_with_structure t None cache = cache
 cache_with_structure t (Some b) cache = opened b t.tcache_count t.tcache_bins
-
--- the bytes for which an arena is chosen there
-abbrev pub structure_bytes : ℕ
-structure_bytes = 640
 
 abbrev pub opening : Tunables → ℕ → CacheValue → Call CacheValue
 opening t thread cache =

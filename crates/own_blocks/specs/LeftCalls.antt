@@ -1,6 +1,6 @@
 -- Where a call of a thread is left for want of memory (this project's own).
 use Rattle.std.specs.Prelude.{◌≡◌, ℕ, false, List, Some, ◌⊎◌}
-use Rattle.chunk_tags.specs.Sizes.{structure_size}
+use Rattle.chunk_tags.specs.Sizes.{structure_bytes, structure_size}
 use Rattle.chunk_tags.specs.declared.block.Block.{Block}
 use Rattle.chunk_tags.specs.declared.tunables.Tunables.{Tunables}
 use Rattle.thread_cache.specs.Caches.{CacheValue, is_open}
@@ -11,7 +11,7 @@ use Rattle.arena_holds.specs.Going.{Told, Goes, Does}
 use Rattle.arena_holds.specs.Places.{Setting, Standing}
 use Rattle.arena_holds.specs.RunningShort.{RunsShort}
 use Rattle.arena_holds.specs.Searching.{search, searched}
-use Rattle.own_blocks.specs.Calls.{opening, structure_bytes}
+use Rattle.own_blocks.specs.Calls.{opening}
 
 -- A closed cache was to be opened, and a chunk for its structure was found, but memory was short for its lists.
 pub record OpensShort {P H D K : Type 0} (s : Setting P H D K) (t : Tunables) (who : Who) (cache : CacheValue)

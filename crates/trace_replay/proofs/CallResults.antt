@@ -3,7 +3,7 @@ use Rattle.std.proofs.Common.{◌≡◌, ℕ, zero, suc, ◌-◌, ◌*◌, Bool,
 use Rattle.std.specs.Prelude.{nat_le, nat_eq, is_some}
 use Rattle.std.proofs.lemmas.Bool.{eq-eqb}
 use Rattle.block_names.proofs.Tables.{at_same, at_other, place_of, without_none}
-use Rattle.chunk_tags.specs.Sizes.{padded_request}
+use Rattle.chunk_tags.specs.Sizes.{structure_bytes, padded_request}
 use Rattle.chunk_tags.specs.declared.block.Block.{Block}
 use Rattle.chunk_tags.specs.declared.tunables.Tunables.{Tunables}
 use Rattle.mapped_chunks.specs.Mappings.{remap_length, mapping_bytes, chunk_with_lead}
@@ -33,7 +33,7 @@ use Rattle.arena_holds.specs.Calls.{Call, Done, Holds, HoldsFree, Opens, Books, 
 use Rattle.arena_holds.specs.Holding.{resized_to}
 use Rattle.arena_holds.specs.Searching.{Chosen, search, search_by_choice, choose_and_search, or_in_mapping, search_again, tried_again}
 use Rattle.arena_choice.specs.Choices.{choice_of}
-use Rattle.own_blocks.specs.Calls.{structure_bytes, opening, Supplied, plain_supply, fresh_supply, from_arena, from_cache, names_with, answer_with, named, past_cache, releasing, with_cache, cache_with_structure, supplied_by}
+use Rattle.own_blocks.specs.Calls.{opening, Supplied, plain_supply, fresh_supply, from_arena, from_cache, names_with, answer_with, named, past_cache, releasing, with_cache, cache_with_structure, supplied_by}
 use Rattle.own_blocks.specs.Own.{newest_of_size}
 use Rattle.malloc_calls.specs.Mallocs.{padded_malloc, malloc_call, padded_calloc, calloc_call, is_memalign, aligned_malloc, padded_memalign, posix_memalign_call}
 use Rattle.own_blocks.specs.Frees.{without_name, free_to, free_of_block, free_of_name, free_call}
