@@ -69,7 +69,8 @@ pub fn ask_system<M: Moves, K: Kernel, P: FastPort + Dials>(
     requires tuned { IsSearchable t.now }
     requires size { IsRequestSize nb }
     requires short { has_top_for (M.plain g.old) nb ≡ false }
-    ensures finds { Finds (means P.fast P.dials K.port) t.now (system_asked t.now nb (M.plain g.old))
+    ensures finds { Finds (means P.fast P.dials K.port) t.now
+        (system_asked t.now nb (M.plain g.old))
         (stage (M.plain g.old) (beside_arena port.old cache.old space.old) said.old.items)
         result (stage (M.plain g.new) (beside_arena port.new cache.new space.new) said.new.items) }
     ensures fits { IfOk result (FitsFound nb) }

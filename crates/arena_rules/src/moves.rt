@@ -302,7 +302,8 @@ pub trait Moves {
         requires other { is_main (plain self.old) ≡ false }
         requires some { 0 < growth }
         requires pages { growth % 4096 ≡ 0 }
-        requires window { last_length (plain self.old) + growth ≤ (plain self.old).windows.heap_max }
+        requires window { last_length (plain self.old) + growth
+            ≤ (plain self.old).windows.heap_max }
         ensures room { OnOk result (extension_room self.new growth) }
         ensures full { OnErr result
             ((extension_room self.old growth → ⊥) × (extension_room self.new growth → ⊥)) }
