@@ -1,5 +1,5 @@
 -- Laws of recorded holds, for this crate and those above it: the arena is still what its journal gives.
-use Rattle.std.proofs.Common.{◌≡◌, ℕ, ◌-◌, ◌≤◌, ◌^◌, Bool, true, false, ◌&&◌, nat_le, List, [], ◌∷◌, ◌++◌, Result, Ok, Err, refl, sym, subst, inl, inr, arith}
+use Rattle.std.proofs.Common.{◌≡◌, ℕ, ◌-◌, ◌≤◌, ◌^◌, Bool, true, false, nat_le, List, [], ◌∷◌, ◌++◌, Result, Ok, Err, refl, sym, subst, inl, inr, arith}
 use Rattle.std.specs.Prelude.{IsSome, length, nat_lt}
 use Rattle.std.proofs.lemmas.Bool.{and_from, lt-ltb, or_left, or_right}
 use Rattle.std.proofs.lemmas.Bool.Decides.{nat_tests}
@@ -33,12 +33,13 @@ use Rattle.arena_growth.specs.declared.found.Found.TheVariants as finds
 use Rattle.arena_growth.specs.Asking.{Finds, FitsFound, found_of, beside_arena}
 use Rattle.arena_core.specs.declared.journal.Act.{Act}
 use Rattle.arena_core.specs.declared.journal.Act.TheVariants as acts
+use Rattle.arena_core.specs.declared.journal.Ended.{Ended}
 use Rattle.arena_core.specs.declared.journal.Ended.TheVariants.{Done, Short}
 use Rattle.arena_core.specs.declared.journal.Who.{Who}
 use Rattle.arena_core.specs.declared.take.Take.{Take}
 use Rattle.arena_core.specs.Arenas.{Held, Records, RecordsShort, Takes, FailsShort, FitsRequest, recorded, take_of}
 use Rattle.arena_core.specs.Journal.{Recorded}
-use Rattle.arena_core.specs.Replay.{IsReplay, rules_of, may_act, hand_of, ended_of, is_opened, is_request_size, is_alignment, chunk_at, found_nothing}
+use Rattle.arena_core.specs.Replay.{IsReplay, rules_of, may_act, may_end, is_possible, hand_of, ended_of, is_opened, is_request_size, is_alignment, chunk_at, found_nothing}
 use Rattle.arena_core.specs.Tellings.{dealings_with, tells_others}
 use Rattle.arena_core.proofs.Tellings.{IsApart, tells_walked, apart_backed}
 use Rattle.arena_core.proofs.Replays.{replay_more, next_done, next_short}
@@ -53,29 +54,37 @@ enough_taken nb number finds.Nowhere fits = tt
 only_said : {O A : Type 0} {t : Tunables} {w : Ways O} {r q : Rules A} {o z : O} {said : List Said} → Reaches t w r o [] q said z → Walks t w r o said q z
 only_said {t = t} {w = w} {r = r} {q = q} {o = o} {z = z} a = subst (λ ss. Walks t w r o ss q z) (sym a.added) a.walks
 
--- what an act of a hold meets
+-- what an act of a hold meets, other than an opening
 pub record CanAct {P K : Type 0} (m : Means P K) (act : Act) (x : Held P K) : Type 0 where
   pub may : may_act act x.arena ≡ true
+  pub short : may_end act Short ≡ true
   pub words : Apart m.fast m.dials
   pub apart : IsApart x.arena (m.fast.stock x.outside.port) (dealings_with (hand_of act))
 
+-- what is found ends an act as it may end
+may_end_found : (act : Act) (found : Found) → may_end act (ended_of act (found_of found)) ≡ true
+may_end_found (acts.Open bytes) found = refl
+may_end_found act found = refl
+
 -- and then its entry is a possible one
-possible : {P K : Type 0} {m : Means P K} {number : ℕ} {q : Rules Took} {z : Outside P K} {said : List Said} (t : Tunables) (act : Act) (x : Held P K) → CanAct m act x →
-    Walks t (ways m number) (rules_of t act x.arena) x.outside said q z → may_act act x.arena && tells_others x.arena (dealings_with (hand_of act)) (rules_of t act x.arena) said ≡ true
-possible t act x can walks = and_from (may_act act x.arena) _ can.may (tells_walked x.arena (dealings_with (hand_of act)) can.words can.apart walks)
+possible : {P K : Type 0} {m : Means P K} {number : ℕ} {q : Rules Took} {z : Outside P K} {said : List Said} (t : Tunables) (who : Who) (act : Act) (ended : Ended) (x : Held P K) → CanAct m act x → may_end act ended ≡ true →
+    Walks t (ways m number) (rules_of t act x.arena) x.outside said q z → is_possible t (recorded who act said ended) x.arena ≡ true
+possible {said = said} t who act ended x can ends walks =
+    let tells : tells_others x.arena (dealings_with (hand_of act)) (rules_of t act x.arena) said ≡ true = tells_walked x.arena (dealings_with (hand_of act)) can.words can.apart walks in
+    and_from (may_end act ended) _ ends (and_from (may_act act x.arena) _ can.may tells)
 
 pub records_replay : {P K : Type 0} {m : Means P K} {t : Tunables} {who : Who} {act : Act} {x y : Held P K} {given : Chunks} {found : Found} (start : Plain) → CanAct m act x → Records m t who act x given found y → IsReplay t start x.journal x.arena → IsReplay t start y.journal y.arena
 records_replay {t = t} {who = who} {act = act} {x = x} {y = y} {found = found} start can r old =
     let walks = only_said r.walks in
     subst (λ es. IsReplay t start es y.arena) (sym r.added)
-    (replay_more t start x.journal x.arena y.arena (recorded who act r.said (ended_of act (found_of found))) old (next_done t who act r.said (found_of found) x.arena y.arena (possible t act x can walks) (ends_as_walked walks)))
+    (replay_more t start x.journal x.arena y.arena (recorded who act r.said (ended_of act (found_of found))) old (next_done t who act r.said (found_of found) x.arena y.arena (possible t who act (ended_of act (found_of found)) x can (may_end_found act found) walks) (ends_as_walked walks)))
 
 pub short_replay : {P K : Type 0} {m : Means P K} {t : Tunables} {who : Who} {act : Act} {x y : Held P K} {given : Chunks} (start : Plain) → CanAct m act x → FailsShort m t who act x given y → IsReplay t start x.journal x.arena → IsReplay t start y.journal y.arena
 short_replay {t = t} {x = x} {y = y} start can (inl same) old = subst (λ (h : Held _ _). IsReplay t start h.journal h.arena) (sym same) old
 short_replay {t = t} {who = who} {act = act} {x = x} {y = y} start can (inr r) old =
     let walks = only_said r.stops.reaches in
     subst (λ es. IsReplay t start es y.arena) (sym r.added)
-    (replay_more t start x.journal x.arena y.arena (recorded who act r.said Short) old (next_short t who act r.said x.arena y.arena (possible t act x can walks) (left_as_walked walks)))
+    (replay_more t start x.journal x.arena y.arena (recorded who act r.said Short) old (next_short t who act r.said x.arena y.arena (possible t who act Short x can can.short walks) (left_as_walked walks)))
 
 request_size : (nb : ℕ) → IsRequestSize nb → is_request_size nb ≡ true
 request_size nb size = grind (arith, nat_tests, size.chunk.0, size.chunk.1, size.largest)
@@ -99,17 +108,18 @@ apart_hand : {P : Type 0} {fast : Fast P} {a : Plain} {port : P} (c : Chunk) →
 apart_hand c backed = apart_backed (c ∷ []) backed (λ e. omega (arith, sum_by-cons (once e) c []))
 
 pub can_take : {P K : Type 0} (m : Means P K) (nb : ℕ) (x : Held P K) → (is_main x.arena ≡ false → IsSome (top_of x.arena.tiles)) → IsRequestSize nb → Apart m.fast m.dials → IsBacked m.fast x.arena x.outside.port no_chunk → CanAct m (acts.Take nb) x
-can_take m nb x top size words backed = record { may = and_from (is_opened x.arena) _ (opened_with_top x.arena top) (request_size nb size); words = words; apart = apart_backed [] backed (λ e. omega arith) }
+can_take m nb x top size words backed = record { may = and_from (is_opened x.arena) _ (opened_with_top x.arena top) (request_size nb size); short = refl; words = words; apart = apart_backed [] backed (λ e. omega arith) }
 
 pub can_resize : {P K : Type 0} (m : Means P K) (at size nb : ℕ) (x : Held P K) → IsRequestSize nb → Apart m.fast m.dials → IsBacked m.fast x.arena x.outside.port (one_chunk (chunk_at at size)) → CanAct m (acts.Resize at size nb) x
 can_resize m at size nb x request words backed =
     let c : Chunk = chunk_at at size in
-    record { may = and_from (is_request_size nb) _ (request_size nb request) (hand_own c backed); words = words; apart = apart_hand c backed }
+    record { may = and_from (is_request_size nb) _ (request_size nb request) (hand_own c backed); short = refl; words = words; apart = apart_hand c backed }
 
 pub can_align : {P K : Type 0} (m : Means P K) (align nb : ℕ) (x : Held P K) → (is_main x.arena ≡ false → IsSome (top_of x.arena.tiles)) → IsRequestSize nb → IsAlignment align → request_with_lead align nb ≤ 2 ^ 63 - 1 → Apart m.fast m.dials → IsBacked m.fast x.arena x.outside.port no_chunk → CanAct m (acts.Align align nb) x
 can_align m align nb x top request alignment range words backed = record {
   may = and_from (is_opened x.arena) _ (opened_with_top x.arena top)
       (and_from (is_request_size nb) _ (request_size nb request) (and_from (is_alignment align) _ (and_from (nat_le 32 align) _ (grind (arith, nat_tests, alignment.least)) alignment.power) (grind (arith, nat_tests, range))));
+  short = refl;
   words = words;
   apart = apart_backed [] backed (λ e. omega arith);
 }
@@ -117,7 +127,7 @@ can_align m align nb x top request alignment range words backed = record {
 pub can_give : {P K : Type 0} (m : Means P K) (at size : ℕ) (x : Held P K) → Apart m.fast m.dials → IsBacked m.fast x.arena x.outside.port (one_chunk (chunk_at at size)) → CanAct m (acts.Give at size) x
 can_give m at size x words backed =
     let c : Chunk = chunk_at at size in
-    record { may = hand_own c backed; words = words; apart = apart_hand c backed }
+    record { may = hand_own c backed; short = refl; words = words; apart = apart_hand c backed }
 
 -- ---- what a search gives, recorded
 

@@ -9,7 +9,7 @@ use Rattle.arena_growth.specs.FirstHeap.{closed_arena}
 use Rattle.arena_core.specs.declared.journal.Act.{Act}
 use Rattle.arena_core.specs.declared.journal.Act.TheVariants.{Open, Take, Give, Resize, Align}
 use Rattle.arena_core.specs.declared.journal.Ended.{Ended}
-use Rattle.arena_core.specs.declared.journal.Ended.TheVariants.{Got, Done, Refused}
+use Rattle.arena_core.specs.declared.journal.Ended.TheVariants.{Got, Done, Refused, Short}
 use Rattle.arena_core.specs.Journal.{Recorded}
 use Rattle.arena_core.specs.Replay.{replayed}
 
@@ -32,6 +32,10 @@ finds_none nb said = holds (Take nb) said Refused
 -- one that opened another arena, for so many bytes
 abbrev pub opens_for : ℕ → List Said → Recorded
 opens_for bytes said = holds (Open bytes) said Done
+
+-- one that was short of memory as it opened another arena
+abbrev pub opens_short : ℕ → List Said → Recorded
+opens_short bytes said = holds (Open bytes) said Short
 
 -- one that gave a chunk back
 abbrev pub gives_at : ℕ → ℕ → List Said → Recorded

@@ -111,9 +111,15 @@ arena_after t act Done r said = arena_ended act Done (end_of_rules t r said)
 arena_after t act Refused r said = arena_ended act Refused (end_of_rules t r said)
 arena_after t act Short r said = left_by_rules t r said
 
+-- whether a hold for this leaves an entry that ended so: an opening that was short of memory leaves none
+abbrev pub may_end : Act → Ended → Bool
+may_end (Open bytes) Short = false
+may_end act ended = true
+
 -- whether an entry can be one of a hold of this arena, as far as its act and the chunks that it was told of go
 abbrev pub is_possible : Tunables → Recorded → Plain → Bool
-is_possible t e a = may_act e.act a && tells_others a (dealings_with (hand_of e.act)) (rules_of t e.act a) e.said
+is_possible t e a =
+    may_end e.act e.ended && (may_act e.act a && tells_others a (dealings_with (hand_of e.act)) (rules_of t e.act a) e.said)
 
 -- one entry
 abbrev pub next_arena : Tunables → Recorded → Plain → Option Plain

@@ -100,14 +100,18 @@ impl<M: Moves> Arena<M> {
         requires apart { Apart P.fast P.dials }
         requires tuned { IsSearchable t.now }
         requires size { IsRequestSize nb }
-        ensures taken { IfOk result (λ take.
-            Takes (means P.fast P.dials K.port) t.now who (acts.Take nb)
-            (held (M.plain self.old.ground) port.old cache.old space.old self.old.journal.items)
-            take (held (M.plain self.new.ground) port.new cache.new space.new self.new.journal.items)) }
-        ensures short { OnErr result
-            (FailsShort (means P.fast P.dials K.port) t.now who (acts.Take nb)
-            (held (M.plain self.old.ground) port.old cache.old space.old self.old.journal.items)
-            no_chunk (held (M.plain self.new.ground) port.new cache.new space.new self.new.journal.items)) }
+        ensures taken { let before = held (M.plain self.old.ground) port.old cache.old space.old
+            self.old.journal.items in
+            let after = held (M.plain self.new.ground) port.new cache.new space.new
+            self.new.journal.items in
+            IfOk result (λ take.
+            Takes (means P.fast P.dials K.port) t.now who (acts.Take nb) before take after) }
+        ensures short { let before = held (M.plain self.old.ground) port.old cache.old space.old
+            self.old.journal.items in
+            let after = held (M.plain self.new.ground) port.new cache.new space.new
+            self.new.journal.items in
+            OnErr result
+            (FailsShort (means P.fast P.dials K.port) t.now who (acts.Take nb) before no_chunk after) }
         ensures fits { IfOk result (FitsRequest nb) }
 
         // The journal stays as it was only where it had no room for the entry.
@@ -166,10 +170,13 @@ impl<M: Moves> Arena<M> {
             (held (M.plain self.old.ground) port.old cache space.old self.old.journal.items)
             (one_chunk (chunk_at b.addr b.size)) finds.Nowhere
             (held (M.plain self.new.ground) port.new cache space.new self.new.journal.items)) }
-        ensures short { (cache : CacheValue) → IfErr result (λ e.
-            GivesShort (means P.fast P.dials K.port) t.now who b
-            (held (M.plain self.old.ground) port.old cache space.old self.old.journal.items)
-            e.back (held (M.plain self.new.ground) port.new cache space.new self.new.journal.items)) }
+        ensures short { (cache : CacheValue) →
+            let before = held (M.plain self.old.ground) port.old cache space.old
+            self.old.journal.items in
+            let after = held (M.plain self.new.ground) port.new cache space.new
+            self.new.journal.items in
+            IfErr result (λ e.
+            GivesShort (means P.fast P.dials K.port) t.now who b before e.back after) }
 
         // The block comes back only where the journal had no room for the entry.
         ensures full { IfErr result (λ e. IsSome e.back
@@ -228,7 +235,8 @@ impl<M: Moves + Drop> Arena<M> {
         requires bytes { bytes ≤ 2 ^ 63 }
         requires windows { space.old.windows ≡ windows_of t.now }
         ensures opened { IfOk result (λ o. IfSome o (λ a.
-            OpensAs M.plain K.port t.now who number bytes space.old a.ground a.journal.items space.new)) }
+            OpensAs M.plain K.port t.now who number bytes space.old
+            a.ground a.journal.items space.new)) }
         ensures refused { IfOk result (λ o. IsNone o
             → RefusesOpening K.port t.now number bytes space.old space.new) }
         ensures short { OnErr result (OpensShort K.port t.now number bytes space.old space.new) }

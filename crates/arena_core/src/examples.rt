@@ -5,7 +5,7 @@ ghost use Rattle.chunk_tags.specs.Tunables.{serial_values};
 ghost use Rattle.address_space.specs.declared.asks.Ask.TheVariants.{Break, NewHeap, GrowHeap, Map};
 ghost use Rattle.address_space.specs.declared.asks.Answer.TheVariants.{Granted, Refused};
 ghost use Rattle.arena_rules.specs.declared.said.Said.TheVariants.{Flag, Popped, Own, Room, Asked, Dial};
-ghost use Rattle.arena_core.specs.Examples.{takes_at, maps_at, finds_none, opens_for, gives_at, resizes_at, aligns_at, aligns_mapped, main_after, last_after, bytes_after, bytes_of_other, with_windows};
+ghost use Rattle.arena_core.specs.Examples.{takes_at, maps_at, finds_none, opens_for, opens_short, gives_at, resizes_at, aligns_at, aligns_mapped, main_after, last_after, bytes_after, bytes_of_other, with_windows};
 
 /// A small request is cut from a larger free chunk, and the next one from what is left of it, the last remainder.
 #[tactic(auto, unfolding(arena_rules::specs::PlainArena::empty_bins, arena_rules::specs::Search::most_stashed))]
@@ -173,7 +173,7 @@ fn another_arena_is_opened_for_a_request()
 {}
 
 /// Another arena's journal begins with its opening: before that nothing is searched there, and not even a mapping is found.
-/// Nor is it opened twice.
+/// Nor is it opened twice, and an opening that was short of memory leaves no entry.
 #[tactic(auto, unfolding(arena_rules::specs::PlainArena::empty_bins, arena_rules::specs::Search::most_stashed))]
 fn another_arena_is_opened_first()
     ensures unopened { bytes_of_other serial_values (maps_at 200016 (Flag false ∷ Flag false ∷ Dial 131072 ∷ Dial 0
@@ -184,6 +184,9 @@ fn another_arena_is_opened_first()
         ∷ Asked (Map 0x601000000000 200704) Granted ∷ []) 0x601000000000 200704
         ∷ []) ≡ Some (135168, 135168, 132928) }
     ensures twice { bytes_of_other serial_values (opens_for 640 (Asked (NewHeap 1 0 135168) Granted ∷ [])
+        ∷ opens_for 640 (Asked (NewHeap 1 0 135168) Granted ∷ [])
+        ∷ []) ≡ None }
+    ensures short { bytes_of_other serial_values (opens_short 640 []
         ∷ opens_for 640 (Asked (NewHeap 1 0 135168) Granted ∷ [])
         ∷ []) ≡ None }
 {}

@@ -51,24 +51,44 @@ search_rules t a c nb lt short none =
 
 -- ---- without a search
 
+-- whether a chunk of the arena was found
+abbrev IsInArena : Found → Type 0
+IsInArena (InArena c) = Unit {0}
+IsInArena found = ⊥
+
+-- then it was no mapping, nor nothing
+not_mapped : {found : Found} (d : Chunk) → IsInArena found → found ≡ InMapping d → ⊥
+not_mapped d within is = subst IsInArena is within
+
+not_nowhere : {found : Found} → IsInArena found → found ≡ Nowhere → ⊥
+not_nowhere within is = subst IsInArena is within
+
 -- what comes of a reshaping that was made at once
-made_at_once : {P K : Type 0} {m : Means P K} {t : Tunables} {c : Chunk} {nb : ℕ} {x : Stage (Outside P K)} {r : Reshaped} {b : Plain} → ((d : Chunk) → r.found ≡ InMapping d → ⊥) → resize_of t x.arena c nb ≡ rest_released t r b → Balances (full m) x (one_chunk c) (chunks_reshaped c r) (stage b x.outside x.said) → Reshapes m t c nb x (Ok r) (stage b x.outside x.said)
-made_at_once none e balances = record { comes = comes_as e balances; mapped = λ d is. absurd (none d is); short = tt; spares = tt }
+made_at_once : {P K : Type 0} {m : Means P K} {t : Tunables} {c : Chunk} {nb : ℕ} {x : Stage (Outside P K)} {r : Reshaped} {b : Plain} → IsInArena r.found → resize_of t x.arena c nb ≡ rest_released t r b → Balances (full m) x (one_chunk c) (chunks_reshaped c r) (stage b x.outside x.said) →
+    Reshapes m t c nb x (Ok r) (stage b x.outside x.said)
+made_at_once within e balances = record {
+  comes = comes_as e balances;
+  mapped = λ d is. absurd (not_mapped d within is);
+  nowhere = λ is. absurd (not_nowhere within is);
+  short = tt;
+  early = tt;
+  spares = tt;
+}
 
 -- a chunk that is cut is in the arena
-in_arena_either : (x : Bool) (c d e : Chunk) (r q : Option Chunk) → let cut : Reshaped = cond x (record { found = InArena c; rest = r }) (record { found = InArena d; rest = q }) in cut.found ≡ InMapping e → ⊥
-in_arena_either true c d e r q is = absurd cc
-in_arena_either false c d e r q is = absurd cc
+in_arena_either : (x : Bool) (c d : Chunk) (r q : Option Chunk) → let cut : Reshaped = cond x (record { found = InArena c; rest = r }) (record { found = InArena d; rest = q }) in IsInArena cut.found
+in_arena_either true c d r q = tt
+in_arena_either false c d r q = tt
 
-cut_in_arena : (c : Chunk) (nb : ℕ) (e : Chunk) → (cut_of c nb).found ≡ InMapping e → ⊥
-cut_in_arena c nb e is = in_arena_either (nat_lt (c.size - nb) 32) c (front_of c nb) e None (Some (back_of c nb)) is
+cut_in_arena : (c : Chunk) (nb : ℕ) → IsInArena (cut_of c nb).found
+cut_in_arena c nb = in_arena_either (nat_lt (c.size - nb) 32) c (front_of c nb) None (Some (back_of c nb))
 
-placed_either : (x : Bool) (cut : Reshaped) (d e : Chunk) (q : Option Chunk) → (cut.found ≡ InMapping e → ⊥) → let placed : Reshaped = cond x cut (record { found = InArena d; rest = q }) in placed.found ≡ InMapping e → ⊥
-placed_either true cut d e q none is = none is
-placed_either false cut d e q none is = absurd cc
+placed_either : (x : Bool) (cut : Reshaped) (d : Chunk) (q : Option Chunk) → IsInArena cut.found → let placed : Reshaped = cond x cut (record { found = InArena d; rest = q }) in IsInArena placed.found
+placed_either true cut d q within = within
+placed_either false cut d q within = tt
 
-placed_in_arena : (c d : Chunk) (nb : ℕ) (e : Chunk) → (placed_of c d nb).found ≡ InMapping e → ⊥
-placed_in_arena c d nb e is = placed_either (is_next_to c d) (cut_of (whole_of c d) nb) d e (Some c) (cut_in_arena (whole_of c d) nb e) is
+placed_in_arena : (c d : Chunk) (nb : ℕ) → IsInArena (placed_of c d nb).found
+placed_in_arena c d nb = placed_either (is_next_to c d) (cut_of (whole_of c d) nb) d (Some c) (cut_in_arena (whole_of c d) nb)
 
 pub reshapes_cut : {P K : Type 0} (m : Means P K) (t : Tunables) (c : Chunk) (nb : ℕ) (x : Stage (Outside P K)) → IsSound x.arena → IsTrue (is_own x.arena c) → IsChunkSize nb → nb ≤ c.size → Reshapes m t c nb x (Ok (cut_of c nb)) (stage (arena_cut x.arena c nb) x.outside x.said)
 reshapes_cut m t c nb x s own chunk le =
@@ -81,7 +101,7 @@ pub reshapes_top : {P K : Type 0} (m : Means P K) (t : Tunables) (c : Chunk) (nb
     Reshapes m t c nb x (Ok (whole_block (front_of c nb))) (stage (grown_into_top x.arena c nb) x.outside x.said)
 reshapes_top m t c nb x s own chunk lt is =
     let moved = balances_move (full m) x (grown_into_top x.arena c nb) (one_chunk c) (one_chunk (front_of c nb)) (grown_into_top_moved x.arena c nb s own is chunk) (beside_grown_into_top x.arena c nb) in
-    made_at_once (λ d is. absurd cc) (top_rules t x.arena c nb lt is) (balances_as moved (λ e. omega arith))
+    made_at_once tt (top_rules t x.arena c nb lt is) (balances_as moved (λ e. omega arith))
 
 pub reshapes_free : {P K : Type 0} (m : Means P K) (t : Tunables) (c : Chunk) (nb : ℕ) (x : Stage (Outside P K)) (h : Hand) → h ≡ joined_behind (hand c x.arena) → IsSound x.arena → IsTrue (is_own x.arena c) → IsChunkSize nb → c.size < nb → fits_with_top x.arena c nb ≡ false → fits_with_free x.arena c nb ≡ true →
     Reshapes m t c nb x (Ok (cut_of h.chunk nb)) (stage (arena_cut h.arena h.chunk nb) x.outside x.said)
@@ -123,14 +143,24 @@ reshapes_found m t c d nb x y rules backed chunk le w =
     let both = found_used m t c d nb x y backed w in
     let comes = found_comes m t c nb x y (InArena d) rules w in
     let next = comes_as (placed_rules t y.arena c d nb) (placed_balances (full m) y c d nb both.0.sound both.0.used both.1.used chunk le) in
-    record { comes = comes_then comes next; mapped = λ e is. absurd (placed_in_arena c d nb e is); short = tt; spares = tt }
+    let within = placed_in_arena c d nb in
+    record {
+      comes = comes_then comes next;
+      mapped = λ e is. absurd (not_mapped e within is);
+      nowhere = λ is. absurd (not_nowhere within is);
+      short = tt;
+      early = tt;
+      spares = tt;
+    }
 
 pub reshapes_mapped : {P K : Type 0} (m : Means P K) (t : Tunables) (c d : Chunk) (nb : ℕ) (x y : Stage (Outside P K)) → let ok : Result Found NoMemory = Ok (InMapping d) in
     resize_of t x.arena c nb ≡ resize_by_search t x.arena c nb → Finds m t (searched t nb x.arena) x ok y → Reshapes m t c nb x (Ok (record { found = InMapping d; rest = Some c })) y
 reshapes_mapped m t c d nb x y rules w = record {
   comes = found_comes m t c nb x y (InMapping d) rules w;
   mapped = λ e is. (refl, subst (λ f. Reaches t ((full m).ways x.arena.number) (searched t nb x.arena) x.outside x.said (Stop (took y.arena f)) y.said y.outside) is w.walk.done);
+  nowhere = λ is. absurd cc;
   short = tt;
+  early = tt;
   spares = tt;
 }
 
@@ -138,7 +168,14 @@ pub reshapes_nowhere : {P K : Type 0} (m : Means P K) (t : Tunables) (c : Chunk)
     resize_of t x.arena c nb ≡ resize_by_search t x.arena c nb → Finds m t (searched t nb x.arena) x ok y → Reshapes m t c nb x (Ok (record { found = Nowhere; rest = None })) y
 reshapes_nowhere m t c nb x y rules w =
     let p = found_comes m t c nb x y Nowhere rules w in
-    record { comes = record { reaches = p.reaches; balances = balances_as p.balances (λ e. omega arith) }; mapped = λ e is. absurd cc; short = tt; spares = tt }
+    record {
+      comes = record { reaches = p.reaches; balances = balances_as p.balances (λ e. omega arith) };
+      mapped = λ e is. absurd cc;
+      nowhere = λ is. refl;
+      short = tt;
+      early = tt;
+      spares = tt;
+    }
 
 pub reshapes_short : {P K : Type 0} (m : Means P K) (t : Tunables) (c : Chunk) (nb : ℕ) (x y : Stage (Outside P K)) (d : NoMemory) (r : Result Reshaped NoMemory) → let err : Result Found NoMemory = Err d in
     IsErr r → IsSound x.arena → resize_of t x.arena c nb ≡ resize_by_search t x.arena c nb → Finds m t (searched t nb x.arena) x err y → Reshapes m t c nb x r y
@@ -146,6 +183,8 @@ reshapes_short m t c nb x y d (Ok v) is s rules w = absurd cc
 reshapes_short m t c nb x y d (Err v) is s rules w = record {
   comes = tt;
   mapped = tt;
+  nowhere = tt;
   short = subst (λ r. StopsShort t ((full m).ways x.arena.number) r x.outside x.said y.arena y.said y.outside) (sym rules) (short_behind (resize_with t c nb) w.walk.short);
+  early = w.walk.short;
   spares = spares_then (balances_still (full m) x (one_chunk c) s) w.spares (λ e. omega arith);
 }

@@ -54,7 +54,7 @@ pub resize_short : {P K : Type 0} (m : Means P K) (t : Tunables) (who : Who) (b 
     Resizes m t (chunk_at b.addr b.size) nb (stage x (beside_arena p cache space) []) err (stage y (beside_arena q cache' space') said) → new ≡ old ++ recorded who (acts.Resize b.addr b.size nb) said Short ∷ [] → back ≡ block_found x.number b s.found →
     ResizesShort m t who b nb (held x p cache space old) back (held y q cache' space' new)
 resize_short m t who b nb x y p q cache cache' space space' said old new s back w added came =
-    record { said = said; found = s.found; came = came; added = added; stops = w.walk.short; spares = w.spares; mapped = w.mapped }
+    record { said = said; found = s.found; came = came; added = added; stops = w.walk.short; spares = w.spares; strands = w.strands; mapped = w.mapped }
 
 -- want of memory leaves what the journal's replay gives
 pub resize_short_replay : {P K : Type 0} {m : Means P K} {t : Tunables} {who : Who} {b : Block} {nb : ℕ} {x y : Held P K} {back : Block} (start : Plain) → CanAct m (acts.Resize b.addr b.size nb) x → ResizesShort m t who b nb x back y → IsReplay t start x.journal x.arena → IsReplay t start y.journal y.arena

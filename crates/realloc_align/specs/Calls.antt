@@ -25,7 +25,7 @@ use Rattle.arena_core.specs.Replay.{rules_of, chunk_at}
 use Rattle.realloc_align.specs.declared.to_size.Resized.{Resized}
 use Rattle.realloc_align.specs.declared.to_size.Resized.TheVariants.{Kept, Moved, Refused}
 use Rattle.realloc_align.specs.Aligns.{FitsAt}
-use Rattle.realloc_align.specs.Resizes.{Spares, StopsInMapping, chunks_kept}
+use Rattle.realloc_align.specs.Resizes.{Spares, StopsInMapping, Strands, chunks_kept}
 
 -- where a block is whose resize found this, in the arena with this number: as it was where nothing was found
 abbrev pub block_found : ℕ → Block → Found → Block
@@ -47,7 +47,8 @@ pub record ResizesBlock {P K : Type 0} (m : Means P K) (t : Tunables) (who : Who
   pub records : Records m t who (acts.Resize b.addr b.size nb) before (one_chunk (chunk_at b.addr b.size)) found after
 
 -- Memory was short behind the entry: it says so, the arena is what the rules have before the next answer, and the block that
--- comes back is a used chunk of it, or a mapping that a search found.
+-- comes back is a used chunk of it, or a mapping that a search found: as it was only where memory was short before anything
+-- was found, else where the rules had it to go.
 pub record ResizesShort {P K : Type 0} (m : Means P K) (t : Tunables) (who : Who) (b : Block) (nb : ℕ) (before : Held P K) (back : Block) (after : Held P K) : Type 0 where
   pub said : List Said
   pub found : Found
@@ -55,6 +56,7 @@ pub record ResizesShort {P K : Type 0} (m : Means P K) (t : Tunables) (who : Who
   pub added : after.journal ≡ before.journal ++ recorded who (acts.Resize b.addr b.size nb) said Short ∷ []
   pub stops : StopsShort t (ways m before.arena.number) (rules_of t (acts.Resize b.addr b.size nb) before.arena) before.outside [] after.arena said after.outside
   pub spares : Spares (full m) (stage before.arena before.outside []) (one_chunk (chunk_at b.addr b.size)) (chunks_kept (chunk_at b.addr b.size) found) (stage after.arena after.outside said)
+  pub strands : Strands m t (chunk_at b.addr b.size) nb (stage before.arena before.outside []) found (stage after.arena after.outside said)
   pub mapped : (d : Chunk) → found ≡ finds.InMapping d →
       StopsInMapping m t (chunk_at b.addr b.size) nb (stage before.arena before.outside []) d (stage after.arena after.outside said)
 

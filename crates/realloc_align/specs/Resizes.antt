@@ -87,11 +87,30 @@ pub record StopsInMapping {P K : Type 0} (m : Means P K) (t : Tunables) (c : Chu
   pub finds : FindsMapping m t nb before d between
   pub release : StopsShort t (ways m before.arena.number) (released t between.arena c) between.outside between.said after.arena after.said after.outside
 
+-- What a resize came to was found, and memory was short in the release behind it.
+pub record StopsReleasing {P K : Type 0} (m : Means P K) (t : Tunables) (c : Chunk) (nb : ℕ) (before : Stage (Outside P K)) (found : Found) (after : Stage (Outside P K)) : Type 0 where
+  pub rest : Option Chunk
+  pub between : Stage (Outside P K)
+  pub comes : Reaches t (ways m before.arena.number) (resize_of t before.arena c nb) before.outside before.said (rest_released t (record { found = found; rest = rest }) between.arena) between.said between.outside
+  pub release : StopsShort t (ways m before.arena.number) (closing t rest between.arena) between.outside between.said after.arena after.said after.outside
+
+-- Memory was short in a search, before anything was found.
+abbrev pub StopsSearching : {P K : Type 0} → Means P K → Tunables → ℕ → Stage (Outside P K) → Stage (Outside P K) → Type 0
+StopsSearching m t nb before after =
+    StopsShort t (ways m before.arena.number) (searched t nb before.arena) before.outside before.said after.arena after.said after.outside
+
+-- Memory was short in a resize with this found: with nothing only in its search, else behind what its rules came to.
+abbrev pub Strands : {P K : Type 0} → Means P K → Tunables → Chunk → ℕ → Stage (Outside P K) → Found → Stage (Outside P K) → Type 0
+Strands m t c nb before Nowhere after = StopsSearching m t nb before after
+Strands m t c nb before found after = StopsReleasing m t c nb before found after
+
 -- A chunk is reshaped: from the rules of its resize to the release; or memory was short in the search, and it is as it was.
 pub record Reshapes {P K : Type 0} (m : Means P K) (t : Tunables) (c : Chunk) (nb : ℕ) (before : Stage (Outside P K)) (result : Result Reshaped NoMemory) (after : Stage (Outside P K)) : Type 0 where
   pub comes : IfOk result (λ r. Comes (full m) t (resize_of t before.arena c nb) before (one_chunk c) (chunks_reshaped c r) (rest_released t r after.arena) after)
   pub mapped : IfOk result (λ r. (d : Chunk) → r.found ≡ InMapping d → (r.rest ≡ Some c) × FindsMapping m t nb before d after)
+  pub nowhere : IfOk result (λ r. r.found ≡ Nowhere → r.rest ≡ None)
   pub short : OnErr result (StopsShort t (ways m before.arena.number) (resize_of t before.arena c nb) before.outside before.said after.arena after.said after.outside)
+  pub early : OnErr result (StopsSearching m t nb before after)
   pub spares : OnErr result (Spares (full m) before (one_chunk c) (one_chunk c) after)
 
 -- A chunk is resized: through the rules to their end, or left where memory is short, with the block where that says.
@@ -99,4 +118,5 @@ pub record Resizes {P K : Type 0} (m : Means P K) (t : Tunables) (c : Chunk) (nb
   pub walk : Performs t (ways m before.arena.number) (resize_of t before.arena c nb) before.outside before.said (took after.arena) after.arena result after.said after.outside
   pub keeps : IfOk result (λ found. Balances (full m) before (one_chunk c) (chunks_kept c found) after)
   pub spares : IfErr result (λ s. Spares (full m) before (one_chunk c) (chunks_kept c s.found) after)
+  pub strands : IfErr result (λ s. Strands m t c nb before s.found after)
   pub mapped : IfErr result (λ s. (d : Chunk) → s.found ≡ InMapping d → StopsInMapping m t c nb before d after)
