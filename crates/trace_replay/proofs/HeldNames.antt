@@ -53,7 +53,7 @@ aligned_place align b above =
 names_there : {K : Type 0} (th there : Thread K) (name : ℕ) → there ≡ readied name th → names_of there ≡ with_place name (names_of th)
 names_there {K = K} th there name is = ap (λ (x : Thread K). names_of x) is
 
-block_there : {K : Type 0} (th there : Thread K) (name n : ℕ) → there ≡ readied name th → block_at (names_of there) n ≡ block_at (names_of th) n
+pub block_there : {K : Type 0} (th there : Thread K) (name n : ℕ) → there ≡ readied name th → block_at (names_of there) n ≡ block_at (names_of th) n
 block_there th there name n is = ap (λ names. block_at names n) (names_there th there name is) ∙ at_placed name n (names_of th)
 
 -- a name that holds nothing holds nothing there, and has a place

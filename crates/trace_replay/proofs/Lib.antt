@@ -11,6 +11,7 @@ mod Results
 mod QuietCalls
 mod TrayCalls
 mod HeldNames
+mod LeftThere
 mod Called
 mod LinesAfter
 mod Windows

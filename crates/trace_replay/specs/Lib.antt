@@ -14,6 +14,7 @@ pub mod Tiling
 pub mod Replays
 pub mod Naming
 pub mod Processes
+pub mod LeftLines
 pub mod Headline
 pub mod Exits
 pub mod Messages

@@ -1,14 +1,15 @@
 //! A line of a trace as a call of its thread, over the places of one order of calls.
 
-ghost use Rattle.std.specs.Prelude.{◌≡◌, ◌≤◌, ◌*◌, ℕ, None, false, IfOk, OnErr, length};
+ghost use Rattle.std.specs.Prelude.{◌≡◌, ◌≤◌, ◌*◌, ℕ, None, IfOk, OnErr, length};
 ghost use Rattle.chunk_tags.specs.Tunables.{IsTuned};
-ghost use Rattle.block_names.specs.Names.{block_at, has_place, IsTable};
+ghost use Rattle.block_names.specs.Names.{block_at, IsTable};
 ghost use Rattle.malloc_calls.specs.Threads.{names_of, number_of, own_of, with_own, who_of};
 ghost use Rattle.serial_places.specs.Trays.{tray_at};
 ghost use Rattle.serial_places.specs.declared.tray.Tray.TheVariants.{Empty};
 ghost use Rattle.trace_text.specs.declared.trace.Call.TheVariants.{Malloc, Calloc, Realloc, Align, Free, Post, Take, Exit};
 ghost use Rattle.trace_replay.specs.Naming.{MayCall, MakesName, ResizesName, EmptiesName, PostsName, TakesName};
 ghost use Rattle.trace_replay.specs.Processes.{IsServedBy, KeepsOn, DoesAt, Calls};
+ghost use Rattle.trace_replay.specs.LeftLines.{LacksPlace, IsCallLeft};
 ghost use Rattle.trace_replay.specs.Tiling.{bytes_wanted, aligned_wanted};
 ghost use Rattle.trace_replay.specs.World.{call_of, name_in, own_tidied};
 
@@ -39,6 +40,8 @@ fn malloc<K: Kernel>(
     ensures names { IfOk result (λ _.
         MakesName name (bytes_wanted size) (names_of thread.old) (names_of thread.new)) }
     ensures trays { IfOk result (λ _. serial.new.trays ≡ serial.old.trays) }
+    ensures left { OnErr result (IsCallLeft K.port t.now line (Malloc name size)
+        thread.old serial.old thread.new serial.new) }
 {
     thread.ready(name)?;
     thread.malloc(alloc, serial, line, name, size, t)
@@ -65,6 +68,8 @@ fn calloc<K: Kernel>(
     ensures names { IfOk result (λ _.
         MakesName name (bytes_wanted (n * size)) (names_of thread.old) (names_of thread.new)) }
     ensures trays { IfOk result (λ _. serial.new.trays ≡ serial.old.trays) }
+    ensures left { OnErr result (IsCallLeft K.port t.now line (Calloc name n size)
+        thread.old serial.old thread.new serial.new) }
 {
     thread.ready(name)?;
     thread.calloc(alloc, serial, line, name, n, size, t)
@@ -91,6 +96,8 @@ fn posix_memalign<K: Kernel>(
     ensures names { IfOk result (λ _.
         MakesName name (aligned_wanted align size) (names_of thread.old) (names_of thread.new)) }
     ensures trays { IfOk result (λ _. serial.new.trays ≡ serial.old.trays) }
+    ensures left { OnErr result (IsCallLeft K.port t.now line (Align name align size)
+        thread.old serial.old thread.new serial.new) }
 {
     thread.ready(name)?;
     thread.posix_memalign(alloc, serial, line, name, align, size, t)
@@ -115,6 +122,8 @@ fn realloc<K: Kernel>(
     ensures names { IfOk result (λ reply.
         ResizesName name size reply (names_of thread.old) (names_of thread.new)) }
     ensures trays { IfOk result (λ _. serial.new.trays ≡ serial.old.trays) }
+    ensures left { OnErr result (IsCallLeft K.port t.now line (Realloc name size)
+        thread.old serial.old thread.new serial.new) }
 {
     thread.ready(name)?;
     thread.realloc(alloc, serial, line, name, size, t)
@@ -138,6 +147,8 @@ fn free<K: Kernel>(
     ensures names { IfOk result (λ _.
         EmptiesName name (names_of thread.old) (names_of thread.new)) }
     ensures trays { IfOk result (λ _. serial.new.trays ≡ serial.old.trays) }
+    ensures left { OnErr result (IsCallLeft K.port t.now line (Free name)
+        thread.old serial.old thread.new serial.new) }
 {
     thread.ready(name)?;
     thread.free(alloc, serial, line, name, t)
@@ -159,6 +170,8 @@ fn exit<K: Kernel>(
     ensures keeps { IfOk result (λ _. KeepsOn thread.old serial.old thread.new serial.new) }
     ensures names { names_of thread.new ≡ names_of thread.old }
     ensures trays { IfOk result (λ _. serial.new.trays ≡ serial.old.trays) }
+    ensures left { OnErr result (IsCallLeft K.port t.now line Exit
+        thread.old serial.old thread.new serial.new) }
 {
     thread.exit(alloc, serial, line, t)
 }
@@ -181,7 +194,8 @@ fn post<K: Kernel>(
     ensures keeps { IfOk result (λ _. KeepsOn thread.old serial.old thread.new serial.new) }
     ensures names { IfOk result (λ reply. PostsName name tray reply
         (names_of thread.old) (names_of thread.new) serial.old.trays serial.new.trays) }
-    ensures full { OnErr result (has_place (names_of thread.old) name ≡ false) }
+    ensures full { OnErr result (LacksPlace (Post name tray)
+        thread.old serial.old thread.new serial.new) }
 {
     thread.ready(name)?;
     Ok(thread.post(serial, name, tray))
@@ -205,7 +219,8 @@ fn take<K: Kernel>(
     ensures keeps { IfOk result (λ _. KeepsOn thread.old serial.old thread.new serial.new) }
     ensures names { IfOk result (λ reply. TakesName name tray reply
         (names_of thread.old) (names_of thread.new) serial.old.trays serial.new.trays) }
-    ensures full { OnErr result (has_place (names_of thread.old) name ≡ false) }
+    ensures full { OnErr result (LacksPlace (Take name tray)
+        thread.old serial.old thread.new serial.new) }
 {
     thread.ready(name)?;
     Ok(thread.take(serial, name, tray))
@@ -224,8 +239,10 @@ pub fn call<K: Kernel>(
     requires trays { length serial.old.trays ≡ 65536 }
     requires tuned { IsTuned t.now }
     requires served { IsServedBy t.now thread.old serial.old }
-    ensures { IfOk result (λ reply.
+    ensures done { IfOk result (λ reply.
         Calls K.port t.now line.now thread.old serial.old reply thread.new serial.new) }
+    ensures left { OnErr result (IsCallLeft K.port t.now line.now.number line.now.call
+        thread.old serial.old thread.new serial.new) }
 {
     let number = line.number;
     match line.call {

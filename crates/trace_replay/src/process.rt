@@ -1,6 +1,6 @@
 //! The threads over the places of one order of calls: a line of a trace is a call of its thread.
 
-ghost use Rattle.std.specs.Prelude.{◌≡◌, ◌≤◌, vec_len, IfOk, OnOk};
+ghost use Rattle.std.specs.Prelude.{◌≡◌, ◌≤◌, vec_len, IfOk, OnOk, OnErr};
 ghost use Rattle.chunk_tags.specs.Tunables.{IsTuned};
 
 use crate::calling::{call, tidy};
@@ -31,6 +31,7 @@ impl<K: Kernel> Process<K> {
     ghost use Rattle.trace_replay.specs.Views.{IsThread, threads_in, scene_of};
     ghost use Rattle.trace_replay.specs.Naming.{HoldsWithin, MayRun, LeavesLine};
     ghost use Rattle.trace_replay.specs.Processes.{world_of, Tells, step_in, IsBetweenCalls};
+    ghost use Rattle.trace_replay.specs.LeftLines.{IsStepLeft};
     ghost use Rattle.trace_replay.specs.Tiling.{IsTiled, FitsWithin, no_wishes};
     ghost use Rattle.trace_replay.specs.World.{opening_world};
     ghost use Rattle.std.specs.Prelude.{Some, []};
@@ -73,6 +74,7 @@ impl<K: Kernel> Process<K> {
             LeavesLine line.now reply (world_of self.old) (world_of self.new)) }
         ensures settled { OnOk result (IsBetweenCalls self.new) }
         ensures tunables { self.new.t ≡ self.old.t }
+        ensures left { OnErr result (IsStepLeft K.port line.now self.old self.new) }
     {
         let thread = &mut self.threads[usize::from(line.thread)];
         let reply = call(alloc, thread, &mut self.serial, line, &self.t)?;

@@ -1,10 +1,11 @@
 //! A serial run: the reply to each line, in file order.
 
-ghost use Rattle.std.specs.Prelude.{◌≡◌, ℕ, List, [], ◌∷◌, Some, take, IfOk, OnOk};
+ghost use Rattle.std.specs.Prelude.{◌≡◌, ℕ, List, [], ◌∷◌, Some, take, IfOk, OnOk, OnErr};
 ghost use Rattle.trace_replay.specs.Naming.{HoldsWithin, MayRun, LeavesLine};
 ghost use Rattle.trace_replay.specs.Tiling.{TilesAfter, FitsWithin, no_wishes};
 ghost use Rattle.trace_replay.specs.Sheets.{AreLines, Awaits, CanNote, NotesReply, NotesRun};
 ghost use Rattle.trace_text.specs.declared.trace.Line.{Line};
+ghost use Rattle.trace_replay.specs.LeftLines.{IsLineLeft, IsRunLeft};
 ghost use Rattle.trace_replay.specs.Processes.{world_of, Tells, step_in, run_in, IsBetweenCalls};
 
 use crate::process::Process;
@@ -34,6 +35,8 @@ fn replay_line<K: Kernel>(
         LeavesLine line.now reply (world_of process.old) (world_of process.new)) }
     ensures settled { OnOk result (IsBetweenCalls process.new) }
     ensures tunables { process.new.t ≡ process.old.t }
+    ensures left { OnErr result ((rest : List Line) → Awaits sheet.old (line.now ∷ rest) →
+        IsLineLeft K.port line.now process.old sheet.old process.new) }
 {
     let reply = process.step(alloc, line)?;
     sheet.note(line, &reply)?;
@@ -57,6 +60,8 @@ pub fn replay<K: Kernel>(
     ensures settled { OnOk result (IsBetweenCalls process.new) }
     ensures tiled { Tells K.port process.old → OnOk result ((count : ℕ) →
         TilesAfter K.port process.old.t (take count lines.now) (world_of process.old)) }
+    ensures left { OnErr result
+        (IsRunLeft K.port lines.now process.old sheet.old process.new) }
 {
     process.laws();
     for line in lines {

@@ -1,3 +1,8 @@
+use Rattle.std.proofs.Common.{refl, inl}
+use Rattle.std.proofs.lemmas.Result.{on_err_weaker}
+use Rattle.malloc_calls.specs.declared.thread.Thread.{Thread}
+use Rattle.trace_text.specs.declared.trace.Call.TheVariants.{Calloc}
+use Rattle.trace_replay.proofs.LeftThere.{no_place, left_there, names_same}
 use Rattle.trace_replay.proofs.Keeping.{served_there}
 use Rattle.std.proofs.Common.{◌*◌}
 use Rattle.malloc_calls.specs.Threads.{own_of, names_of, number_of}
@@ -5,7 +10,7 @@ use Rattle.malloc_calls.specs.Mallocs.{calloc_call}
 use Rattle.trace_replay.proofs.CallResults.{KeepsOthers, calloc_keeps}
 use Rattle.trace_replay.proofs.HeldNames.{makes_bytes, nothing_there, room_there}
 use Rattle.trace_replay.proofs.QuietCalls.{quiet_call}
-use Rattle.trace_replay.proofs.Results.{if_ok, if_ok₂}
+use Rattle.trace_replay.proofs.Results.{if_ok, if_ok₂, on_err}
 use Rattle.trace_replay.proofs.calling.calloc.Goals as goal
 
 pub returns-clause-keeps : goal.returns-clause-keeps
@@ -40,3 +45,13 @@ calloc-requires-clause-empty g c = λ κs within. nothing_there c.args.thread.no
 pub calloc-requires-clause-served : goal.calloc-requires-clause-served
 calloc-requires-clause-served g c = λ κs within.
     served_there c.args.t.now c.args.thread.now c.ready.new.self c.args.serial.now c.args.name c.in_ok-ready.ensures.ok c.requires.served
+
+pub returns-in_err-ready-clause-left : goal.returns-in_err-ready-clause-left
+returns-in_err-ready-clause-left g c =
+    on_err c.from_residual.result (inl (no_place c.args.name (Calloc c.args.name c.args.n c.args.size) c.args.thread.now c.ready.new.self c.args.serial.now refl c.in_err-ready.ensures.full c.in_err-ready.ensures.err))
+
+pub returns-clause-left : goal.returns-clause-left
+returns-clause-left g c =
+    left_there g.K.Kernel.port c.args.t.now c.args.line c.args.name (Calloc c.args.name c.args.n c.args.size) (λ (x : Thread _). calloc_call c.args.t.now (number_of x) c.args.name c.args.n c.args.size (own_of x))
+    c.args.thread.now c.ready.new.self c.calloc.new.self c.args.serial.now c.calloc.new.p c.calloc.result c.in_ok-ready.ensures.ok refl refl c.calloc.ensures.left
+    (on_err_weaker c.calloc.result (names_same c.args.name (names_of c.ready.new.self) (names_of c.calloc.new.self)) c.calloc.ensures.names)

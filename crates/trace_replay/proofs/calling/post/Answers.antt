@@ -1,3 +1,7 @@
+use Rattle.std.proofs.Common.{refl}
+use Rattle.trace_text.specs.declared.trace.Call.TheVariants.{Post}
+use Rattle.trace_replay.proofs.LeftThere.{no_place}
+use Rattle.trace_replay.proofs.Results.{on_err}
 use Rattle.std.proofs.Common.{arith}
 use Rattle.malloc_calls.specs.Threads.{own_of}
 use Rattle.malloc_calls.specs.Trays.{post_call}
@@ -28,3 +32,7 @@ returns-clause-names g c =
 pub post-requires-clause-served : goal.post-requires-clause-served
 post-requires-clause-served g c = λ κs within.
     (served_there c.args.t.now c.args.thread.now c.ready.new.self c.args.serial.now c.args.name c.in_ok-ready.ensures.ok c.requires.served).served
+
+pub returns-in_err-ready-clause-full : goal.returns-in_err-ready-clause-full
+returns-in_err-ready-clause-full g c =
+    on_err c.from_residual.result (no_place c.args.name (Post c.args.name c.args.tray) c.args.thread.now c.ready.new.self c.args.serial.now refl c.in_err-ready.ensures.full c.in_err-ready.ensures.err)

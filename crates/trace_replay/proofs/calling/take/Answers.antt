@@ -1,3 +1,7 @@
+use Rattle.std.proofs.Common.{refl}
+use Rattle.trace_text.specs.declared.trace.Call.TheVariants.{Take}
+use Rattle.trace_replay.proofs.LeftThere.{no_place}
+use Rattle.trace_replay.proofs.Results.{on_err}
 use Rattle.std.proofs.Common.{arith}
 use Rattle.malloc_calls.specs.Threads.{own_of}
 use Rattle.malloc_calls.specs.Trays.{take_call}
@@ -34,3 +38,7 @@ take-requires-clause-room g c = λ κs within. room_there c.args.thread.now c.re
 
 pub take-requires-clause-empty : goal.take-requires-clause-empty
 take-requires-clause-empty g c = λ κs within. nothing_there c.args.thread.now c.ready.new.self c.args.name c.in_ok-ready.ensures.ok c.requires.free
+
+pub returns-in_err-ready-clause-full : goal.returns-in_err-ready-clause-full
+returns-in_err-ready-clause-full g c =
+    on_err c.from_residual.result (no_place c.args.name (Take c.args.name c.args.tray) c.args.thread.now c.ready.new.self c.args.serial.now refl c.in_err-ready.ensures.full c.in_err-ready.ensures.err)

@@ -1,8 +1,10 @@
-use Rattle.std.proofs.Common.{refl, subst, ◌∙◌, ◌+◌, drop}
+use Rattle.std.proofs.Common.{refl, subst, ◌∙◌, ◌+◌, drop, get_or}
 use Rattle.std.proofs.lemmas.List.{take_all}
+use Rattle.std.proofs.lemmas.Option.{slice_get-get_or}
 use Rattle.trace_replay.specs.Processes.{world_of}
 use Rattle.trace_replay.proofs.LinesAfter.{holds_next, may_run, fits_at}
 use Rattle.trace_replay.proofs.ReplayLoop.{SoFar, nothing_yet, awaits_next, can_note_next, goes_on, finished, tiles_first, tiles_next, tiles_all}
+use Rattle.trace_replay.proofs.Results.{on_err}
 use Rattle.trace_replay.proofs.replay.replay.Goals as goal
 
 pub loop-line-init : goal.loop-line-init
@@ -48,3 +50,19 @@ returns-clause-told g c h =
 
 pub returns-clause-tiled : goal.returns-clause-tiled
 returns-clause-tiled g c h = tiles_all _ _ c.args.lines.now c.loop-line.line-index _ c.loop-line-test.false (c.loop-line.invariant.told h).2
+
+pub returns-in_err-replay_line-clause-left : goal.returns-in_err-replay_line-clause-left
+returns-in_err-replay_line-clause-left g c =
+    let i = c.loop-line.line-index in
+    let rest = drop (i + 1) c.args.lines.now in
+    on_err c.from_residual.result (record {
+      count = i;
+      line = get_or c.args.lines.now i _;
+      at = c.loop-line.process;
+      noted = c.loop-line.sheet;
+      next = slice_get-get_or c.args.lines.now i _ c.loop-line-test.true;
+      ran = λ h. finished _ _ _ _ _ _ _ (c.loop-line.invariant.told h).1;
+      settled = c.loop-line.invariant.settled;
+      tunables = c.loop-line.invariant.tunables;
+      short = c.in_err-replay_line.ensures.left rest (awaits_next _ _ i _ c.loop-line-test.true c.loop-line.invariant.awaits);
+    })
