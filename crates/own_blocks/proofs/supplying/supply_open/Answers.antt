@@ -1,7 +1,6 @@
 use Rattle.std.proofs.Common.{sym, refl, ap, ◌∙◌}
 use Rattle.own_blocks.proofs.LeftCalls.{left_uncached}
 use Rattle.own_blocks.proofs.Supplies.{supplies_past, supplies_cached}
-
 use Rattle.thread_cache.specs.Caches.{structure_of}
 use Rattle.own_blocks.proofs.Structures.{got_same}
 use Rattle.own_blocks.proofs.supplying.supply_open.Goals as goal
