@@ -17,6 +17,7 @@ ghost use Rattle.own_blocks.specs.declared.reply.Why.TheVariants.{Big, Align, Re
 ghost use Rattle.arena_holds.specs.Going.{Does};
 ghost use Rattle.arena_holds.specs.Places.{setting, IsServed, Carries, standing};
 ghost use Rattle.own_blocks.specs.Own.{in_own, cached_for};
+ghost use Rattle.own_blocks.specs.Structure.{StaysOpen};
 
 use address_space::{Kernel, Space};
 use arena_core::{Act, Who};
@@ -103,6 +104,7 @@ pub fn malloc<P: Places, K: Kernel>(
         (IsLeft (setting P.ways (means P.Hold.fast P.Hold.dials K.port) P.Dial.dials) t.now who.now
         (malloc_call t.now who.now.thread name size own.old)
         (standing p.old space.old) (standing p.new space.new)) }
+    ensures kept { StaysOpen own.old.cache own.new.cache }
     ensures cached { IsSome (cached_for size own.old.cache) → is_ok result ≡ true }
 {
     let Some(nb) = request_size(size) else {
@@ -144,6 +146,7 @@ pub fn calloc<P: Places, K: Kernel>(
         (IsLeft (setting P.ways (means P.Hold.fast P.Hold.dials K.port) P.Dial.dials) t.now who.now
         (calloc_call t.now who.now.thread name n size own.old)
         (standing p.old space.old) (standing p.new space.new)) }
+    ensures kept { StaysOpen own.old.cache own.new.cache }
 {
     let Some(nb) = product_size(n, size) else {
         return Ok(Reply::Null(Why::Big));
@@ -190,6 +193,7 @@ pub fn posix_memalign<P: Places, K: Kernel>(
         (IsLeft (setting P.ways (means P.Hold.fast P.Hold.dials K.port) P.Dial.dials) t.now who.now
         (posix_memalign_call t.now who.now.thread name align size own.old)
         (standing p.old space.old) (standing p.new space.new)) }
+    ensures kept { StaysOpen own.old.cache own.new.cache }
     ensures cached { align ≤ 16 → IsSome (cached_for size own.old.cache) → is_ok result ≡ true }
 {
     let Some(nb) = request_size(size) else {

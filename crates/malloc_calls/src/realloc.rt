@@ -22,6 +22,8 @@ ghost use Rattle.own_blocks.specs.declared.reply.Why.TheVariants.{Big, Refused};
 ghost use Rattle.arena_holds.specs.Going.{Does};
 ghost use Rattle.arena_holds.specs.Places.{setting, IsServed, Carries, standing, both_of, in_cache};
 ghost use Rattle.own_blocks.specs.Own.{in_own};
+ghost use Rattle.own_blocks.specs.Structure.{StaysOpen};
+ghost use Rattle.thread_cache.specs.Caches.{is_open};
 
 use address_space::{Kernel, Space};
 use arena_core::Who;
@@ -107,6 +109,7 @@ fn move_from_arena<P: Places, K: Kernel>(
         (then_call (plain_supply t.now who.now.thread size nb cache.old)
         (moved_from_arena t.now a block))
         (standing p.old space.old) (standing p.new space.new)) }
+    ensures kept { StaysOpen cache.old cache.new }
 {
     let found = match plain_supply(cache, alloc, p, who, size, nb, space, t) {
         Ok(found) => found,
@@ -154,6 +157,7 @@ fn move_from_mapping<P: Places, K: Kernel>(
         (then_call (plain_supply t.now who.now.thread size nb cache.old)
         (moved_from_mapping block))
         (standing p.old space.old) (standing p.new space.new)) }
+    ensures kept { StaysOpen cache.old cache.new }
 {
     let found = match plain_supply(cache, alloc, p, who, size, nb, space, t) {
         Ok(found) => found,
@@ -201,6 +205,7 @@ fn resize_in_arena<P: Places, K: Kernel>(
         (IsLeft (setting P.ways (means P.Hold.fast P.Hold.dials K.port) P.Dial.dials) t.now who.now
         (resize_in_arena t.now who.now.thread size nb a block cache.old)
         (standing p.old space.old) (standing p.new space.new)) }
+    ensures kept { StaysOpen cache.old cache.new }
 {
     let HeldResize { hold, resized } = cache.resize(alloc, p, a, who, block, nb, space, t)?;
     match resized {
@@ -244,6 +249,7 @@ fn realloc_in_arena<P: Places, K: Kernel>(
         (IsLeft (setting P.ways (means P.Hold.fast P.Hold.dials K.port) P.Dial.dials) t.now who.now
         (realloc_in_arena t.now who.now.thread size nb a block cache.old)
         (standing p.old space.old) (standing p.new space.new)) }
+    ensures kept { StaysOpen cache.old cache.new }
 {
     match open_cache(cache, alloc, p, who, space, t) {
         Ok(()) => resize_in_arena(cache, alloc, p, who, a, block, size, nb, space, t),
@@ -294,6 +300,7 @@ fn realloc_in_mapping<P: Places, K: Kernel>(
         (IsLeft (setting P.ways (means P.Hold.fast P.Hold.dials K.port) P.Dial.dials) t.now who.now
         (realloc_in_mapping t.now who.now.thread size nb block cache.old)
         (standing p.old space.old) (standing p.new space.new)) }
+    ensures kept { StaysOpen cache.old cache.new }
     ensures mapped { has_what_it_needs nb block ≡ true → is_ok result ≡ true }
 {
     if has_length(&block, nb) {
@@ -338,6 +345,7 @@ fn keep_or_move<P: Places, K: Kernel>(
         (IsLeft (setting P.ways (means P.Hold.fast P.Hold.dials K.port) P.Dial.dials) t.now who.now
         (not_remapped t.now who.now.thread size nb block cache.old)
         (standing p.old space.old) (standing p.new space.new)) }
+    ensures kept { StaysOpen cache.old cache.new }
     ensures room { nat_le nb (block.size - 8) ≡ true → is_ok result ≡ true }
 {
     if has_room(&block, nb) {
@@ -377,6 +385,7 @@ fn realloc_block<P: Places, K: Kernel>(
         (IsLeft (setting P.ways (means P.Hold.fast P.Hold.dials K.port) P.Dial.dials) t.now who.now
         (realloc_in t.now who.now.thread size nb block block.arena cache.old)
         (standing p.old space.old) (standing p.new space.new)) }
+    ensures kept { StaysOpen cache.old cache.new }
     ensures mapped { block.arena ≡ None → has_what_it_needs nb block ≡ true → is_ok result ≡ true }
 {
     match block.arena {
@@ -420,6 +429,7 @@ fn realloc_name<P: Places, K: Kernel>(
         (then_call (realloc_in t.now who.now.thread size nb b b.arena own.old.cache)
         (λ r. Done (settled name own.old r)))
         (standing p.old space.old) (standing p.new space.new)) }
+    ensures kept { StaysOpen own.old.cache own.new.cache }
     ensures back { OnErr result (HoldsStill nb name own.old.names own.new.names) }
     ensures mapped { (b : Piece) → block_at own.old.names name ≡ Some b → b.arena ≡ None
         → has_what_it_needs nb b ≡ true → is_ok result ≡ true }
@@ -472,11 +482,14 @@ pub fn realloc<P: Places, K: Kernel>(
         (IsLeft (setting P.ways (means P.Hold.fast P.Hold.dials K.port) P.Dial.dials) t.now who.now
         (realloc_call t.now who.now.thread name size own.old)
         (standing p.old space.old) (standing p.new space.new)) }
+    ensures kept { StaysOpen own.old.cache own.new.cache }
     ensures back { (size ≡ 0 → ⊥)
         → OnErr result (HoldsStill (chunk_size_of size) name own.old.names own.new.names) }
     ensures lost { size ≡ 0 → OnErr result
         (HoldsOrLoses (setting P.ways (means P.Hold.fast P.Hold.dials K.port) P.Dial.dials) t.now
         who.now name own.old.names own.new.names (standing p.new space.new)) }
+    ensures cache { size ≡ 0 → is_open own.old.cache ≡ true
+        → OnErr result (own.new.cache ≡ own.old.cache) }
     ensures unmapped { size ≡ 0 → (b : Piece) → block_at own.old.names name ≡ Some b
         → b.arena ≡ None → result ≡ Ok (Freed Unmapped) }
     ensures mapped { (b : Piece) → block_at own.old.names name ≡ Some b → b.arena ≡ None

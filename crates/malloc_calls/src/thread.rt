@@ -24,6 +24,7 @@ ghost use Rattle.arena_holds.specs.Going.{Does};
 ghost use Rattle.arena_holds.specs.RunningShort.{RunsShort};
 ghost use Rattle.arena_holds.specs.Places.{setting, IsServed, Carries, standing};
 ghost use Rattle.own_blocks.specs.Own.{in_own};
+ghost use Rattle.own_blocks.specs.Structure.{StaysOpen};
 ghost use Rattle.block_names.specs.Names.{has_place, block_at, with_place, with_block, without_block, tidied, IsTable, FarNamesRise};
 ghost use Rattle.block_names.specs.Blocks.{IsHeld};
 ghost use Rattle.own_blocks.specs.Own.{cached_for, cached_malloc_of, cached_end, cached_free_of};
@@ -220,6 +221,7 @@ impl<K: Kernel> Thread<K> {
             (who_of line self.old)
             (malloc_call t.now (number_of self.old) name size (own_of self.old))
             (standing p.old (space_of self.old)) (standing p.new (space_of self.new))) }
+        ensures kept { StaysOpen (own_of self.old).cache (own_of self.new).cache }
         ensures number { number_of self.new ≡ number_of self.old }
         ensures cached { IsSome (cached_for size (own_of self.old).cache) → is_ok result ≡ true }
     {
@@ -277,6 +279,7 @@ impl<K: Kernel> Thread<K> {
             (who_of line self.old)
             (calloc_call t.now (number_of self.old) name n size (own_of self.old))
             (standing p.old (space_of self.old)) (standing p.new (space_of self.new))) }
+        ensures kept { StaysOpen (own_of self.old).cache (own_of self.new).cache }
         ensures number { number_of self.new ≡ number_of self.old }
     {
         let who = self.who(line);
@@ -340,6 +343,7 @@ impl<K: Kernel> Thread<K> {
             (who_of line self.old)
             (posix_memalign_call t.now (number_of self.old) name align size (own_of self.old))
             (standing p.old (space_of self.old)) (standing p.new (space_of self.new))) }
+        ensures kept { StaysOpen (own_of self.old).cache (own_of self.new).cache }
         ensures number { number_of self.new ≡ number_of self.old }
         ensures cached { align ≤ 16 → IsSome (cached_for size (own_of self.old).cache)
             → is_ok result ≡ true }
@@ -400,12 +404,15 @@ impl<K: Kernel> Thread<K> {
             (who_of line self.old)
             (realloc_call t.now (number_of self.old) name size (own_of self.old))
             (standing p.old (space_of self.old)) (standing p.new (space_of self.new))) }
+        ensures kept { StaysOpen (own_of self.old).cache (own_of self.new).cache }
         ensures back { (size ≡ 0 → ⊥) → OnErr result
             (HoldsStill (chunk_size_of size) name (names_of self.old) (names_of self.new)) }
         ensures lost { size ≡ 0 → OnErr result
             (HoldsOrLoses (setting P.ways (means P.Hold.fast P.Hold.dials K.port) P.Dial.dials)
             t.now (who_of line self.old) name (names_of self.old) (names_of self.new)
             (standing p.new (space_of self.new))) }
+        ensures cache { size ≡ 0 → is_open (own_of self.old).cache ≡ true
+            → OnErr result ((own_of self.new).cache ≡ (own_of self.old).cache) }
         ensures unmapped { size ≡ 0 → (b : Piece) → block_at (names_of self.old) name ≡ Some b
             → b.arena ≡ None → result ≡ Ok (Freed Unmapped) }
         ensures mapped { (b : Piece) → block_at (names_of self.old) name ≡ Some b
@@ -464,6 +471,9 @@ impl<K: Kernel> Thread<K> {
             (IsLeft (setting P.ways (means P.Hold.fast P.Hold.dials K.port) P.Dial.dials) t.now
             (who_of line self.old) (free_call t.now (number_of self.old) name (own_of self.old))
             (standing p.old (space_of self.old)) (standing p.new (space_of self.new))) }
+        ensures kept { StaysOpen (own_of self.old).cache (own_of self.new).cache }
+        ensures cache { is_open (own_of self.old).cache ≡ true
+            → OnErr result ((own_of self.new).cache ≡ (own_of self.old).cache) }
         ensures number { number_of self.new ≡ number_of self.old }
     {
         let who = self.who(line);

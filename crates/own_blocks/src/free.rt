@@ -7,7 +7,7 @@ ghost use Rattle.block_names.specs.Blocks.{IsHeld};
 ghost use Rattle.block_names.specs.Names.{block_at, with_some, without_block, has_place};
 ghost use Rattle.own_blocks.specs.Frees.{free_call, free_to, IsFreed, HoldsOrLoses};
 ghost use Rattle.own_blocks.specs.declared.cached.CachedFree.TheVariants.{Done};
-ghost use Rattle.thread_cache.specs.Caches.{takes, is_open};
+ghost use Rattle.thread_cache.specs.Caches.{takes, is_open, structure_of};
 ghost use Rattle.chunk_tags.specs.declared.block.Block.{Block as Piece};
 ghost use Rattle.own_blocks.specs.declared.reply.Reply.TheVariants.{Freed, NotYours};
 ghost use Rattle.own_blocks.specs.declared.reply.To.TheVariants.{Cached, Unmapped};
@@ -16,6 +16,7 @@ ghost use Rattle.arena_holds.specs.RunningShort.{RunsShort};
 ghost use Rattle.own_blocks.specs.LeftCalls.{IsLeft};
 ghost use Rattle.arena_holds.specs.Places.{setting, IsServed, Carries, standing};
 ghost use Rattle.own_blocks.specs.Own.{in_own, cached_end};
+ghost use Rattle.own_blocks.specs.Structure.{StaysOpen};
 
 use crate::opening::open_cache;
 use crate::own::Own;
@@ -69,6 +70,8 @@ fn free_chunk<P: Places, K: Kernel>(
         (RunsShort (setting P.ways (means P.Hold.fast P.Hold.dials K.port) P.Dial.dials) t.now
         who.now (free_to t.now a name b own.old)
         (standing p.old space.old) (standing p.new space.new)) }
+    ensures structure { structure_of own.new.cache ≡ structure_of own.old.cache }
+    ensures unchanged { OnErr result (own.new.cache ≡ own.old.cache) }
     ensures taken { OnOk result (own.new.names ≡ without_block name own.old.names) }
     ensures freed { IfOk result IsFreed }
     ensures cached { (b : Piece) → block_at own.old.names name ≡ Some b
@@ -116,6 +119,8 @@ pub fn free<P: Places, K: Kernel>(
         (IsLeft (setting P.ways (means P.Hold.fast P.Hold.dials K.port) P.Dial.dials) t.now who.now
         (free_call t.now who.now.thread name own.old)
         (standing p.old space.old) (standing p.new space.new)) }
+    ensures kept { StaysOpen own.old.cache own.new.cache }
+    ensures cache { is_open own.old.cache ≡ true → OnErr result (own.new.cache ≡ own.old.cache) }
     ensures taken { OnOk result (own.new.names ≡ without_block name own.old.names) }
     ensures freed { IfOk result IsFreed }
     ensures cached { cached_end own.old (block_at own.old.names name) ≡ Done

@@ -22,8 +22,8 @@ use thread_cache::STRUCTURE_SIZE;
 const STRUCTURE_BYTES: u64 = 640;
 
 /// Opens a cache where it is closed, in a chunk of an arena; where that is refused it stays closed (glibc's `tcache_init`). After
-/// `NoMemory` a chunk that was found for the structure is in nobody's hand; it never comes where the cache is open, and then
-/// nothing changes.
+/// `NoMemory` it is closed still, and a chunk that was found for the structure is in nobody's hand; it never comes where the
+/// cache is open, and then nothing changes.
 pub fn open_cache<P: Places, K: Kernel>(
     cache: &mut OwnCache,
     alloc: Global,
@@ -48,6 +48,7 @@ pub fn open_cache<P: Places, K: Kernel>(
         (in_cache cache.new) (standing p.new space.new) }
     ensures open { is_open cache.old ≡ true → is_ok result ≡ true }
     ensures cache { is_open cache.old ≡ true → cache.new ≡ cache.old }
+    ensures kept { OnErr result (cache.new ≡ cache.old) }
     ensures places { is_open cache.old ≡ true → p.new ≡ p.old }
 {
     if cache.is_open() {

@@ -155,6 +155,7 @@ impl OwnCache {
             (RunsShort (setting P.ways (means P.Hold.fast P.Hold.dials K.port) P.Dial.dials) t.now
             who.now (search_rules t.now who.now.thread bytes again act.now self.old)
             (standing p.old space.old) (standing p.new space.new)) }
+        ensures structure { structure_of self.new ≡ structure_of self.old }
     {
         search(alloc, p, who, act, bytes, again, &mut self.cache, space, t)
     }
@@ -189,6 +190,7 @@ impl OwnCache {
             (RunsShort (setting P.ways (means P.Hold.fast P.Hold.dials K.port) P.Dial.dials) t.now
             who.now (hold_of a (Resize b.addr b.size nb) self.old)
             (standing p.old space.old) (standing p.new space.new)) }
+        ensures structure { structure_of self.new ≡ structure_of self.old }
     {
         resize_held(alloc, p, a, who, b, nb, &mut self.cache, space, t)
     }

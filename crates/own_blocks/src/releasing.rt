@@ -3,7 +3,7 @@
 ghost use Rattle.std.specs.Prelude.{◌≡◌, ◌≤◌, true, false, nat_le, Some, Ok, IsTrue, IfOk, IfErr, OnOk, OnErr, is_ok};
 ghost use Rattle.chunk_tags.specs.Tunables.{IsTuned};
 ghost use Rattle.consolidate_trim.specs.Outside.{means};
-ghost use Rattle.thread_cache.specs.Caches.{CacheValue, takes};
+ghost use Rattle.thread_cache.specs.Caches.{CacheValue, takes, structure_of};
 ghost use Rattle.own_blocks.specs.Calls.{past_cache, releasing};
 ghost use Rattle.arena_holds.specs.Holding.{PushesWithRoom};
 ghost use Rattle.block_names.specs.Blocks.{IsHeld};
@@ -95,7 +95,7 @@ pub fn release_past_cache<P: Places, K: Kernel>(
 }
 
 /// Releases a chunk of an arena: into the cache where that takes it, else past it (glibc's `_int_free`). Where memory is short
-/// it comes back, or its arena has it.
+/// it comes back, or its arena has it, and the cache is as it was.
 pub fn release<P: Places, K: Kernel>(
     cache: &mut OwnCache,
     alloc: Global,
@@ -123,6 +123,8 @@ pub fn release<P: Places, K: Kernel>(
         (RunsShort (setting P.ways (means P.Hold.fast P.Hold.dials K.port) P.Dial.dials) t.now
         who.now (releasing t.now a block cache.old)
         (standing p.old space.old) (standing p.new space.new)) }
+    ensures structure { structure_of cache.new ≡ structure_of cache.old }
+    ensures unchanged { OnErr result (cache.new ≡ cache.old) }
     ensures cached { takes cache.old block ≡ true → result ≡ Ok Cached }
     ensures fast { nat_le block.size t.now.max_fast ≡ true → P.ways.room p.old a
         → is_ok result ≡ true }

@@ -1,6 +1,7 @@
 //! A block is got for a request: from the cache, or from an arena.
 
 ghost use Rattle.std.specs.Prelude.{◌≡◌, ◌^◌, ◌≤◌, true, false, IfSome, IsSome, IfOk, OnErr, option_map, is_ok};
+ghost use Rattle.thread_cache.specs.Caches.{structure_of};
 ghost use Rattle.chunk_tags.specs.Sizes.{IsRequestSize};
 ghost use Rattle.chunk_tags.specs.Tunables.{IsTuned};
 ghost use Rattle.consolidate_trim.specs.Outside.{means};
@@ -10,6 +11,7 @@ ghost use Rattle.arena_holds.specs.Searching.{IsSearch, IsAligned, size_wanted};
 ghost use Rattle.own_blocks.specs.Calls.{from_arena, from_cache, plain_supply, fresh_supply, origin_of, supply_of};
 ghost use Rattle.own_blocks.specs.LeftCalls.{IsLeft};
 ghost use Rattle.own_blocks.specs.Own.{newest_of_size};
+ghost use Rattle.own_blocks.specs.Structure.{StaysOpen};
 ghost use Rattle.own_blocks.specs.Supplying.{Supplies};
 
 use crate::opening::open_cache;
@@ -83,6 +85,7 @@ pub fn supply_from_arena<P: Places, K: Kernel>(
         (RunsShort (setting P.ways (means P.Hold.fast P.Hold.dials K.port) P.Dial.dials) t.now
         who.now (from_arena t.now who.now.thread bytes again act.now cache.old)
         (standing p.old space.old) (standing p.new space.new)) }
+    ensures structure { structure_of cache.new ≡ structure_of cache.old }
 {
     let search = cache.search(alloc, p, who, act, bytes, again, space, t)?;
     Ok(found(search))
@@ -114,6 +117,7 @@ fn supply_open<P: Places, K: Kernel>(
         (RunsShort (setting P.ways (means P.Hold.fast P.Hold.dials K.port) P.Dial.dials) t.now
         who.now (from_cache t.now who.now.thread bytes nb (newest_of_size nb cache.old) cache.old)
         (standing p.old space.old) (standing p.new space.new)) }
+    ensures structure { structure_of cache.new ≡ structure_of cache.old }
     ensures cached { IsSome (newest_of_size nb cache.old) → is_ok result ≡ true }
 {
     match take_newest(cache, nb) {
@@ -156,6 +160,7 @@ pub fn plain_supply<P: Places, K: Kernel>(
         (IsLeft (setting P.ways (means P.Hold.fast P.Hold.dials K.port) P.Dial.dials) t.now who.now
         (plain_supply t.now who.now.thread bytes nb cache.old)
         (standing p.old space.old) (standing p.new space.new)) }
+    ensures kept { StaysOpen cache.old cache.new }
     ensures cached { IsSome (newest_of_size nb cache.old) → is_ok result ≡ true }
 {
     open_cache(cache, alloc, p, who, space, t)?;
@@ -189,6 +194,7 @@ pub fn fresh_supply<P: Places, K: Kernel>(
         (IsLeft (setting P.ways (means P.Hold.fast P.Hold.dials K.port) P.Dial.dials) t.now who.now
         (fresh_supply t.now who.now.thread bytes nb cache.old)
         (standing p.old space.old) (standing p.new space.new)) }
+    ensures kept { StaysOpen cache.old cache.new }
 {
     open_cache(cache, alloc, p, who, space, t)?;
     let act = Act::Take { nb };

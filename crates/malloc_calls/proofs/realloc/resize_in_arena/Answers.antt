@@ -1,5 +1,7 @@
+use Rattle.std.proofs.Common.{◌∙◌}
 use Rattle.arena_core.proofs.Opens.{on_err}
 use Rattle.malloc_calls.proofs.Resettlings.{resized_kept, resized_moved, resized_refused, resized_short, unresized_left, resized_left, served_refused}
+use Rattle.own_blocks.proofs.Structures.{open_still}
 use Rattle.malloc_calls.proofs.realloc.resize_in_arena.Goals as goal
 
 pub move_from_arena-requires-clause-served : goal.move_from_arena-requires-clause-served
@@ -38,3 +40,7 @@ pub returns-in-Refused-clause-left : goal.returns-in-Refused-clause-left
 returns-in-Refused-clause-left g c =
     resized_left c.args.who.now.thread c.args.size c.args.nb c.args.a c.args.block c.in-Refused.block c.args.cache.now _ c.in_ok-hold.field-0.resized c.move_from_arena.result
     c.in-Refused.is c.in_ok-hold.ensures.resizes c.move_from_arena.ensures.left
+
+pub returns-in-Refused-clause-kept : goal.returns-in-Refused-clause-kept
+returns-in-Refused-clause-kept g c = λ was.
+    c.move_from_arena.ensures.kept (open_still c.args.cache.now c.resize.new.self c.resize.ensures.structure was) ∙ c.resize.ensures.structure

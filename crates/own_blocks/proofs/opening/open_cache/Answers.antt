@@ -4,6 +4,8 @@ use Rattle.arena_core.proofs.Opens.{on_err}
 use Rattle.own_blocks.proofs.LeftCalls.{left_search, left_unopened}
 use Rattle.own_blocks.proofs.Calling.{opening_here, opening_found, opened_does, opened_carries}
 use Rattle.arena_holds.proofs.Carrying.{carries_here, carries_as}
+use Rattle.arena_holds.proofs.Searches.{err_map}
+use Rattle.own_blocks.proofs.Structures.{closed_still}
 use Rattle.own_blocks.proofs.opening.open_cache.Goals as goal
 
 pub returns-then-is_open-clause-does : goal.returns-then-is_open-clause-does
@@ -46,3 +48,12 @@ pub returns-in-Some-clause-left : goal.returns-in-Some-clause-left
 returns-in-Some-clause-left g c =
     on_err c.open.result
     (left_unopened c.args.cache.now c.in-Some.structure (sym c.is_open.ensures ∙ c.if-is_open.false) (rw c.in-Some.is at c.in_ok-block.ensures.finds))
+
+pub returns-in_err-block-clause-kept : goal.returns-in_err-block-clause-kept
+returns-in_err-block-clause-kept g c =
+    on_err c.from_residual.result (closed_still c.args.cache.now c.search.new.self c.search.ensures.structure (sym c.is_open.ensures ∙ c.if-is_open.false))
+
+pub returns-in-Some-clause-kept : goal.returns-in-Some-clause-kept
+returns-in-Some-clause-kept g c =
+    err_map c.open.result
+    (λ same. same ∙ closed_still c.args.cache.now c.search.new.self c.search.ensures.structure (sym c.is_open.ensures ∙ c.if-is_open.false)) c.open.ensures.unchanged
