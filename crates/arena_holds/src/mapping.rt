@@ -21,7 +21,8 @@ use realloc_align::{block_in_mapping, size_with_lead};
 pub fn free_mapped<P: Places, K: Kernel>(p: &mut P, b: Block, space: &mut Space<K>, t: &Tunables)
     requires mapped { IsMapped b }
     requires served { IsServed P.ways t.now (λ weigh. weigh b) (standing p.old space.old) }
-    ensures frees { FreesMapped (setting P.ways (means P.Hold.fast P.Hold.dials K.port) P.Dial.dials) t.now b
+    ensures frees { FreesMapped
+        (setting P.ways (means P.Hold.fast P.Hold.dials K.port) P.Dial.dials) t.now b
         (standing p.old space.old) (standing p.new space.new) }
 {
     let mut dials = p.dial_out();
@@ -34,7 +35,8 @@ pub fn unmap_mapped<P: Places, K: Kernel>(p: &mut P, b: Block, space: &mut Space
     requires mapped { IsMapped b }
     requires served { IsServed P.ways (P.ways.tunables p.old) (λ weigh. weigh b)
         (standing p.old space.old) }
-    ensures unmaps { UnmapsMapped (setting P.ways (means P.Hold.fast P.Hold.dials K.port) P.Dial.dials) b
+    ensures unmaps { UnmapsMapped
+        (setting P.ways (means P.Hold.fast P.Hold.dials K.port) P.Dial.dials) b
         (standing p.old space.old) (standing p.new space.new) }
 {
     let mut dials = p.dial_out();
@@ -72,7 +74,8 @@ pub fn remap_mapped<P: Places, K: Kernel>(
     requires other { remap_length b nb ≢ mapping_bytes b }
     requires served { IsServed P.ways (P.ways.tunables p.old) (λ weigh. weigh b)
         (standing p.old space.old) }
-    ensures remaps { RemapsMapped (setting P.ways (means P.Hold.fast P.Hold.dials K.port) P.Dial.dials) b nb
+    ensures remaps { RemapsMapped
+        (setting P.ways (means P.Hold.fast P.Hold.dials K.port) P.Dial.dials) b nb
         (standing p.old space.old) result (standing p.new space.new) }
 {
     // For its clause: the next place is an address.

@@ -50,7 +50,8 @@ fn search_in<P: Places, K: Kernel>(
         Finds (setting P.ways (means P.Hold.fast P.Hold.dials K.port) P.Dial.dials) t.now who.now
         (search_in a act.now cache.old) act.now cache.old (standing p.old space.old)
         found.hold found.block cache.new (standing p.new space.new)) }
-    ensures short { OnErr result (Carries P.ways false (in_cache cache.old) (standing p.old space.old)
+    ensures short { OnErr result
+        (Carries P.ways false (in_cache cache.old) (standing p.old space.old)
         (in_cache cache.new) (standing p.new space.new)) }
     ensures left { OnErr result
         (RunsShort (setting P.ways (means P.Hold.fast P.Hold.dials K.port) P.Dial.dials) t.now
@@ -84,7 +85,8 @@ fn search_reused<P: Places, K: Kernel>(
         FindsChosen (setting P.ways (means P.Hold.fast P.Hold.dials K.port) P.Dial.dials) t.now
         who.now (search_reused who.now.thread fresh start act.now cache.old) act.now
         cache.old (standing p.old space.old) (Some tried) cache.new (standing p.new space.new)) }
-    ensures short { OnErr result (Carries P.ways false (in_cache cache.old) (standing p.old space.old)
+    ensures short { OnErr result
+        (Carries P.ways false (in_cache cache.old) (standing p.old space.old)
         (in_cache cache.new) (standing p.new space.new)) }
     ensures left { OnErr result
         (RunsShort (setting P.ways (means P.Hold.fast P.Hold.dials K.port) P.Dial.dials) t.now
@@ -164,7 +166,8 @@ fn search_by_choice<P: Places, K: Kernel>(
         FindsChosen (setting P.ways (means P.Hold.fast P.Hold.dials K.port) P.Dial.dials) t.now
         who.now (search_by_choice who.now.thread fresh bytes act.now cache.old choice) act.now
         cache.old (standing p.old space.old) tried cache.new (standing p.new space.new)) }
-    ensures short { OnErr result (Carries P.ways false (in_cache cache.old) (standing p.old space.old)
+    ensures short { OnErr result
+        (Carries P.ways false (in_cache cache.old) (standing p.old space.old)
         (in_cache cache.new) (standing p.new space.new)) }
     ensures left { OnErr result
         (RunsShort (setting P.ways (means P.Hold.fast P.Hold.dials K.port) P.Dial.dials) t.now
@@ -211,7 +214,8 @@ fn choose_and_search<P: Places, K: Kernel>(
         FindsChosen (setting P.ways (means P.Hold.fast P.Hold.dials K.port) P.Dial.dials) t.now
         who.now (choose_and_search t.now who.now.thread fresh bytes act.now cache.old) act.now
         cache.old (standing p.old space.old) tried cache.new (standing p.new space.new)) }
-    ensures short { OnErr result (Carries P.ways false (in_cache cache.old) (standing p.old space.old)
+    ensures short { OnErr result
+        (Carries P.ways false (in_cache cache.old) (standing p.old space.old)
         (in_cache cache.new) (standing p.new space.new)) }
     ensures left { OnErr result
         (RunsShort (setting P.ways (means P.Hold.fast P.Hold.dials K.port) P.Dial.dials) t.now
@@ -244,7 +248,8 @@ fn search_again<P: Places, K: Kernel>(
         (search_again t.now who.now.thread bytes refused act.now cache.old) act.now
         cache.old (standing p.old space.old) found.hold found.block
         cache.new (standing p.new space.new)) }
-    ensures short { OnErr result (Carries P.ways false (in_cache cache.old) (standing p.old space.old)
+    ensures short { OnErr result
+        (Carries P.ways false (in_cache cache.old) (standing p.old space.old)
         (in_cache cache.new) (standing p.new space.new)) }
     ensures left { OnErr result
         (RunsShort (setting P.ways (means P.Hold.fast P.Hold.dials K.port) P.Dial.dials) t.now
@@ -286,7 +291,8 @@ pub fn search<P: Places, K: Kernel>(
         (search_rules t.now who.now.thread bytes again act.now cache.old) act.now
         cache.old (standing p.old space.old) found.hold found.block
         cache.new (standing p.new space.new)) }
-    ensures short { OnErr result (Carries P.ways false (in_cache cache.old) (standing p.old space.old)
+    ensures short { OnErr result
+        (Carries P.ways false (in_cache cache.old) (standing p.old space.old)
         (in_cache cache.new) (standing p.new space.new)) }
     ensures left { OnErr result
         (RunsShort (setting P.ways (means P.Hold.fast P.Hold.dials K.port) P.Dial.dials) t.now

@@ -1,6 +1,6 @@
 //! Replays a trace as `ptmreplay` does, but over ports that refuse asks: a program for tests. Its words are those of
 //! `ptmreplay`, and `--budget=PORT:BYTES:LIST` for the port of a thread. That port refuses what would take it past so many bytes,
-//! and the asks with the numbers of the list, as `2,4-6`, counted from 1.
+//! and the asks with the numbers of the list, as `2,4-6`, counted from 1. A number is what std's `parse` takes, as `+1` or `01`.
 #![tactic(auto)]
 
 mod budgets;
