@@ -1,6 +1,6 @@
 //! Writing a trace.
 
-ghost use Rattle.std.specs.Prelude.{◌≡◌, ◌+◌, ◌≤◌, [], ◌∷◌, ◌++◌, length, codes, drop, IfOk, OnOk, OnErr};
+ghost use Rattle.std.specs.Prelude.{◌≡◌, ◌+◌, ◌<◌, ◌≤◌, [], ◌∷◌, ◌++◌, length, codes, drop, vec_capacity, IfOk, OnOk, OnErr};
 ghost use Rattle.std.specs.Fmt.{decimal};
 ghost use Rattle.trace_text.specs.Grammar.{header, whole, reading_of};
 ghost use Rattle.trace_text.specs.Spelling.{spaced, call_spelling, spelling_of, spelling, Allows};
@@ -107,11 +107,13 @@ fn put_line(text: &mut [u8], line: &Line) -> usize
     put_digits(text, end, u64::from(line.thread))
 }
 
-/// Puts the one spelling of a line at the end, without its newline. Want of memory leaves the bytes as
-/// they were.
+/// Puts the one spelling of a line at the end, without its newline. Want of memory comes only where the room that is left is
+/// less, and leaves the bytes as they were.
 pub fn append_line(out: &mut Vec<u8>, line: &Line) -> Result<(), NoMemory>
     ensures ok { OnOk result (out.new.items ≡ out.old.items ++ spelling_of line.now) }
     ensures err { OnErr result (out.new.items ≡ out.old.items) }
+    ensures full { OnErr result
+        (vec_capacity out.old < length out.old.items + length (spelling_of line.now)) }
 {
     let mut text = [0u8; 96];
     let start = put_line(&mut text, line);
