@@ -204,14 +204,6 @@ cache_after_deed number (Draws size) cache = without_newest cache (cache_index_o
 cache_after_deed number (Gives back) cache = cache
 cache_after_deed number (Counts len) cache = cache
 
--- the caller's cache after a hold of the arena with this number
-abbrev pub cache_after : {A : Type 0} → ℕ → Rules A → List Said → CacheValue → CacheValue
-cache_after number (Stop x) ss cache = cache
-cache_after number Misfit ss cache = cache
-cache_after number (Does d r) ss cache = cache_after number r ss (cache_after_deed number d cache)
-cache_after number (Needs a n f) [] cache = cache
-cache_after number (Needs a n f) (s ∷ ss) cache = cache_after number (f s) ss cache
-
 -- the deeds of a hold, in order
 abbrev pub deeds_of : {A : Type 0} → Rules A → List Said → List Deed
 deeds_of (Stop x) ss = []
