@@ -1,5 +1,5 @@
 -- What is true of each result that a call without trays may come to, and of the names that it leaves.
-use Rattle.std.proofs.Common.{◌≡◌, ℕ, zero, suc, ◌-◌, ◌*◌, Bool, true, false, cond, List, [], ◌∷◌, Option, Some, None, refl, sym, ap, ◌∙◌, subst}
+use Rattle.std.proofs.Common.{◌≡◌, ℕ, ◌-◌, ◌*◌, Bool, true, false, cond, List, [], ◌∷◌, Option, Some, None, refl, sym, ap, ◌∙◌, subst}
 use Rattle.std.specs.Prelude.{nat_le, nat_eq, is_some}
 use Rattle.std.proofs.lemmas.Bool.{eq-eqb}
 use Rattle.block_names.proofs.Tables.{at_same, at_other, place_of, without_none}

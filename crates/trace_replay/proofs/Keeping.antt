@@ -1,5 +1,5 @@
 -- What a call of a thread keeps, that first made a place for a name.
-use Rattle.std.proofs.Common.{◌≡◌, ℕ, zero, suc, ◌+◌, ◌-◌, true, false, List, length, replicate, Option, None, refl, sym, ap, ◌∙◌, subst, arith}
+use Rattle.std.proofs.Common.{◌≡◌, ℕ, true, false, length, refl, sym, ap, ◌∙◌, subst, arith}
 use Rattle.chunk_tags.specs.declared.block.Block.{Block}
 use Rattle.chunk_tags.specs.declared.tunables.Tunables.{Tunables}
 use Rattle.address_space.specs.declared.space.Space.{Space}
@@ -7,7 +7,7 @@ use Rattle.own_blocks.specs.declared.own.Own.{Own}
 use Rattle.malloc_calls.specs.declared.thread.Thread.{Thread}
 use Rattle.block_names.specs.Names.{IsTable, with_place}
 use Rattle.block_names.proofs.Tables.{place_weighs}
-use Rattle.own_blocks.specs.Own.{in_names, in_own}
+use Rattle.own_blocks.specs.Own.{in_own}
 use Rattle.malloc_calls.specs.Threads.{own_of, names_of, space_of, number_of, with_names}
 use Rattle.arena_holds.specs.Places.{Hands, weight_of, both_of, as_mapped_byte, given_byte, standing, Carries}
 use Rattle.arena_holds.specs.Returning.{IsUnseen}

@@ -1,8 +1,7 @@
 -- Where a line's call is left for want of memory, that first made a place for its name.
-use Rattle.std.proofs.Common.{◌≡◌, ℕ, ◌⊎◌, inl, inr, false, Option, Some, None, Result, refl, sym, ap, ◌∙◌, subst}
+use Rattle.std.proofs.Common.{◌≡◌, ℕ, inl, inr, false, Some, None, Result, refl, sym, ap, ◌∙◌, subst}
 use Rattle.std.specs.Prelude.{OnErr}
 use Rattle.std.proofs.lemmas.Bool.Decides.{eqb_tells}
-use Rattle.std.proofs.lemmas.Result.{on_err_weaker}
 use Rattle.chunk_tags.specs.declared.refusals.NoMemory.{NoMemory}
 use Rattle.chunk_tags.specs.declared.tunables.Tunables.{Tunables}
 use Rattle.address_space.specs.Ports.{Port}
@@ -10,7 +9,7 @@ use Rattle.arena_core.specs.declared.journal.Who.{Who}
 use Rattle.arena_holds.specs.Calls.{Call}
 use Rattle.arena_holds.specs.RunningShort.{RunsShort}
 use Rattle.arena_holds.specs.Places.{Setting, Standing, standing}
-use Rattle.block_names.specs.Names.{NameTable, has_place, block_at, without_block}
+use Rattle.block_names.specs.Names.{NameTable, has_place, block_at}
 use Rattle.block_names.proofs.Tables.{at_other, without_none}
 use Rattle.own_blocks.specs.Exits.{exit_call}
 use Rattle.own_blocks.specs.Frees.{HoldsOrLoses}

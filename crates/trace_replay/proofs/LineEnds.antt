@@ -1,5 +1,5 @@
 -- What a line keeps at its end, where the place of its name goes.
-use Rattle.std.proofs.Common.{◌≡◌, ℕ, ◌+◌, ◌≤◌, true, List, Option, Some, None, refl, sym, ap, ◌∙◌, subst, arith}
+use Rattle.std.proofs.Common.{◌≡◌, ℕ, true, List, Option, Some, None, refl, sym, ap, ◌∙◌, subst, arith}
 use Rattle.chunk_tags.specs.declared.block.Block.{Block}
 use Rattle.own_blocks.specs.declared.own.Own.{Own}
 use Rattle.own_blocks.specs.declared.reply.Reply.{Reply}
@@ -8,8 +8,8 @@ use Rattle.block_names.specs.Names.{NameTable, IsTable, FarNamesRise, block_at, 
 use Rattle.block_names.proofs.Tables.{at_tidied, tidied_weighs}
 use Rattle.own_blocks.specs.Own.{in_own}
 use Rattle.malloc_calls.specs.Threads.{own_of, with_own, with_names, names_of}
-use Rattle.arena_holds.specs.Places.{Hands, weight_of, both_of, as_mapped_byte}
-use Rattle.serial_places.specs.SerialWays.{SerialState, Serves}
+use Rattle.arena_holds.specs.Places.{weight_of, both_of, as_mapped_byte}
+use Rattle.serial_places.specs.SerialWays.{SerialState}
 use Rattle.serial_places.specs.SerialPlaces.{serial_laws}
 use Rattle.serial_places.specs.declared.tray.Tray.{Tray}
 use Rattle.trace_text.specs.declared.trace.Call.{Call}

@@ -1,9 +1,9 @@
 -- Where a line of a trace is left for want of memory (this project's own). No public clause cites this file.
-use Rattle.std.specs.Prelude.{◌≡◌, ◌⊎◌, ℕ, false, List, ◌∷◌, Option, Some, None, take, slice_get, slice_set}
+use Rattle.std.specs.Prelude.{◌≡◌, ◌⊎◌, ℕ, false, List, Some, None, take, slice_get, slice_set}
 use Rattle.chunk_tags.specs.declared.tunables.Tunables.{Tunables}
 use Rattle.address_space.specs.Ports.{Port}
 use Rattle.arena_holds.specs.Places.{standing}
-use Rattle.block_names.specs.Names.{NameTable, has_place, block_at}
+use Rattle.block_names.specs.Names.{has_place, block_at}
 use Rattle.own_blocks.specs.LeftCalls.{IsLeft}
 use Rattle.own_blocks.specs.declared.reply.Reply.{Reply}
 use Rattle.malloc_calls.specs.declared.thread.Thread.{Thread}
@@ -14,7 +14,7 @@ use Rattle.trace_text.specs.declared.trace.Line.{Line}
 use Rattle.trace_replay.specs.declared.process.Process.{Process}
 use Rattle.trace_replay.specs.declared.sheet.Sheet.{Sheet}
 use Rattle.trace_replay.specs.Processes.{world_of, Tells, step_in, run_in, IsBetweenCalls}
-use Rattle.trace_replay.specs.Sheets.{Awaits, LacksRoomFor, NotesRun}
+use Rattle.trace_replay.specs.Sheets.{LacksRoomFor, NotesRun}
 use Rattle.trace_replay.specs.World.{call_of, name_in}
 
 -- ---- the call of a line

@@ -1,6 +1,6 @@
 -- Which names and trays hold blocks, beside what the lines of the trace say of them (this project's own). No public clause
 -- cites this file.
-use Rattle.std.specs.Prelude.{◌≡◌, ℕ, ◌≤◌, Bool, false, List, Option, Some, None, slice_get, slice_set}
+use Rattle.std.specs.Prelude.{◌≡◌, ℕ, ◌≤◌, Bool, false, List, Some, None, slice_get, slice_set}
 use Rattle.chunk_tags.specs.Sizes.{chunk_size_of}
 use Rattle.chunk_tags.specs.declared.block.Block.{Block}
 use Rattle.block_names.specs.Names.{NameTable, block_at}

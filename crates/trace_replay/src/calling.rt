@@ -226,7 +226,8 @@ fn take<K: Kernel>(
     Ok(thread.take(serial, name, tray))
 }
 
-/// The call of a line, by its thread.
+/// The call of a line, by its thread. `NoMemory` comes only where its name has no place yet, or where it asks for memory on
+/// its way.
 pub fn call<K: Kernel>(
     alloc: Global,
     thread: &mut Thread<K>,
