@@ -5,7 +5,7 @@ use Rattle.std.proofs.lemmas.Bool.Decides.{nat_tests}
 use Rattle.chunk_tags.specs.declared.tunables.Tunables.{Tunables}
 use Rattle.arena_choice.specs.Numbers.{has, Apart, without, with_second}
 use Rattle.arena_choice.specs.Books.{BookValue, IsSound, attached_to, arena_of, numbers_of, first_book, no_arenas}
-use Rattle.arena_choice.specs.Choices.{has_place, new_number, with_new_number, without_newest_free, with_limit_settled, listed, behind, attached_book, reused_book, undone_book, left_book, detached_book, newest_free, own_arena, start_of, new_or_reuse, after_new_or_reuse, choice_from, book_from, choice_of, after_choice, CanAttach, IsUsable}
+use Rattle.arena_choice.specs.Choices.{has_number_left, new_number, with_new_number, without_newest_free, with_limit_settled, listed, next_behind, attached_book, reused_book, undone_book, left_book, detached_book, newest_free, own_arena, start_of, new_or_reuse, after_new_or_reuse, choice_from, book_from, choice_of, after_choice, CanAttach, IsUsable}
 use Rattle.arena_choice.specs.declared.choice.Choice.TheVariants.{New, Reuse}
 use Rattle.arena_choice.proofs.NumberLaws.{same, has_first, has_more, has-append, gone, was_there, Apart-without, length-without, length-without_one, no_more, lowest_not_there, has-with_second, Apart-with_second, length-with_second, behind_in}
 use Rattle.arena_choice.proofs.AttachedLaws.{weight, attached-set, attached-get, none_at_first}
@@ -154,7 +154,7 @@ pub sound_undone : (b : BookValue) (a : ℕ) → IsSound b → IsSound (undone_b
 sound_undone b a s = fewer_kept b (without a b.kept) s (Apart-without a b.kept s.kept) (λ q. was_there q a b.kept) (length-without a b.kept)
 
 -- where there is a place for a new arena, the kept numbers have room for one more
-pub place_left : (b : BookValue) → has_place b ≡ true → length b.list + length b.kept < b.records
+pub place_left : (b : BookValue) → has_number_left b ≡ true → length b.list + length b.kept < b.records
 place_left b h =
     let below : nat_lt (length (numbers_of b)) b.records ≡ true = and_right (b.limit == 0 || nat_lt (length (numbers_of b)) b.limit) (nat_lt (length (numbers_of b)) b.records) h in
     let lt : length (numbers_of b) < b.records = grind (arith, nat_tests) in
@@ -169,7 +169,7 @@ pub new_unkept : (b : BookValue) → has (new_number b) b.kept ≡ false
 new_unkept b =
     or_right (has (new_number b) b.list) (has (new_number b) b.kept) (sym (has-append (new_number b) b.list b.kept) ∙ lowest_not_there (numbers_of b))
 
-pub sound_with_new_number : (b : BookValue) → IsSound b → has_place b ≡ true → IsSound (with_new_number b)
+pub sound_with_new_number : (b : BookValue) → IsSound b → has_number_left b ≡ true → IsSound (with_new_number b)
 sound_with_new_number b s place = record {
   main = s.main;
   list = s.list;
@@ -216,7 +216,7 @@ start_usable b (Some a) s e = s.next a e
 
 new_or_reuse_usable : (b : BookValue) → IsSound b → IsUsable (after_new_or_reuse b) (new_or_reuse b)
 new_or_reuse_usable b s =
-    elim (has_place b) as (λ t. IsUsable (cond t (with_new_number b) b) (cond t (New (new_number b)) (Reuse (start_of b.next)))) [
+    elim (has_number_left b) as (λ t. IsUsable (cond t (with_new_number b) b) (cond t (New (new_number b)) (Reuse (start_of b.next)))) [
       | true ↦ new_usable b s
       | false ↦ start_usable b b.next s refl
     ]
@@ -305,7 +305,7 @@ pub sound_attached : (b : BookValue) (thread a : ℕ) → IsSound b → CanAttac
 sound_attached b thread a s can =
     sound_with_thread (record b { list = listed b a; kept = without a b.kept }) thread a (sound_listed b a s) (in_listed b a can.known) (λ _. can.idle)
 
-pub behind_listed : (b : BookValue) (a : ℕ) → IsSound b → has (behind b a) b.list ≡ true
+pub behind_listed : (b : BookValue) (a : ℕ) → IsSound b → has (next_behind b a) b.list ≡ true
 behind_listed b a s =
     elim (behind_in 0 a b.list) [
       | inl e ↦ subst (λ y. has y b.list ≡ true) (sym e) (main_in b.list s.main)
@@ -330,7 +330,7 @@ sound_next b a s known = record {
 
 pub sound_reused : (b : BookValue) (thread a : ℕ) → IsSound b → has a b.list ≡ true → IsSound (reused_book b thread a)
 sound_reused b thread a s known =
-    sound_with_thread (record b { next = Some (behind b a) }) thread a (sound_next b (behind b a) s (behind_listed b a s)) known (λ e. absurd cc)
+    sound_with_thread (record b { next = Some (next_behind b a) }) thread a (sound_next b (next_behind b a) s (behind_listed b a s)) known (λ e. absurd cc)
 
 -- ---- leaving an arena
 
@@ -389,11 +389,11 @@ sound_freed b a s known apart idle = record {
 
 sound_new_or_reuse : (b : BookValue) → IsSound b → IsSound (after_new_or_reuse b)
 sound_new_or_reuse b s =
-    let go : (t : Bool) → has_place b ≡ t → IsSound (cond t (with_new_number b) b) = elim [
+    let go : (t : Bool) → has_number_left b ≡ t → IsSound (cond t (with_new_number b) b) = elim [
       | true ↦ λ place. sound_with_new_number b s place
       | false ↦ λ place. s
     ] in
-    go (has_place b) refl
+    go (has_number_left b) refl
 
 sound_from : (own free : Option ℕ) (t : Tunables) (b : BookValue) → IsSound b → IsSound (book_from own free t b)
 sound_from (Some a) free t b s = s

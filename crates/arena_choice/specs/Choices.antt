@@ -35,8 +35,8 @@ abbrev pub with_limit_settled : Tunables → BookValue → BookValue
 with_limit_settled t b = record b { limit = cond (b.limit == 0) (new_limit t (length (numbers_of b))) b.limit }
 
 -- whether one more arena may be made: none is settled or fewer exist than the limit says, and fewer than there may be
-abbrev pub has_place : BookValue → Bool
-has_place b = (b.limit == 0 || nat_lt (length (numbers_of b)) b.limit) && nat_lt (length (numbers_of b)) b.records
+abbrev pub has_number_left : BookValue → Bool
+has_number_left b = (b.limit == 0 || nat_lt (length (numbers_of b)) b.limit) && nat_lt (length (numbers_of b)) b.records
 
 -- the number of a new arena: the lowest that none has
 abbrev pub new_number : BookValue → ℕ
@@ -53,10 +53,10 @@ start_of (Some a) = a
 
 -- where the limit is settled: a new arena where there is a place for it, else one to be reused
 abbrev pub new_or_reuse : BookValue → Choice
-new_or_reuse b = cond (has_place b) (New (new_number b)) (Reuse (start_of b.next))
+new_or_reuse b = cond (has_number_left b) (New (new_number b)) (Reuse (start_of b.next))
 
 abbrev pub after_new_or_reuse : BookValue → BookValue
-after_new_or_reuse b = cond (has_place b) (with_new_number b) b
+after_new_or_reuse b = cond (has_number_left b) (with_new_number b) b
 
 -- the choice: the thread's own arena, else the newest of the free list, else a new one or one to be reused
 abbrev pub choice_from : Option ℕ → Option ℕ → BookValue → Choice
@@ -92,8 +92,8 @@ IsUsable b (Reuse start) = has start b.list ≡ true
 -- ---- getting and leaving
 
 -- the arena behind another, round the list: behind the last one comes main
-abbrev pub behind : BookValue → ℕ → ℕ
-behind b a = behind_or 0 a b.list
+abbrev pub next_behind : BookValue → ℕ → ℕ
+next_behind b a = behind_or 0 a b.list
 
 -- the list with a kept number as its newest, which stands behind main; an arena of the list stays where it is
 abbrev pub listed : BookValue → ℕ → List ℕ
@@ -112,7 +112,7 @@ attached_book b thread a = record b {
 abbrev pub reused_book : BookValue → ℕ → ℕ → BookValue
 reused_book b thread a = record b {
   free = without a b.free;
-  next = Some (behind b a);
+  next = Some (next_behind b a);
   arenas = with_arena thread (Some a) b.arenas;
 }
 

@@ -3,7 +3,7 @@
 ghost use Rattle.std.specs.Prelude.{◌≡◌, ◌≤◌, true, IfOk, IsTrue};
 ghost use Rattle.arena_choice.specs.Numbers.{has};
 ghost use Rattle.arena_choice.specs.Books.{first_book, arena_of, attached_to, is_at, with_arena, no_arenas, IsSound};
-ghost use Rattle.arena_choice.specs.Choices.{choice_of, after_choice, behind, attached_book, reused_book, undone_book, detached_book, newest_free, without_newest_free, with_limit_settled, limit_by_cores, has_place, new_number, with_new_number, CanAttach, IsUsable};
+ghost use Rattle.arena_choice.specs.Choices.{choice_of, after_choice, next_behind, attached_book, reused_book, undone_book, detached_book, newest_free, without_newest_free, with_limit_settled, limit_by_cores, has_number_left, new_number, with_new_number, CanAttach, IsUsable};
 
 use crate::choice::Choice;
 use crate::row::{Row, lowest_unused, move_over};
@@ -194,7 +194,7 @@ impl Book {
     /// The arena behind another, round the list (glibc's `next`).
     pub fn after(&self, a: u8) -> u8
         requires { has a self.now.list ≡ true }
-        ensures { result ≡ behind self.now a }
+        ensures { result ≡ next_behind self.now a }
     {
         self.list.behind_or(0, a)
     }
@@ -246,7 +246,7 @@ impl Book {
 
     /// Whether one more arena may be made.
     fn has_place(&self) -> bool
-        ensures { result ≡ has_place self.now }
+        ensures { result ≡ has_number_left self.now }
     {
         let count = self.list.len() + self.kept.len();
         (self.limit == 0 || count < self.limit as usize) && count < usize::from(self.records)
@@ -254,7 +254,7 @@ impl Book {
 
     /// Keeps the lowest number that no arena has, for a new one.
     fn keep_number(&mut self) -> u8
-        requires { IsTrue (has_place self.old) }
+        requires { IsTrue (has_number_left self.old) }
         ensures number { result ≡ new_number self.old }
         ensures book { self.new ≡ with_new_number self.old }
     {

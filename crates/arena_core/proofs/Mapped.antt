@@ -29,7 +29,7 @@ use Rattle.arena_rules.specs.Walks.{Walks}
 use Rattle.arena_rules.proofs.Mapped.{maps_once_behind, searched_maps_once, given_never_maps, opened_never_maps}
 use Rattle.arena_rules.proofs.KeptMappings.{resize_maps_within, align_maps_once}
 use Rattle.consolidate_trim.specs.Outside as outside
-use Rattle.consolidate_trim.specs.Outside.{Means, Outside, Goes, ways}
+use Rattle.consolidate_trim.specs.Outside.{Means, Outside, AnswerGoes, ways}
 use Rattle.arena_core.specs.declared.journal.Act.{Act}
 use Rattle.arena_core.specs.declared.journal.Act.TheVariants.{Open, Take, Give, Resize, Align}
 use Rattle.arena_core.specs.Replay.{rules_of, found_nothing, chunk_at}
@@ -107,7 +107,7 @@ list_structure : (c : CacheValue) (i : ℕ) (blocks : List Block) → structure_
 list_structure None i blocks = refl
 list_structure (Some c) i blocks = refl
 
-goes_framed : {P K : Type 0} (m : Means P K) (o p : Outside P K) (n : Need) (s : Said) → Goes m o n s p → IsFramed m o p
+goes_framed : {P K : Type 0} (m : Means P K) (o p : Outside P K) (n : Need) (s : Said) → AnswerGoes m o n s p → IsFramed m o p
 goes_framed m o p Flagged (told.Flag b) h = framed_port m o p h.others
 goes_framed m o p (Pops bin) (told.Popped at) h = framed_port m o p h.others
 goes_framed m o p (Owns bin) (told.Own at) h = framed_port m o p h.others
@@ -121,7 +121,7 @@ goes_framed m o p (Maps len) (told.Asked asked Refused) h =
 goes_framed m o p (Reads which) (told.Dial n) h = framed_port m o p h.others
 goes_framed m o p n s h = absurd h
 
-does_framed : {P K : Type 0} (m : Means P K) (number : ℕ) (o p : Outside P K) (d : Deed) → outside.Does m number o d p → IsFramed m o p
+does_framed : {P K : Type 0} (m : Means P K) (number : ℕ) (o p : Outside P K) (d : Deed) → outside.DeedGoes m number o d p → IsFramed m o p
 does_framed m number o p Clears h = framed_port m o p h.others
 does_framed m number o p (Gathers bin) h = framed_port m o p h.others
 does_framed m number o p (Pushes bin at) h = framed_port m o p h.others
@@ -178,7 +178,7 @@ abbrev IsUnmapped : Need → Type 0
 IsUnmapped (Maps len) = ⊥
 IsUnmapped n = Unit {0}
 
-does_same : {P K : Type 0} (m : Means P K) (number : ℕ) (shown : P → MappedShown) → ShowsMapped m.fast m.dials shown → (o p : Outside P K) (d : Deed) → IsUncounted d → outside.Does m number o d p → Same shown o p
+does_same : {P K : Type 0} (m : Means P K) (number : ℕ) (shown : P → MappedShown) → ShowsMapped m.fast m.dials shown → (o p : Outside P K) (d : Deed) → IsUncounted d → outside.DeedGoes m number o d p → Same shown o p
 does_same m number shown shows o p Clears u h = same_port shown o p (shows.steps o.port p.port fasts.Clears h.did.step) h.others
 does_same m number shown shows o p (Gathers bin) u h = same_port shown o p (shows.steps o.port p.port (fasts.Gathers bin) h.did.step) h.others
 does_same m number shown shows o p (Pushes bin at) u h = same_port shown o p (shows.steps o.port p.port (fasts.Pushes bin at) h.did.step) h.others
@@ -187,7 +187,7 @@ does_same m number shown shows o p (Draws size) u h = same_space shown o p _ h
 does_same m number shown shows o p (Gives back) u h = same_asked shown o p (ap rest_of h.gives.others) h.others
 does_same m number shown shows o p (Counts len) u h = absurd u
 
-goes_same : {P K : Type 0} (m : Means P K) (shown : P → MappedShown) → ShowsMapped m.fast m.dials shown → (o p : Outside P K) (n : Need) (s : Said) → IsUnmapped n → Goes m o n s p → Same shown o p
+goes_same : {P K : Type 0} (m : Means P K) (shown : P → MappedShown) → ShowsMapped m.fast m.dials shown → (o p : Outside P K) (n : Need) (s : Said) → IsUnmapped n → AnswerGoes m o n s p → Same shown o p
 goes_same m shown shows o p Flagged (told.Flag b) u h = same_port shown o p (shows.steps o.port p.port (fasts.Flags b) h.did.step) h.others
 goes_same m shown shows o p (Pops bin) (told.Popped at) u h = same_port shown o p (shows.steps o.port p.port (fasts.Pops bin at) h.did.step) h.others
 goes_same m shown shows o p (Owns bin) (told.Own at) u h = same_port shown o p (shows.steps o.port p.port (fasts.Owns bin at) h.did.step) h.others
@@ -246,7 +246,7 @@ within_does : (nb : ℕ) (d : Deed) (r : Rules Took) → KeepsMapping nb (Does d
 within_does nb (Counts len) r h = absurd h
 within_does nb d r h = (tt, h)
 
-within_needs : {P K : Type 0} (m : Means P K) (shown : P → MappedShown) → ShowsMapped m.fast m.dials shown → (nb : ℕ) (o p : Outside P K) (a : Plain) (n : Need) (f : Said → Rules Took) (s : Said) → KeepsMapping nb (Needs a n f) → Goes m o n s p →
+within_needs : {P K : Type 0} (m : Means P K) (shown : P → MappedShown) → ShowsMapped m.fast m.dials shown → (nb : ℕ) (o p : Outside P K) (a : Plain) (n : Need) (f : Said → Rules Took) (s : Said) → KeepsMapping nb (Needs a n f) → AnswerGoes m o n s p →
     (KeepsMapping nb (f s) × Same shown o p) ⊎ (IsGrant shown nb o p s (f s))
 within_needs {P = P} {K = K} m shown shows nb o p a (Maps len) f (told.Asked asked Granted) within h = inr (record {
   len = len;

@@ -25,7 +25,7 @@ use Rattle.arena_rules.specs.Walks.{Ways, Walks, Reaches}
 use Rattle.arena_rules.proofs.Walks.{ends_as_walked, left_as_walked, reaches_behind, short_behind}
 use Rattle.consolidate_trim.specs.Holds.{Chunks, no_chunk, one_chunk, IsBacked, GivesUp, hold}
 use Rattle.consolidate_trim.proofs.HoldSteps.{hand_own}
-use Rattle.consolidate_trim.specs.Outside.{Means, Outside, Apart, ways}
+use Rattle.consolidate_trim.specs.Outside.{Means, Outside, AreApart, ways}
 use Rattle.search_steps.specs.Ledgers.{stage}
 use Rattle.search_steps.proofs.Lifting.{works_carries}
 use Rattle.arena_growth.specs.declared.found.Found.{Found}
@@ -58,7 +58,7 @@ only_said {t = t} {w = w} {r = r} {q = q} {o = o} {z = z} a = subst (λ ss. Walk
 pub record CanAct {P K : Type 0} (m : Means P K) (act : Act) (x : Held P K) : Type 0 where
   pub may : may_act act x.arena ≡ true
   pub short : may_end act Short ≡ true
-  pub words : Apart m.fast m.dials
+  pub words : AreApart m.fast m.dials
   pub apart : IsApart x.arena (m.fast.stock x.outside.port) (dealings_with (hand_of act))
 
 -- what is found ends an act as it may end
@@ -107,15 +107,15 @@ opened_with_top a top =
 apart_hand : {P : Type 0} {fast : Fast P} {a : Plain} {port : P} (c : Chunk) → IsBacked fast a port (one_chunk c) → IsApart a (fast.stock port) (dealings_with (c ∷ []))
 apart_hand c backed = apart_backed (c ∷ []) backed (λ e. omega (arith, sum_by-cons (once e) c []))
 
-pub can_take : {P K : Type 0} (m : Means P K) (nb : ℕ) (x : Held P K) → (is_main x.arena ≡ false → IsSome (top_of x.arena.tiles)) → IsRequestSize nb → Apart m.fast m.dials → IsBacked m.fast x.arena x.outside.port no_chunk → CanAct m (acts.Take nb) x
+pub can_take : {P K : Type 0} (m : Means P K) (nb : ℕ) (x : Held P K) → (is_main x.arena ≡ false → IsSome (top_of x.arena.tiles)) → IsRequestSize nb → AreApart m.fast m.dials → IsBacked m.fast x.arena x.outside.port no_chunk → CanAct m (acts.Take nb) x
 can_take m nb x top size words backed = record { may = and_from (is_opened x.arena) _ (opened_with_top x.arena top) (request_size nb size); short = refl; words = words; apart = apart_backed [] backed (λ e. omega arith) }
 
-pub can_resize : {P K : Type 0} (m : Means P K) (at size nb : ℕ) (x : Held P K) → IsRequestSize nb → Apart m.fast m.dials → IsBacked m.fast x.arena x.outside.port (one_chunk (chunk_at at size)) → CanAct m (acts.Resize at size nb) x
+pub can_resize : {P K : Type 0} (m : Means P K) (at size nb : ℕ) (x : Held P K) → IsRequestSize nb → AreApart m.fast m.dials → IsBacked m.fast x.arena x.outside.port (one_chunk (chunk_at at size)) → CanAct m (acts.Resize at size nb) x
 can_resize m at size nb x request words backed =
     let c : Chunk = chunk_at at size in
     record { may = and_from (is_request_size nb) _ (request_size nb request) (hand_own c backed); short = refl; words = words; apart = apart_hand c backed }
 
-pub can_align : {P K : Type 0} (m : Means P K) (align nb : ℕ) (x : Held P K) → (is_main x.arena ≡ false → IsSome (top_of x.arena.tiles)) → IsRequestSize nb → IsAlignment align → request_with_lead align nb ≤ 2 ^ 63 - 1 → Apart m.fast m.dials → IsBacked m.fast x.arena x.outside.port no_chunk → CanAct m (acts.Align align nb) x
+pub can_align : {P K : Type 0} (m : Means P K) (align nb : ℕ) (x : Held P K) → (is_main x.arena ≡ false → IsSome (top_of x.arena.tiles)) → IsRequestSize nb → IsAlignment align → request_with_lead align nb ≤ 2 ^ 63 - 1 → AreApart m.fast m.dials → IsBacked m.fast x.arena x.outside.port no_chunk → CanAct m (acts.Align align nb) x
 can_align m align nb x top request alignment range words backed = record {
   may = and_from (is_opened x.arena) _ (opened_with_top x.arena top)
       (and_from (is_request_size nb) _ (request_size nb request) (and_from (is_alignment align) _ (and_from (nat_le 32 align) _ (grind (arith, nat_tests, alignment.least)) alignment.power) (grind (arith, nat_tests, range))));
@@ -124,7 +124,7 @@ can_align m align nb x top request alignment range words backed = record {
   apart = apart_backed [] backed (λ e. omega arith);
 }
 
-pub can_give : {P K : Type 0} (m : Means P K) (at size : ℕ) (x : Held P K) → Apart m.fast m.dials → IsBacked m.fast x.arena x.outside.port (one_chunk (chunk_at at size)) → CanAct m (acts.Give at size) x
+pub can_give : {P K : Type 0} (m : Means P K) (at size : ℕ) (x : Held P K) → AreApart m.fast m.dials → IsBacked m.fast x.arena x.outside.port (one_chunk (chunk_at at size)) → CanAct m (acts.Give at size) x
 can_give m at size x words backed =
     let c : Chunk = chunk_at at size in
     record { may = hand_own c backed; short = refl; words = words; apart = apart_hand c backed }

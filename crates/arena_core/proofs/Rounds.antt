@@ -24,11 +24,11 @@ use Rattle.arena_rules.specs.Walks.{Walks, here, idled, done, told as walked}
 use Rattle.arena_rules.proofs.Walks.{short_here}
 use Rattle.consolidate_trim.specs.FastHolds.{fast_hold, fast_ways, Empties, FastAnswers, FastDoes}
 use Rattle.consolidate_trim.specs.Holds.{no_chunk}
-use Rattle.consolidate_trim.specs.Outside.{Means, Outside, Apart}
+use Rattle.consolidate_trim.specs.Outside.{Means, Outside, AreApart}
 use Rattle.search_steps.specs.declared.step.Step.{Step}
 use Rattle.search_steps.specs.declared.step.Step.TheVariants as steps
 use Rattle.search_steps.specs.Ledgers.{Stage, stage, Works, shelf, Near, near_ledger, fast_ledger, full, NearGoes, NearDoes}
-use Rattle.search_steps.specs.Steps.{Steps, step_of, chunks_of, begun}
+use Rattle.search_steps.specs.Steps.{Steps, step_of, chunks_taken, begun}
 use Rattle.search_steps.proofs.Balance.{works_ok, works_short, loses_from, balances_here}
 use Rattle.search_steps.proofs.Lifting.{works_put, works_empties, shelf_part, fast_part, near_part}
 use Rattle.search_steps.proofs.Looks.{flag_reaches, flag_balances}
@@ -40,61 +40,61 @@ use Rattle.arena_growth.proofs.MainGrowth.{ready_after}
 
 -- ---- what may be counted stays so
 
-fast_goes_allow : {P : Type 0} {fast : Fast P} {dials : Dialled P} (apart : Apart fast dials) (o p : P) (n : Need) (s : Said) (d : dial_steps.DialStep) → FastAnswers fast o n s p → dials.allows o d → dials.allows p d
+fast_goes_allow : {P : Type 0} {fast : Fast P} {dials : Dialled P} (apart : AreApart fast dials) (o p : P) (n : Need) (s : Said) (d : dial_steps.DialStep) → FastAnswers fast o n s p → dials.allows o d → dials.allows p d
 fast_goes_allow apart o p Flagged (told.Flag b) d h a = apart.steps o p (fasts.Flags b) d h.step a
 fast_goes_allow apart o p (Pops bin) (told.Popped at) d h a = apart.steps o p (fasts.Pops bin at) d h.step a
 fast_goes_allow apart o p (Owns bin) (told.Own at) d h a = apart.steps o p (fasts.Owns bin at) d h.step a
 fast_goes_allow apart o p n s d h a = absurd h
 
-fast_does_allow : {P : Type 0} {fast : Fast P} {dials : Dialled P} (apart : Apart fast dials) (o p : P) (deed : Deed) (d : dial_steps.DialStep) → FastDoes fast o deed p → dials.allows o d → dials.allows p d
+fast_does_allow : {P : Type 0} {fast : Fast P} {dials : Dialled P} (apart : AreApart fast dials) (o p : P) (deed : Deed) (d : dial_steps.DialStep) → FastDoes fast o deed p → dials.allows o d → dials.allows p d
 fast_does_allow apart o p Clears d h a = apart.steps o p fasts.Clears d h.step a
 fast_does_allow apart o p (Gathers bin) d h a = apart.steps o p (fasts.Gathers bin) d h.step a
 fast_does_allow apart o p deed d h a = absurd h
 
-fast_walks_allow : {P A : Type 0} {fast : Fast P} {dials : Dialled P} (apart : Apart fast dials) {t : Tunables} {r q : Rules A} {o z : P} {ss : List Said} (d : dial_steps.DialStep) → Walks t (fast_ways fast) r o ss q z → dials.allows o d → dials.allows z d
+fast_walks_allow : {P A : Type 0} {fast : Fast P} {dials : Dialled P} (apart : AreApart fast dials) {t : Tunables} {r q : Rules A} {o z : P} {ss : List Said} (d : dial_steps.DialStep) → Walks t (fast_ways fast) r o ss q z → dials.allows o d → dials.allows z d
 fast_walks_allow apart d here a = a
 fast_walks_allow apart d (idled {o = o} {p = p} i w) a = fast_walks_allow apart d w (apart.idles o p d i.idle a)
 fast_walks_allow apart d (done {d = deed} h w) a = fast_walks_allow apart d w (fast_does_allow apart _ _ deed d h a)
 fast_walks_allow apart d (walked {n = n} {s = s} f h w) a = fast_walks_allow apart d w (fast_goes_allow apart _ _ n s d h a)
 
-near_goes_allow : {P : Type 0} {fast : Fast P} {dials : Dialled P} (apart : Apart fast dials) (o p : Near P) (n : Need) (s : Said) (d : dial_steps.DialStep) → NearGoes fast o n s p → dials.allows o.port d → dials.allows p.port d
+near_goes_allow : {P : Type 0} {fast : Fast P} {dials : Dialled P} (apart : AreApart fast dials) (o p : Near P) (n : Need) (s : Said) (d : dial_steps.DialStep) → NearGoes fast o n s p → dials.allows o.port d → dials.allows p.port d
 near_goes_allow apart o p Flagged (told.Flag b) d h a = apart.steps o.port p.port (fasts.Flags b) d h.did.step a
 near_goes_allow apart o p (Pops bin) (told.Popped at) d h a = apart.steps o.port p.port (fasts.Pops bin at) d h.did.step a
 near_goes_allow apart o p (Owns bin) (told.Own at) d h a = apart.steps o.port p.port (fasts.Owns bin at) d h.did.step a
 near_goes_allow {dials = dials} apart o p (Rooms size) (told.Room b) d h a = subst (λ q. dials.allows q d) (sym h.port) a
 near_goes_allow apart o p n s d h a = absurd h
 
-near_does_allow : {P : Type 0} {fast : Fast P} {dials : Dialled P} (apart : Apart fast dials) (k : ℕ) (o p : Near P) (deed : Deed) (d : dial_steps.DialStep) → NearDoes fast k o deed p → dials.allows o.port d → dials.allows p.port d
+near_does_allow : {P : Type 0} {fast : Fast P} {dials : Dialled P} (apart : AreApart fast dials) (k : ℕ) (o p : Near P) (deed : Deed) (d : dial_steps.DialStep) → NearDoes fast k o deed p → dials.allows o.port d → dials.allows p.port d
 near_does_allow apart k o p Clears d h a = apart.steps o.port p.port fasts.Clears d h.did.step a
 near_does_allow apart k o p (Gathers bin) d h a = apart.steps o.port p.port (fasts.Gathers bin) d h.did.step a
 near_does_allow {dials = dials} apart k o p (Stashes c) d h a = subst (λ q. dials.allows q d) (sym h.port) a
 near_does_allow {dials = dials} apart k o p (Draws size) d h a = subst (λ q. dials.allows q d) (sym h.port) a
 near_does_allow apart k o p deed d h a = absurd h
 
-near_walks_allow : {P A : Type 0} {fast : Fast P} {dials : Dialled P} (apart : Apart fast dials) (k : ℕ) {t : Tunables} {r q : Rules A} {o z : Near P} {ss : List Said} (d : dial_steps.DialStep) → Walks t ((near_ledger fast).ways k) r o ss q z → dials.allows o.port d → dials.allows z.port d
+near_walks_allow : {P A : Type 0} {fast : Fast P} {dials : Dialled P} (apart : AreApart fast dials) (k : ℕ) {t : Tunables} {r q : Rules A} {o z : Near P} {ss : List Said} (d : dial_steps.DialStep) → Walks t ((near_ledger fast).ways k) r o ss q z → dials.allows o.port d → dials.allows z.port d
 near_walks_allow apart k d here a = a
 near_walks_allow apart k d (idled {o = o} {p = p} i w) a = near_walks_allow apart k d w (apart.idles o.port p.port d i.idles.idle a)
 near_walks_allow apart k d (done {d = deed} h w) a = near_walks_allow apart k d w (near_does_allow apart k _ _ deed d h a)
 near_walks_allow apart k d (walked {n = n} {s = s} f h w) a = near_walks_allow apart k d w (near_goes_allow apart _ _ n s d h a)
 
-pub flag_allows : {P K : Type 0} {fast : Fast P} {dials : Dialled P} (apart : Apart fast dials) (p q : P) (space : Space K) (b : Bool) → Did fast p (fasts.Flags b) q → AllowsMaps dials p space → AllowsMaps dials q space
+pub flag_allows : {P K : Type 0} {fast : Fast P} {dials : Dialled P} (apart : AreApart fast dials) (p q : P) (space : Space K) (b : Bool) → Did fast p (fasts.Flags b) q → AllowsMaps dials p space → AllowsMaps dials q space
 flag_allows apart p q space b did allows = record { allowed = λ len h. apart.steps p q (fasts.Flags b) _ did.step (allows.allowed len h) }
 
-pub empties_allow : {P K : Type 0} {fast : Fast P} {dials : Dialled P} (t : Tunables) (apart : Apart fast dials) (a b : Plain) (p q : P) (space : Space K) (old new : List Said) → let ok : Result (Unit {0}) NoMemory = Ok tt in
+pub empties_allow : {P K : Type 0} {fast : Fast P} {dials : Dialled P} (t : Tunables) (apart : AreApart fast dials) (a b : Plain) (p q : P) (space : Space K) (old new : List Said) → let ok : Result (Unit {0}) NoMemory = Ok tt in
     Empties fast (consolidated a) (fast_hold a p old) ok (fast_hold b q new) → AllowsMaps dials p space → AllowsMaps dials q space
 empties_allow t apart a b p q space old new e allows = record { allowed = λ len h. fast_walks_allow apart _ (e.walk t).done.walks (allows.allowed len h) }
 
-pub begin_allows : {P K : Type 0} {fast : Fast P} {dials : Dialled P} {rules : Rules search.Step} (t : Tunables) (apart : Apart fast dials) (x y : Stage (Near P)) (space : Space K) → Steps (near_ledger fast) rules x (Ok steps.Onward) y → AllowsMaps dials x.outside.port space → AllowsMaps dials y.outside.port space
+pub begin_allows : {P K : Type 0} {fast : Fast P} {dials : Dialled P} {rules : Rules search.Step} (t : Tunables) (apart : AreApart fast dials) (x y : Stage (Near P)) (space : Space K) → Steps (near_ledger fast) rules x (Ok steps.Onward) y → AllowsMaps dials x.outside.port space → AllowsMaps dials y.outside.port space
 begin_allows t apart x y space s allows = record { allowed = λ len h. near_walks_allow apart x.arena.number _ (s.works t).walk.done.walks (allows.allowed len h) }
 
 -- ---- steps in the whole hold
 
 shelf_full : {P K : Type 0} {rules : Rules search.Step} {x y : Stage CacheValue} (m : Means P K) (t : Tunables) (port : P) (space : Space K) (r : Result Step NoMemory) → Steps shelf rules x r y →
-    Works (full m) t rules no_chunk (stage x.arena (beside_arena port x.outside space) x.said) (λ s. step_of s y.arena) chunks_of r (stage y.arena (beside_arena port y.outside space) y.said)
+    Works (full m) t rules no_chunk (stage x.arena (beside_arena port x.outside space) x.said) (λ s. step_of s y.arena) chunks_taken r (stage y.arena (beside_arena port y.outside space) y.said)
 shelf_full m t port space r s = works_put r (near_part m space) (works_put r (shelf_part m.fast port) (s.works t))
 
 near_full : {P K : Type 0} {rules : Rules search.Step} {x y : Stage (Near P)} (m : Means P K) (t : Tunables) (space : Space K) (r : Result Step NoMemory) → Steps (near_ledger m.fast) rules x r y →
-    Works (full m) t rules no_chunk (stage x.arena (beside_arena x.outside.port x.outside.cache space) x.said) (λ s. step_of s y.arena) chunks_of r (stage y.arena (beside_arena y.outside.port y.outside.cache space) y.said)
+    Works (full m) t rules no_chunk (stage x.arena (beside_arena x.outside.port x.outside.cache space) x.said) (λ s. step_of s y.arena) chunks_taken r (stage y.arena (beside_arena y.outside.port y.outside.cache space) y.said)
 near_full m t space r s = works_put r (near_part m space) (s.works t)
 
 abbrev all_done : Result (Unit {0}) NoMemory

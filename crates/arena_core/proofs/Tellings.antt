@@ -20,7 +20,7 @@ use Rattle.arena_rules.specs.PlainArena.{Plain, times_used}
 use Rattle.arena_rules.proofs.Bins.{once_self, same_chunk_is, without_same, without_other}
 use Rattle.arena_rules.proofs.Counts.{at_most_once}
 use Rattle.consolidate_trim.specs.Holds.{Chunks, IsBacked}
-use Rattle.consolidate_trim.specs.Outside.{Means, Outside, Apart, Goes, Does, ways}
+use Rattle.consolidate_trim.specs.Outside.{Means, Outside, AreApart, AnswerGoes, DeedGoes, ways}
 use Rattle.arena_core.specs.Tellings.{Dealings, chunk_of_answer, dealings_with, may_be_told, tells_others, with_deed, with_pushed, with_told}
 
 -- The port gives each chunk at most once, none in hand, and none but what was used as the hold began or was pushed by it.
@@ -78,7 +78,7 @@ one_told {start = start} {stock = stock} {new = new} {d = d} c a given =
     }
 
 -- an answer, whichever it is
-goes_told : {P K : Type 0} (m : Means P K) → Apart m.fast m.dials → (o p : Outside P K) (n : Need) (s : Said) (start : Plain) (d : Dealings) → Goes m o n s p → IsApart start (m.fast.stock o.port) d →
+goes_told : {P K : Type 0} (m : Means P K) → AreApart m.fast m.dials → (o p : Outside P K) (n : Need) (s : Said) (start : Plain) (d : Dealings) → AnswerGoes m o n s p → IsApart start (m.fast.stock o.port) d →
     IsTold start (m.fast.stock p.port) d (chunk_of_answer n s)
 goes_told m apart o p Flagged (told.Flag b) start d g a = none_told a (λ e. omega (arith, g.did.stock e))
 goes_told m apart o p (Pops bin) (told.Popped None) start d g a = none_told a (λ e. omega (arith, g.did.stock e))
@@ -110,7 +110,7 @@ pushed {stock = stock} {new = new} {d = d} c a put none = record {
   known = λ e. omega (arith, put e, a.known e, sum_by-cons (once e) c d.pushed);
 }
 
-does_apart : {P K : Type 0} (m : Means P K) (number : ℕ) → Apart m.fast m.dials → (o p : Outside P K) (deed : Deed) (start : Plain) (d : Dealings) → Does m number o deed p → IsApart start (m.fast.stock o.port) d →
+does_apart : {P K : Type 0} (m : Means P K) (number : ℕ) → AreApart m.fast m.dials → (o p : Outside P K) (deed : Deed) (start : Plain) (d : Dealings) → DeedGoes m number o deed p → IsApart start (m.fast.stock o.port) d →
     IsApart start (m.fast.stock p.port) (with_deed d deed)
 does_apart m number apart o p Clears start d w a = apart_as a (λ e. omega (arith, w.did.stock e))
 does_apart m number apart o p (Gathers bin) start d w a = apart_as a (λ e. omega (arith, w.did.stock e))
@@ -128,7 +128,7 @@ tells_none start d Misfit = refl
 tells_none start d (Doing deed r) = tells_none start (with_deed d deed) r
 tells_none start d (Needs a n f) = refl
 
-pub tells_walked : {P K A : Type 0} {m : Means P K} {t : Tunables} {number : ℕ} {r q : Rules A} {o z : Outside P K} {ss : List Said} (start : Plain) (d : Dealings) → Apart m.fast m.dials → IsApart start (m.fast.stock o.port) d →
+pub tells_walked : {P K A : Type 0} {m : Means P K} {t : Tunables} {number : ℕ} {r q : Rules A} {o z : Outside P K} {ss : List Said} (start : Plain) (d : Dealings) → AreApart m.fast m.dials → IsApart start (m.fast.stock o.port) d →
     Walks t (ways m number) r o ss q z → tells_others start d r ss ≡ true
 tells_walked start d apart a (here {r = r}) = tells_none start d r
 tells_walked start d apart a (idled i w) = tells_walked start d apart (apart_as a i.idles.stock) w

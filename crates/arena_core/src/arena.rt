@@ -9,7 +9,7 @@ ghost use Rattle.thread_cache.specs.Caches.{CacheValue};
 ghost use Rattle.arena_rules.specs.PlainArena.{Plain};
 ghost use Rattle.arena_rules.specs.Rules.{windows_of};
 ghost use Rattle.consolidate_trim.specs.Holds.{IsBacked, no_chunk, one_chunk};
-ghost use Rattle.consolidate_trim.specs.Outside.{Apart, means};
+ghost use Rattle.consolidate_trim.specs.Outside.{AreApart, means};
 ghost use Rattle.search_steps.specs.Ledgers.{stage};
 ghost use Rattle.arena_growth.specs.Asking.{IsSearchable, IsReady, AllowsMaps, beside_arena, found_of};
 ghost use Rattle.arena_growth.specs.FirstHeap.{closed_arena};
@@ -97,7 +97,7 @@ impl<M: Moves> Arena<M> {
         requires ready { IsReady (means P.fast P.dials K.port) t.now
             (stage (M.plain self.old.ground) (beside_arena port.old cache.old space.old) []) }
         requires allows { AllowsMaps P.dials port.old space.old }
-        requires apart { Apart P.fast P.dials }
+        requires apart { AreApart P.fast P.dials }
         requires tuned { IsSearchable t.now }
         requires size { IsRequestSize nb }
         ensures taken { let before = held (M.plain self.old.ground) port.old cache.old space.old
@@ -164,7 +164,7 @@ impl<M: Moves> Arena<M> {
     ) -> Result<(), GiveShort>
         requires backed { IsBacked P.fast (M.plain self.old.ground) port.old
             (one_chunk (chunk_at b.addr b.size)) }
-        requires apart { Apart P.fast P.dials }
+        requires apart { AreApart P.fast P.dials }
         ensures given { (cache : CacheValue) → OnOk result
             (Records (means P.fast P.dials K.port) t.now who (acts.Give b.addr b.size)
             (held (M.plain self.old.ground) port.old cache space.old self.old.journal.items)

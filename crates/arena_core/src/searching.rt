@@ -5,7 +5,7 @@ ghost use Rattle.chunk_tags.specs.Sizes.{IsRequestSize};
 ghost use Rattle.address_space.specs.Ports.{Rose};
 ghost use Rattle.address_space.specs.Spaces.{space_refusals};
 ghost use Rattle.arena_rules.specs.Search.{rounds, searched};
-ghost use Rattle.consolidate_trim.specs.Outside.{Apart, means};
+ghost use Rattle.consolidate_trim.specs.Outside.{AreApart, means};
 ghost use Rattle.search_steps.specs.Ledgers.{stage};
 ghost use Rattle.arena_growth.specs.Asking.{IsSearchable, IsReady, AllowsMaps, Finds, FitsFound, beside_arena};
 ghost use Rattle.arena_growth.specs.Lacks.{Lacks, word_room};
@@ -38,7 +38,7 @@ fn go_round<M: Moves, K: Kernel, P: FastPort + Dials>(
     requires ready { IsReady (means P.fast P.dials K.port) t.now
         (stage (M.plain g.old) (beside_arena port.old cache.old space.old) said.old.items) }
     requires allows { AllowsMaps P.dials port.old space.old }
-    requires apart { Apart P.fast P.dials }
+    requires apart { AreApart P.fast P.dials }
     requires tuned { IsSearchable t.now }
     requires size { IsRequestSize nb }
     ensures finds { Finds (means P.fast P.dials K.port) t.now (rounds again t.now nb (M.plain g.old))
@@ -78,7 +78,7 @@ pub fn search<M: Moves, K: Kernel, P: FastPort + Dials>(
     requires ready { IsReady (means P.fast P.dials K.port) t.now
         (stage (M.plain g.old) (beside_arena port.old cache.old space.old) said.old.items) }
     requires allows { AllowsMaps P.dials port.old space.old }
-    requires apart { Apart P.fast P.dials }
+    requires apart { AreApart P.fast P.dials }
     requires tuned { IsSearchable t.now }
     requires size { IsRequestSize nb }
     ensures finds { Finds (means P.fast P.dials K.port) t.now (searched t.now nb (M.plain g.old))

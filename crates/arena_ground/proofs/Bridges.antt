@@ -23,9 +23,9 @@ use Rattle.arena_rules.proofs.ChunkMoves.{listed_tile}
 use Rattle.arena_rules.proofs.Lookups.{swapped_other}
 use Rattle.arena_rules.proofs.Rows.{addr_at}
 use Rattle.heap_top.proofs.TopLaws.{came_at}
-use Rattle.arena_ground.specs.Grounds.{chunk_at, chunks_at, bins_at}
+use Rattle.arena_ground.specs.Grounds.{tile_chunk, chunks_at, bins_at}
 
-same_at : (ts : List Tile) (n m : ℕ) → same_chunk (chunk_at ts n) (chunk_at ts m) ≡ nat_eq n m
+same_at : (ts : List Tile) (n m : ℕ) → same_chunk (tile_chunk ts n) (tile_chunk ts m) ≡ nat_eq n m
 same_at ts n m =
     let sizes : Bool = nat_eq (size_at ts n) (size_at ts m) in
     elim (eqb_tells n m) [
@@ -35,21 +35,21 @@ same_at ts n m =
 
 -- ---- how often a chunk stands in a list
 
-times_here : (ts : List Tile) (n : ℕ) (xs : List ℕ) → times_in (chunk_at ts n) (chunks_at ts xs) ≡ times_at n xs
+times_here : (ts : List Tile) (n : ℕ) (xs : List ℕ) → times_in (tile_chunk ts n) (chunks_at ts xs) ≡ times_at n xs
 times_here ts n [] = refl
 times_here ts n (x ∷ xs) = omega (
   arith,
-  sum_by-cons (once (chunk_at ts n)) (chunk_at ts x) (chunks_at ts xs),
+  sum_by-cons (once (tile_chunk ts n)) (tile_chunk ts x) (chunks_at ts xs),
   times_in-cons n x xs,
   times_here ts n xs,
   ap (λ (b : Bool). cond {A = ℕ} b 1 0) (same_at ts n x),
 )
 
-pub times_all : (ts : List Tile) (n : ℕ) (lists : List (List ℕ)) → sum_by (times_in (chunk_at ts n)) (bins_at ts lists) ≡ times_linked n lists
+pub times_all : (ts : List Tile) (n : ℕ) (lists : List (List ℕ)) → sum_by (times_in (tile_chunk ts n)) (bins_at ts lists) ≡ times_linked n lists
 times_all ts n [] = refl
 times_all ts n (xs ∷ lists) = omega (
   arith,
-  sum_by-cons (times_in (chunk_at ts n)) (chunks_at ts xs) (bins_at ts lists),
+  sum_by-cons (times_in (tile_chunk ts n)) (chunks_at ts xs) (bins_at ts lists),
   times_listed-cons n xs lists,
   times_here ts n xs,
   times_all ts n lists,
@@ -57,21 +57,21 @@ times_all ts n (xs ∷ lists) = omega (
 
 -- ---- lists without a chunk
 
-without_here : (ts : List Tile) (n : ℕ) (xs : List ℕ) → chunks_at ts (apart_from n xs) ≡ without (chunk_at ts n) (chunks_at ts xs)
+without_here : (ts : List Tile) (n : ℕ) (xs : List ℕ) → chunks_at ts (apart_from n xs) ≡ without (tile_chunk ts n) (chunks_at ts xs)
 without_here ts n [] = refl
 without_here ts n (x ∷ xs) =
-    let rest : List Chunk = without (chunk_at ts n) (chunks_at ts xs) in
-    let cases : (b : Bool) → chunks_at ts (cond (not b) (x ∷ apart_from n xs) (apart_from n xs)) ≡ cond (not b) (chunk_at ts x ∷ rest) rest = elim [
+    let rest : List Chunk = without (tile_chunk ts n) (chunks_at ts xs) in
+    let cases : (b : Bool) → chunks_at ts (cond (not b) (x ∷ apart_from n xs) (apart_from n xs)) ≡ cond (not b) (tile_chunk ts x ∷ rest) rest = elim [
       | true ↦ without_here ts n xs
-      | false ↦ ap (λ cs. chunk_at ts x ∷ cs) (without_here ts n xs)
+      | false ↦ ap (λ cs. tile_chunk ts x ∷ cs) (without_here ts n xs)
     ] in
-    cases (nat_eq n x) ∙ ap (λ b. cond (not b) (chunk_at ts x ∷ rest) rest) (sym (same_at ts n x))
+    cases (nat_eq n x) ∙ ap (λ b. cond (not b) (tile_chunk ts x ∷ rest) rest) (sym (same_at ts n x))
 
-bins_apart : (ts : List Tile) (n : ℕ) (lists : List (List ℕ)) → bins_at ts (map (apart_from n) lists) ≡ map (without (chunk_at ts n)) (bins_at ts lists)
+bins_apart : (ts : List Tile) (n : ℕ) (lists : List (List ℕ)) → bins_at ts (map (apart_from n) lists) ≡ map (without (tile_chunk ts n)) (bins_at ts lists)
 bins_apart ts n [] = refl
 bins_apart ts n (xs ∷ lists) =
     ap (λ cs. cs ∷ bins_at ts (map (apart_from n) lists)) (without_here ts n xs)
-    ∙ ap (λ bins. without (chunk_at ts n) (chunks_at ts xs) ∷ bins) (bins_apart ts n lists)
+    ∙ ap (λ bins. without (tile_chunk ts n) (chunks_at ts xs) ∷ bins) (bins_apart ts n lists)
 
 -- ---- tiles that agree where chunks are listed
 
@@ -79,7 +79,7 @@ agree_here : (ts us : List Tile) (xs : List ℕ) → ((n : ℕ) → 0 < times_at
 agree_here ts us [] same = refl
 agree_here ts us (x ∷ xs) same =
     ap (λ size. record { at = x; size = size } ∷ chunks_at us xs) (same x (omega (arith, in_here x x xs refl)))
-    ∙ ap (λ cs. chunk_at ts x ∷ cs) (agree_here ts us xs (λ n some. same n (omega (arith, some, in_more n x xs))))
+    ∙ ap (λ cs. tile_chunk ts x ∷ cs) (agree_here ts us xs (λ n some. same n (omega (arith, some, in_more n x xs))))
 
 pub agree : (ts us : List Tile) (lists : List (List ℕ)) → ((n : ℕ) → 0 < times_linked n lists → size_at us n ≡ size_at ts n) → bins_at us lists ≡ bins_at ts lists
 agree ts us [] same = refl
@@ -99,7 +99,7 @@ size_kept at n t x ts found here size =
 
 -- ---- ends of a list, and bins
 
-pub oldest_at : (ts : List Tile) (xs : List ℕ) → oldest_of (chunks_at ts xs) ≡ elim (last_of xs) [ None ↦ None | Some n ↦ Some (chunk_at ts n) ]
+pub oldest_at : (ts : List Tile) (xs : List ℕ) → oldest_of (chunks_at ts xs) ≡ elim (last_of xs) [ None ↦ None | Some n ↦ Some (tile_chunk ts n) ]
 oldest_at ts [] = refl
 oldest_at ts (x ∷ []) = refl
 oldest_at ts (x ∷ y ∷ ys) = oldest_at ts (y ∷ ys)
@@ -112,7 +112,7 @@ bin_set ts lists i xs = map-set (chunks_at ts) lists i xs
 
 -- ---- listed chunks of a sound arena are its free tiles
 
-pub chunk_here : (ts : List Tile) (c : Chunk) → tile_at c.at ts ≡ Some (tile_of Free c.at c.size) → chunk_at ts c.at ≡ c
+pub chunk_here : (ts : List Tile) (c : Chunk) → tile_at c.at ts ≡ Some (tile_of Free c.at c.size) → tile_chunk ts c.at ≡ c
 chunk_here ts c e = ap (λ n. record { at = c.at; size = n }) (ap size_in e)
 
 -- the bins of an arena are these lists
@@ -120,15 +120,15 @@ pub record AreBins (a : Plain) (lists : List (List ℕ)) : Type 0 where
   pub bins : a.bins ≡ bins_at a.tiles lists
   pub sound : IsSound a
 
-pub linked_times : (a : Plain) (lists : List (List ℕ)) (n : ℕ) → AreBins a lists → times_listed (chunk_at a.tiles n) a ≡ times_linked n lists
-linked_times a lists n b = ap (sum_by (times_in (chunk_at a.tiles n))) b.bins ∙ times_all a.tiles n lists
+pub linked_times : (a : Plain) (lists : List (List ℕ)) (n : ℕ) → AreBins a lists → times_listed (tile_chunk a.tiles n) a ≡ times_linked n lists
+linked_times a lists n b = ap (sum_by (times_in (tile_chunk a.tiles n))) b.bins ∙ times_all a.tiles n lists
 
 pub listed_times : (a : Plain) (lists : List (List ℕ)) (c : Chunk) → AreBins a lists → 0 < times_listed c a → times_linked c.at lists ≡ times_listed c a
 listed_times a lists c b some =
     sym (linked_times a lists c.at b) ∙ ap (λ d. times_listed d a) (chunk_here a.tiles c (listed_tile a c b.sound some))
 
 pub linked_tile : (a : Plain) (lists : List (List ℕ)) (n : ℕ) → AreBins a lists → 0 < times_linked n lists → tile_at n a.tiles ≡ Some (tile_of Free n (size_at a.tiles n))
-linked_tile a lists n b some = listed_tile a (chunk_at a.tiles n) b.sound (omega (arith, some, linked_times a lists n b))
+linked_tile a lists n b some = listed_tile a (tile_chunk a.tiles n) b.sound (omega (arith, some, linked_times a lists n b))
 
 -- an address without a free tile isn't listed
 pub unlinked_at : (a : Plain) (lists : List (List ℕ)) (n : ℕ) → AreBins a lists → is_free_tile (tile_at n a.tiles) ≡ false → times_linked n lists ≡ 0

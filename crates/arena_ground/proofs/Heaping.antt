@@ -5,7 +5,7 @@ use Rattle.address_space.specs.Spaces.{main_start, piece_start}
 use Rattle.chunk_tags.specs.declared.tiles.Chunk.{Chunk}
 use Rattle.chunk_tags.specs.declared.tiles.Tile.{Tile}
 use Rattle.bin_links.specs.Lists.{Linked, empty_lists, times_listed as times_linked}
-use Rattle.part_words.specs.Extents.{Extent, AreOpen, Covers, IsWithinPart, extended}
+use Rattle.part_words.specs.Extents.{Extent, AreOpen, IsWider, IsWithinPart, extended}
 use Rattle.part_words.proofs.Opening.{AreOpen-range, Covers-same, IsWithinPart-part}
 use Rattle.chunk_image.specs.Rows.{TileRow, no_tiles}
 use Rattle.ordinary_bins.specs.BinLists.{lists_without}
@@ -224,7 +224,7 @@ opened_done s v l n w len start o =
         known = knows_top (arena_with s v l None) s.top (subst IsSound (sym is) sound) o.top;
         placed = subst (λ x. IsPlacedIn x s.closed.items) (sym is) (subst (IsPlacedIn new) (sym o.closed) in_new);
         room = o.room;
-        covers = subst (λ e. Covers e l.extent) (sym o.tiles) (subst (Covers (extended (no_tiles start w.heap_max).extent start len)) (sym o.links) (Covers-same (extended (no_tiles start w.heap_max).extent start len)));
+        covers = subst (λ e. IsWider e l.extent) (sym o.tiles) (subst (IsWider (extended (no_tiles start w.heap_max).extent start len)) (sym o.links) (Covers-same (extended (no_tiles start w.heap_max).extent start len)));
         base = ap (λ (e : Extent). e.base) o.tiles ∙ (o.starts ∙ (sym begin ∙ ap words_start (sym is)));
         width = ap (λ (e : Extent). e.width) o.tiles ∙ (sym width ∙ ap (λ x. part_bytes x / 16) (sym is));
       };

@@ -5,7 +5,7 @@ use Rattle.std.proofs.lemmas.Bool.{cases_lt}
 use Rattle.chunk_tags.specs.declared.tiles.Chunk.{Chunk}
 use Rattle.chunk_tags.specs.Tiles.{is_top, end_of, Row, swapped, fused, tile_at, tile_behind, top_of}
 use Rattle.chunk_tags.specs.declared.tiles.Tile.{Tile}
-use Rattle.part_words.specs.Extents.{Covers}
+use Rattle.part_words.specs.Extents.{IsWider}
 use Rattle.bin_links.specs.Lists.{Linked}
 use Rattle.chunk_image.specs.Rows.{TileRow}
 use Rattle.address_space.specs.Spaces.{main_start}
@@ -172,7 +172,7 @@ kept_words r s w v l m last now g k same known placed =
       known = known;
       placed = placed;
       room = omega (arith, g.room, same.room, ap (λ (x : HeapWindows). x.heaps) same.windows);
-      covers = subst (λ e. Covers e m.extent) (sym k.tiles) (subst (Covers w.extent) (sym k.links) g.covers);
+      covers = subst (λ e. IsWider e m.extent) (sym k.tiles) (subst (IsWider w.extent) (sym k.links) g.covers);
       base = ap (λ e. e.base) k.tiles ∙ (g.base ∙ λ i. words_start (like (sym same.number i) (sym same.windows i)));
       width = ap (λ e. e.width) k.tiles ∙ (g.width ∙ λ i. part_bytes (like (sym same.number i) (sym same.windows i)) / 16);
     }

@@ -16,7 +16,7 @@ use Rattle.arena_rules.proofs.Counts.{used_tile}
 use Rattle.arena_rules.proofs.Lookups.{swapped_other}
 use Rattle.heap_top.specs.declared.regions.Regions.{Regions}
 use Rattle.heap_top.proofs.TopLaws.{none_inside}
-use Rattle.arena_ground.specs.Grounds.{arena_with, chunk_at, chunks_at, bins_at}
+use Rattle.arena_ground.specs.Grounds.{arena_with, tile_chunk, chunks_at, bins_at}
 use Rattle.arena_ground.proofs.Bridges.{agree, size_kept, bin_is, bin_set, unlinked_at, bins_without}
 use Rattle.arena_ground.proofs.Keeping.{top_swapped, IsSoundGround, lists_of, IsDone, done}
 
@@ -57,7 +57,7 @@ shelve_done r w l m last c g own alone lists links =
     let v : TileRow = record w { tiles = now } in
     let moved = shelved_moved a c g.sound own alone in
     let sizes : (n : ℕ) → size_at now n ≡ size_at w.tiles n = λ n. size_kept c.at n t x w.tiles found refl refl in
-    let here : chunk_at w.tiles c.at ≡ c = ap (λ n. record { at = c.at; size = n }) (ap size_in found) in
+    let here : tile_chunk w.tiles c.at ≡ c = ap (λ n. record { at = c.at; size = n }) (ap size_in found) in
     let bins : bins_at now m.lists ≡ (shelved a c).bins =
     ap (bins_at now) lists
     ∙ (agree w.tiles now (put_front 1 c.at l.lists) (λ n some. sizes n)

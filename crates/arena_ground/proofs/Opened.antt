@@ -2,7 +2,7 @@
 use Rattle.std.proofs.Common.{◌≡◌, ℕ, ◌+◌, ◌<◌, List, Option, Result, Ok, Err, refl, sym, ap, ◌∙◌, subst}
 use Rattle.std.specs.Prelude.{OnOk, OnErr}
 use Rattle.chunk_tags.specs.declared.tiles.Tile.{Tile}
-use Rattle.part_words.specs.Extents.{Extent, extended, AreOpen, IsWithinPart, Covers}
+use Rattle.part_words.specs.Extents.{Extent, extended, AreOpen, IsWithinPart, IsWider}
 use Rattle.part_words.proofs.Opening.{AreOpen-covers, AreOpen-range, Covers-extended, Covers-more, Covers-same, IsWithinPart-covers, extended-open}
 use Rattle.bin_links.specs.Lists.{Linked, empty_lists}
 use Rattle.chunk_image.specs.Rows.{TileRow}
@@ -18,11 +18,11 @@ use Rattle.arena_ground.proofs.Topping.{opened_kept}
 pub opened_ground : {T E : Type 0} (r : Regions) (w v : TileRow) (l m : Linked) (last : Option ℕ) (at len : ℕ) (res : Result T E) → IsGround r w l last → OnOk res (v ≡ record w { extent = extended w.extent at len }) → OnErr res (v ≡ w) → m.lists ≡ l.lists → m.extent ≡ extended l.extent at len → IsGround r v m last
 opened_ground r w v l m last at len (Ok x) g ok err lists links =
     opened_kept r w v l m last g (ap (λ (x : TileRow). x.tiles) ok) lists
-    (subst (λ (x : TileRow). Covers x.extent m.extent) (sym ok) (subst (Covers (extended w.extent at len)) (sym links) (Covers-extended w.extent l.extent at len g.covers)))
+    (subst (λ (x : TileRow). IsWider x.extent m.extent) (sym ok) (subst (IsWider (extended w.extent at len)) (sym links) (Covers-extended w.extent l.extent at len g.covers)))
     (ap (λ (x : TileRow). x.extent.base) ok) (ap (λ (x : TileRow). x.extent.width) ok)
 opened_ground r w v l m last at len (Err x) g ok err lists links =
     opened_kept r w v l m last g (ap (λ (x : TileRow). x.tiles) err) lists
-    (subst (λ (x : TileRow). Covers x.extent m.extent) (sym err) (subst (Covers w.extent) (sym links) (Covers-more w.extent l.extent at len g.covers)))
+    (subst (λ (x : TileRow). IsWider x.extent m.extent) (sym err) (subst (IsWider w.extent) (sym links) (Covers-more w.extent l.extent at len g.covers)))
     (ap (λ (x : TileRow). x.extent.base) err) (ap (λ (x : TileRow). x.extent.width) err)
 
 pub opened_room : {T E : Type 0} (w v : TileRow) (at len : ℕ) (res : Result T E) → IsWithinPart w.extent at len → OnOk res (v ≡ record w { extent = extended w.extent at len }) → OnOk res (AreOpen v.extent at len)
@@ -31,12 +31,12 @@ opened_room w v at len (Err x) within ok = ok
 
 -- ---- where words are missing
 
-missing : (e f : Extent) (at len : ℕ) → Covers e f → IsWithinPart e at len → 0 < len → (extended f at len ≡ f → ⊥) → AreOpen e at len → ⊥
+missing : (e f : Extent) (at len : ℕ) → IsWider e f → IsWithinPart e at len → 0 < len → (extended f at len ≡ f → ⊥) → AreOpen e at len → ⊥
 missing e f at len covers range some more all =
     more (extended-open f at len (IsWithinPart-covers e f at len covers range) some (AreOpen-covers e f at len covers all))
 
 -- those of links, and so those of tiles
-pub links_missing : {T E : Type 0} (w : TileRow) (l : Linked) (at len : ℕ) (res : Result T E) → Covers w.extent l.extent → IsWithinPart w.extent at len → 0 < len → (extended l.extent at len ≡ l.extent → ⊥) → OnErr res ((AreOpen w.extent at len → ⊥) × (AreOpen w.extent at len → ⊥))
+pub links_missing : {T E : Type 0} (w : TileRow) (l : Linked) (at len : ℕ) (res : Result T E) → IsWider w.extent l.extent → IsWithinPart w.extent at len → 0 < len → (extended l.extent at len ≡ l.extent → ⊥) → OnErr res ((AreOpen w.extent at len → ⊥) × (AreOpen w.extent at len → ⊥))
 links_missing w l at len (Ok x) covers range some more = tt
 links_missing w l at len (Err x) covers range some more =
     let none = missing w.extent l.extent at len covers range some more in

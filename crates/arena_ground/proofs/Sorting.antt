@@ -25,7 +25,7 @@ use Rattle.arena_rules.proofs.Carving.{IsBestIn, best_in_bin}
 use Rattle.arena_rules.proofs.ChunkMoves.{listed_tile}
 use Rattle.arena_rules.proofs.Sorting.{large_index_ge, sorted_moved}
 use Rattle.heap_top.specs.declared.regions.Regions.{Regions}
-use Rattle.arena_ground.specs.Grounds.{arena_with, bins_at, chunk_at, chunks_at, sorted_lists}
+use Rattle.arena_ground.specs.Grounds.{arena_with, bins_at, tile_chunk, chunks_at, sorted_lists}
 use Rattle.arena_ground.proofs.Bridges.{bin_is, bin_set, bins_without, chunk_here, linked_tile}
 use Rattle.arena_ground.proofs.Keeping.{IsSoundGround, lists_of, IsDone, done}
 
@@ -42,14 +42,14 @@ tiles_without ts at lists h = record {
 
 chunks_back : (ts : List Tile) (xs : List ℕ) → chunks_at ts (map (λ (x : Chunk). x.at) (chunks_at ts xs)) ≡ chunks_at ts xs
 chunks_back ts [] = refl
-chunks_back ts (x ∷ xs) = ap (λ cs. chunk_at ts x ∷ cs) (chunks_back ts xs)
+chunks_back ts (x ∷ xs) = ap (λ cs. tile_chunk ts x ∷ cs) (chunks_back ts xs)
 
 -- an insertion by addresses, where sizes are those of the tiles
-pub insertion_at : (ts : List Tile) (c : Chunk) (xs : List ℕ) → chunk_at ts c.at ≡ c → chunks_at ts (map (λ (x : Chunk). x.at) (inserted c (chunks_at ts xs))) ≡ inserted c (chunks_at ts xs)
+pub insertion_at : (ts : List Tile) (c : Chunk) (xs : List ℕ) → tile_chunk ts c.at ≡ c → chunks_at ts (map (λ (x : Chunk). x.at) (inserted c (chunks_at ts xs))) ≡ inserted c (chunks_at ts xs)
 insertion_at ts c [] here = ap (λ (d : Chunk). d ∷ []) here
 insertion_at ts c (x ∷ xs) here =
     let rest : List Chunk = chunks_at ts xs in
-    let y : Chunk = chunk_at ts x in
+    let y : Chunk = tile_chunk ts x in
     let cases : (b d : Bool) → chunks_at ts (map (λ (x : Chunk). x.at) (cond b (c ∷ y ∷ rest) (cond d (y ∷ c ∷ rest) (y ∷ inserted c rest)))) ≡ cond b (c ∷ y ∷ rest) (cond d (y ∷ c ∷ rest) (y ∷ inserted c rest)) = elim [
       | true ↦ λ d. ap (λ (d : Chunk). d ∷ y ∷ chunks_at ts (map (λ (x : Chunk). x.at) rest)) here ∙ ap (λ cs. c ∷ y ∷ cs) (chunks_back ts xs)
       | false ↦ elim [
@@ -102,7 +102,7 @@ sorted_bins r w l last c g some =
     let a : Plain = arena_with r w l last in
     let ts : List Tile = w.tiles in
     let rest : List (List ℕ) = map (apart_from c.at) l.lists in
-    let here : chunk_at ts c.at ≡ c = chunk_here ts c (listed_tile a c g.sound some) in
+    let here : tile_chunk ts c.at ≡ c = chunk_here ts c (listed_tile a c g.sound some) in
     let bins : bins_at ts rest ≡ (unlinked a c).bins = rest_bins r w l last c g some in
     let bin : (i : ℕ) → chunks_at ts (list_at i rest) ≡ bin_at (unlinked a c) i = λ i. sym (bin_is ts rest i) ∙ ap (λ bins. get_or bins i []) bins in
     let with : (i : ℕ) (xs : List ℕ) (cs : List Chunk) → chunks_at ts xs ≡ cs → bins_at ts (set rest i xs) ≡ set (unlinked a c).bins i cs = λ i xs cs e.

@@ -9,7 +9,7 @@ use Rattle.chunk_tags.specs.declared.tiles.Tile.{Tile}
 use Rattle.chunk_tags.specs.declared.tiles.TileKind.TheVariants.{Used, Top}
 use Rattle.chunk_tags.specs.Tunables.{main_limit}
 use Rattle.bin_links.specs.Lists.{Linked}
-use Rattle.part_words.specs.Extents.{Covers}
+use Rattle.part_words.specs.Extents.{IsWider}
 use Rattle.chunk_image.specs.Rows.{TileRow}
 use Rattle.address_space.specs.Spaces.{main_start, piece_start}
 use Rattle.large_bins.specs.SeenChunks.{size_in}
@@ -30,7 +30,7 @@ use Rattle.arena_rules.proofs.Moved.{Moved, nothing}
 use Rattle.arena_rules.proofs.TopEnds.{absorbed_end, grown_into_top_end}
 use Rattle.heap_top.proofs.MainMoves.{IsCutOff, IsMainKept, cut_off, break_kept, piece_kept, trim_kept}
 use Rattle.heap_top.proofs.TopLaws.{knows_top}
-use Rattle.arena_ground.specs.Grounds.{arena_with, bins_at, chunk_at, IsGround, IsPlacedIn}
+use Rattle.arena_ground.specs.Grounds.{arena_with, bins_at, tile_chunk, IsGround, IsPlacedIn}
 use Rattle.arena_ground.proofs.Bridges.{agree, times_all}
 use Rattle.arena_ground.proofs.Keeping.{in_beside, in_still, windows_of, AreRegionsKept, IsSoundGround, IsDone, kept_words}
 use Rattle.arena_ground.proofs.Moving.{own_tile}
@@ -41,7 +41,7 @@ use Rattle.arena_ground.proofs.Moving.{own_tile}
 top_bins : (b : Plain) (ts : List Tile) (lists : List (List ℕ)) → IsSound b → b.bins ≡ bins_at ts lists → bins_at b.tiles lists ≡ bins_at ts lists
 top_bins b ts lists s same =
     agree ts b.tiles lists (λ n some.
-    ap size_in (listed_tile b (chunk_at ts n) s (omega (arith, some, times_all ts n lists, ap (sum_by (times_in (chunk_at ts n))) same))))
+    ap size_in (listed_tile b (tile_chunk ts n) s (omega (arith, some, times_all ts n lists, ap (sum_by (times_in (tile_chunk ts n))) same))))
 
 -- what a change of the regions did
 pub record IsChangedTo (r s : Regions) (w v : TileRow) (l m : Linked) (last : Option ℕ) (new : Plain) : Type 0 where
@@ -180,7 +180,7 @@ noted_kept r s w l last g top closed is =
     kept_words r s w w l l last last g (record { tiles = refl; links = refl }) same
     (record { row = g.known.row; is = g.known.is ∙ sym top }) (subst (λ x. IsPlacedIn x s.closed.items) (sym is) (subst (λ x. IsPlacedIn (noted a) x.items) (sym closed) placed))
 
-pub opened_kept : (r : Regions) (w v : TileRow) (l m : Linked) (last : Option ℕ) → IsGround r w l last → v.tiles ≡ w.tiles → m.lists ≡ l.lists → Covers v.extent m.extent → v.extent.base ≡ w.extent.base → v.extent.width ≡ w.extent.width → IsGround r v m last
+pub opened_kept : (r : Regions) (w v : TileRow) (l m : Linked) (last : Option ℕ) → IsGround r w l last → v.tiles ≡ w.tiles → m.lists ≡ l.lists → IsWider v.extent m.extent → v.extent.base ≡ w.extent.base → v.extent.width ≡ w.extent.width → IsGround r v m last
 opened_kept r w v l m last g tiles lists covers base width = record {
   known = subst (KnowsTop r.top) (sym tiles) g.known;
   placed = subst (λ x. IsPlacedIn x r.closed.items) (λ i. arena_of r (sym tiles i) (bins_at (sym tiles i) (sym lists i)) last) g.placed;

@@ -4,7 +4,7 @@ use Rattle.std.specs.Prelude.{◌≡◌, ℕ, ◌-◌, ◌/◌, ◌≤◌, false
 use Rattle.chunk_tags.specs.declared.tiles.Chunk.{Chunk}
 use Rattle.chunk_tags.specs.declared.tiles.Tile.{Tile}
 use Rattle.chunk_tags.specs.Sizes.{is_small_size, small_index_of}
-use Rattle.part_words.specs.Extents.{Extent, Covers}
+use Rattle.part_words.specs.Extents.{Extent, IsWider}
 use Rattle.bin_links.specs.Lists.{Linked, put_front, without}
 use Rattle.chunk_image.specs.Rows.{TileRow}
 use Rattle.large_bins.specs.SeenChunks.{size_at, put_large}
@@ -22,11 +22,11 @@ pub record GroundView : Type 0 where
   pub extent : Extent
 
 -- the chunk at an address, as large as its tile
-abbrev pub chunk_at : List Tile → ℕ → Chunk
-chunk_at ts at = record { at = at; size = size_at ts at }
+abbrev pub tile_chunk : List Tile → ℕ → Chunk
+tile_chunk ts at = record { at = at; size = size_at ts at }
 
 abbrev pub chunks_at : List Tile → List ℕ → List Chunk
-chunks_at ts xs = map (chunk_at ts) xs
+chunks_at ts xs = map (tile_chunk ts) xs
 
 abbrev pub bins_at : List Tile → List (List ℕ) → List (List Chunk)
 bins_at ts lists = map (chunks_at ts) lists
@@ -63,6 +63,6 @@ pub record IsGround (r : Regions) (w : TileRow) (l : Linked) (last : Option ℕ)
   pub known : KnowsTop r.top w.tiles
   pub placed : IsPlacedIn (arena_with r w l last) r.closed.items
   pub room : r.heaps ≤ vec_capacity r.closed
-  pub covers : Covers w.extent l.extent
+  pub covers : IsWider w.extent l.extent
   pub base : w.extent.base ≡ words_start (arena_with r w l last)
   pub width : w.extent.width ≡ part_bytes (arena_with r w l last) / 16

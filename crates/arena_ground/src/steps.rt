@@ -6,13 +6,13 @@ ghost use Rattle.chunk_tags.specs.declared.tiles.Chunk.{Chunk as Piece};
 ghost use Rattle.chunk_tags.specs.declared.tiles.Tile.{Tile as Square};
 ghost use Rattle.chunk_tags.specs.Sizes.{IsChunkSize, bin_of as bin_index};
 ghost use Rattle.chunk_tags.specs.Tiles.{Row, is_edge, is_free as is_free_tile, is_top as is_top_tile, fused, swapped, tile_at, tile_behind};
-ghost use Rattle.part_words.specs.Extents.{Covers};
+ghost use Rattle.part_words.specs.Extents.{IsWider};
 ghost use Rattle.bin_links.specs.Lists.{bin_count, list_at, put_front, times_listed, without};
 ghost use Rattle.large_bins.specs.SeenChunks.{large_chunks, HaveTiles};
 ghost use Rattle.ordinary_bins.specs.BinLists.{lists_without};
 ghost use Rattle.arena_rules.specs.Moves.{tile_of};
 ghost use Rattle.heap_top.specs.Regions.{address_of};
-ghost use Rattle.arena_ground.specs.Grounds.{bins_at, chunk_at, chunks_at, sorted_lists};
+ghost use Rattle.arena_ground.specs.Grounds.{bins_at, tile_chunk, chunks_at, sorted_lists};
 ghost use Rattle.arena_rules.specs.Search.{first_oldest};
 
 use arena_rules::HeapEnd;
@@ -53,7 +53,7 @@ pub(crate) fn is_top(t: &Tile) -> bool
 /// The chunk at an address.
 pub(crate) fn chunk_of(tiles: &TileWords, at: Addr) -> Chunk
     requires { IsSome (tile_at at tiles.now.tiles) }
-    ensures { result ≡ chunk_at tiles.now.tiles at }
+    ensures { result ≡ tile_chunk tiles.now.tiles at }
 {
     Chunk {
         at,
@@ -138,7 +138,7 @@ pub(crate) fn unlink_end(links: &mut LinkWords, end: &HeapEnd)
 pub(crate) fn shelve(tiles: &mut TileWords, links: &mut LinkWords, c: Chunk)
     requires row { Row tiles.old.tiles }
     requires tile { tile_at c.at tiles.old.tiles ≡ Some (tile_of TileKind.Used c.at c.size) }
-    requires covers { Covers tiles.old.extent links.old.extent }
+    requires covers { IsWider tiles.old.extent links.old.extent }
     requires high { bin_count ≤ c.at }
     requires unlisted { times_listed c.at links.old.lists ≡ 0 }
     ensures tiles { tiles.new ≡ record tiles.old {
@@ -177,7 +177,7 @@ pub(crate) fn part(tiles: &mut TileWords, c: Chunk, nb: Size) -> Chunk
 pub(crate) fn sort_in(tiles: &TileWords, links: &mut LinkWords, c: Chunk)
     requires row { Row tiles.now.tiles }
     requires tile { tile_at c.at tiles.now.tiles ≡ Some (tile_of TileKind.Free c.at c.size) }
-    requires covers { Covers tiles.now.extent links.old.extent }
+    requires covers { IsWider tiles.now.extent links.old.extent }
     requires high { bin_count ≤ c.at }
     requires listed { 1 ≤ times_listed c.at links.old.lists }
     requires tiles { HaveTiles tiles.now.tiles links.old.lists }

@@ -26,7 +26,7 @@ use Rattle.search_steps.specs.declared.step.Step.{Step}
 use Rattle.search_steps.specs.declared.step.Step.TheVariants as steps
 use Rattle.search_steps.proofs.BinnedLaws.{topped_balances}
 use Rattle.search_steps.specs.Ledgers.{Ledger, Stage, stage, Balances, full}
-use Rattle.search_steps.specs.Steps.{step_of, chunks_of, topped}
+use Rattle.search_steps.specs.Steps.{step_of, chunks_taken, topped}
 use Rattle.search_steps.proofs.Balance.{balances_here, balances_then, balances_as, works_ok}
 use Rattle.search_steps.proofs.Parts.{Passes, passes_then, passes_as, passes_behind, works_after, short_behind_works, passes_closed}
 use Rattle.arena_growth.specs.declared.found.Found.{Found}

@@ -23,7 +23,7 @@ use Rattle.thread_cache.specs.Caches.{CacheValue}
 use Rattle.search_steps.specs.declared.step.Step.{Step}
 use Rattle.search_steps.specs.declared.step.Step.TheVariants as steps
 use Rattle.search_steps.specs.Ledgers.{Stage, stage, Balances, full, shelf}
-use Rattle.search_steps.specs.Steps.{step_of, chunks_of, topped}
+use Rattle.search_steps.specs.Steps.{step_of, chunks_taken, topped}
 use Rattle.search_steps.proofs.Balance.{works_ok}
 use Rattle.search_steps.proofs.BinnedLaws.{topped_balances}
 use Rattle.search_steps.proofs.Parts.{Passes, passes_behind, works_after, short_behind_works}
@@ -50,7 +50,7 @@ from_topped nb b c s e =
     let same : (s : Step) → took_step (step_of s c) ≡ took c (found_step s) = elim [ steps.Taken k ↦ refl | steps.Onward ↦ refl ] in
     top (has_top_for b nb) ∙ (ap took_step (sym e) ∙ same s)
 
-chunks_same : (s : Step) (e : Chunk) → chunks_of s e ≡ chunks_found (found_step s) e
+chunks_same : (s : Step) (e : Chunk) → chunks_taken s e ≡ chunks_found (found_step s) e
 chunks_same (steps.Taken c) e = refl
 chunks_same steps.Onward e = refl
 
@@ -61,7 +61,7 @@ pub cuts : (nb : ℕ) (a c : Plain) (s : Step) → IsSound a → IsChunkSize nb 
 cuts nb a c s sound chunk e =
     let none : CacheValue = None in
     let x : Stage CacheValue = stage (noted a) none [] in
-    let b : Balances shelf x no_chunk (chunks_of s) (stage c none []) = topped_balances shelf x nb [] s c (noted_sound a sound) chunk e in
+    let b : Balances shelf x no_chunk (chunks_taken s) (stage c none []) = topped_balances shelf x nb [] s c (noted_sound a sound) chunk e in
     record {
       ends = from_topped nb (noted a) c s e;
       sound = b.sound;

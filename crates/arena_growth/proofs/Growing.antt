@@ -22,7 +22,7 @@ use Rattle.arena_rules.specs.Rules.{Rules, Need, Deed, Asks, Flagged, Pops, Owns
 use Rattle.arena_rules.specs.Walks.{Walks, here, idled, done, told as walked, Reaches}
 use Rattle.arena_rules.proofs.Walks.{reaches_told, short_here}
 use Rattle.consolidate_trim.specs.Holds.{Chunks, no_chunk}
-use Rattle.consolidate_trim.specs.Outside.{Means, Outside, Goes, Does, ways}
+use Rattle.consolidate_trim.specs.Outside.{Means, Outside, AnswerGoes, DeedGoes, ways}
 use Rattle.search_steps.specs.Ledgers.{Stage, stage, Works, full}
 use Rattle.search_steps.proofs.Balance.{balances_here, loses_from, works_short}
 use Rattle.search_steps.proofs.Parts.{Passes}
@@ -46,7 +46,7 @@ mapped_windows {before = before} {now = now} {len = len} {place = place} m =
     ] in
     cases (map_passes before len) refl
 
-goes_windows : {P K : Type 0} (m : Means P K) (o p : Outside P K) (n : Need) (s : Said) → Goes m o n s p → p.space.windows ≡ o.space.windows
+goes_windows : {P K : Type 0} (m : Means P K) (o p : Outside P K) (n : Need) (s : Said) → AnswerGoes m o n s p → p.space.windows ≡ o.space.windows
 goes_windows m o p Flagged (told.Flag b) h = ap (λ (o : Outside _ _). o.space.windows) h.others
 goes_windows m o p (Pops bin) (told.Popped at) h = ap (λ (o : Outside _ _). o.space.windows) h.others
 goes_windows m o p (Owns bin) (told.Own at) h = ap (λ (o : Outside _ _). o.space.windows) h.others
@@ -56,7 +56,7 @@ goes_windows m o p (Maps len) (told.Asked asked answer) h = mapped_windows h.map
 goes_windows m o p (Reads which) (told.Dial n) h = ap (λ (o : Outside _ _). o.space.windows) h.others
 goes_windows m o p n s h = absurd h
 
-does_windows : {P K : Type 0} (m : Means P K) (n : ℕ) (o p : Outside P K) (d : Deed) → Does m n o d p → p.space.windows ≡ o.space.windows
+does_windows : {P K : Type 0} (m : Means P K) (n : ℕ) (o p : Outside P K) (d : Deed) → DeedGoes m n o d p → p.space.windows ≡ o.space.windows
 does_windows m n o p Clears h = ap (λ (o : Outside _ _). o.space.windows) h.others
 does_windows m n o p (Gathers bin) h = ap (λ (o : Outside _ _). o.space.windows) h.others
 does_windows m n o p (Pushes bin at) h = ap (λ (o : Outside _ _). o.space.windows) h.others

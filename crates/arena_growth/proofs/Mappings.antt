@@ -25,7 +25,7 @@ use Rattle.arena_rules.specs.Rules.{Rules, Stop, Does, Counts, Maps, Reads, Need
 use Rattle.arena_rules.specs.Walks.{Reaches}
 use Rattle.arena_rules.proofs.Walks.{reaches_then, reaches_told, reaches_done, short_here, short_then}
 use Rattle.consolidate_trim.specs.Holds.{no_chunk}
-use Rattle.consolidate_trim.specs.Outside.{Means, Apart}
+use Rattle.consolidate_trim.specs.Outside.{Means, AreApart}
 use Rattle.search_steps.specs.Ledgers.{stage, full, word_ledger}
 use Rattle.search_steps.proofs.Balance.{balances_here, loses_from, works_ok, works_short}
 use Rattle.search_steps.proofs.Lifting.{IsPart}
@@ -51,7 +51,7 @@ word_part m cache space = record {
 }
 
 -- a word is read
-pub reads_passes : {P A : Type 0} (fast : Fast P) (dials : Dialled P) (u : Tunables) (a : Plain) (which : Dial) (n : ℕ) (p q : P) (old : List Said) (f : ℕ → Rules A) → Apart fast dials → IsSound a → dials.step p (dial_steps.Reads which n) q →
+pub reads_passes : {P A : Type 0} (fast : Fast P) (dials : Dialled P) (u : Tunables) (a : Plain) (which : Dial) (n : ℕ) (p q : P) (old : List Said) (f : ℕ → Rules A) → AreApart fast dials → IsSound a → dials.step p (dial_steps.Reads which n) q →
     Passes (word_ledger fast dials) u (reads a which f) (stage a p old) no_chunk (f n) (stage a q (old ++ told.Dial n ∷ []))
 reads_passes fast dials u a which n p q old f apart s step = record {
   reaches = reaches_told {t = u} {w = (word_ledger fast dials).ways a.number} {a = a} {n = Reads which} {f = λ s. f (number_told s)} {o = p} {z = q} (told.Dial n) refl step;
@@ -67,7 +67,7 @@ whether_short fast dials t nb p old r is = record {
   allows = λ d h. h;
 }
 
-pub whether_small : {P : Type 0} (fast : Fast P) (dials : Dialled P) (t : Tunables) (nb threshold : ℕ) (p q : P) (old : List Said) → Apart fast dials → dials.step p (dial_steps.Reads MmapThreshold threshold) q → nb < threshold →
+pub whether_small : {P : Type 0} (fast : Fast P) (dials : Dialled P) (t : Tunables) (nb threshold : ℕ) (p q : P) (old : List Said) → AreApart fast dials → dials.step p (dial_steps.Reads MmapThreshold threshold) q → nb < threshold →
     AsksWhether fast dials t nb p old (Ok false) q (old ++ told.Dial threshold ∷ [])
 whether_small fast dials t nb threshold p q old apart step lt =
     let test : nat_le threshold nb ≡ false = grind (arith, nat_tests) in
@@ -79,7 +79,7 @@ whether_small fast dials t nb threshold p q old apart step lt =
       allows = λ d h. apart.reads p q MmapThreshold threshold d step h;
     }
 
-threshold_read : {P : Type 0} (fast : Fast P) (dials : Dialled P) (t u : Tunables) (a : Plain) (nb threshold : ℕ) (p q : P) (old : List Said) → Apart fast dials → IsSound a → dials.step p (dial_steps.Reads MmapThreshold threshold) q → threshold ≤ nb →
+threshold_read : {P : Type 0} (fast : Fast P) (dials : Dialled P) (t u : Tunables) (a : Plain) (nb threshold : ℕ) (p q : P) (old : List Said) → AreApart fast dials → IsSound a → dials.step p (dial_steps.Reads MmapThreshold threshold) q → threshold ≤ nb →
     Passes (word_ledger fast dials) u (maps_first t nb a) (stage a p old) no_chunk (reads a MappedCount (λ count. Stop (nat_lt count t.mmaps_max))) (stage a q (old ++ told.Dial threshold ∷ []))
 threshold_read fast dials t u a nb threshold p q old apart s step le =
     let test : nat_le threshold nb ≡ true = grind (arith, nat_tests) in
@@ -87,7 +87,7 @@ threshold_read fast dials t u a nb threshold p q old apart s step le =
     let goes : after_threshold t nb a threshold ≡ reads a MappedCount (λ count. Stop (nat_lt count t.mmaps_max)) = ap (λ (b : Bool). cond b (reads a MappedCount (λ count. Stop (nat_lt count t.mmaps_max))) (Stop false)) test in
     record { reaches = subst (λ r. Reaches u ((word_ledger fast dials).ways a.number) (maps_first t nb a) p old r (old ++ told.Dial threshold ∷ []) q) goes first.reaches; balances = first.balances }
 
-pub whether_lost : {P : Type 0} (fast : Fast P) (dials : Dialled P) (t : Tunables) (nb threshold : ℕ) (p q : P) (old : List Said) (r : Result Bool NoMemory) → IsErr r → Apart fast dials → dials.step p (dial_steps.Reads MmapThreshold threshold) q → threshold ≤ nb →
+pub whether_lost : {P : Type 0} (fast : Fast P) (dials : Dialled P) (t : Tunables) (nb threshold : ℕ) (p q : P) (old : List Said) (r : Result Bool NoMemory) → IsErr r → AreApart fast dials → dials.step p (dial_steps.Reads MmapThreshold threshold) q → threshold ≤ nb →
     AsksWhether fast dials t nb p old r q (old ++ told.Dial threshold ∷ [])
 whether_lost fast dials t nb threshold p q old r is apart step le = record {
   works = λ u a s.
@@ -96,7 +96,7 @@ whether_lost fast dials t nb threshold p q old r is apart step le = record {
   allows = λ d h. apart.reads p q MmapThreshold threshold d step h;
 }
 
-pub whether_large : {P : Type 0} (fast : Fast P) (dials : Dialled P) (t : Tunables) (nb threshold count : ℕ) (p q z : P) (old : List Said) (b : Bool) → Apart fast dials → dials.step p (dial_steps.Reads MmapThreshold threshold) q → threshold ≤ nb → dials.step q (dial_steps.Reads MappedCount count) z → b ≡ nat_lt count t.mmaps_max →
+pub whether_large : {P : Type 0} (fast : Fast P) (dials : Dialled P) (t : Tunables) (nb threshold count : ℕ) (p q z : P) (old : List Said) (b : Bool) → AreApart fast dials → dials.step p (dial_steps.Reads MmapThreshold threshold) q → threshold ≤ nb → dials.step q (dial_steps.Reads MappedCount count) z → b ≡ nat_lt count t.mmaps_max →
     AsksWhether fast dials t nb p old (Ok b) z ((old ++ told.Dial threshold ∷ []) ++ told.Dial count ∷ [])
 whether_large fast dials t nb threshold count p q z old b apart step le step' is = record {
   works = λ u a s.
@@ -122,7 +122,7 @@ mapping_refused m nb p space now old maps = record {
       (record { sound = s; number = refl; windows = refl; placed = λ p. p; cached = λ e. omega arith; others = λ n other e. refl; kept = λ e. omega arith });
 }
 
-pub mapping_granted : {P K : Type 0} (m : Means P K) (nb place : ℕ) (p q : P) (space now : Space K) (old : List Said) → Apart m.fast m.dials → MapsWithin m.kernel space (mapping_length nb) (Some place) now → m.dials.step p (dial_steps.Maps (mapping_length nb)) q →
+pub mapping_granted : {P K : Type 0} (m : Means P K) (nb place : ℕ) (p q : P) (space now : Space K) (old : List Said) → AreApart m.fast m.dials → MapsWithin m.kernel space (mapping_length nb) (Some place) now → m.dials.step p (dial_steps.Maps (mapping_length nb)) q →
     AsksMapping m nb p space old (Ok (Some (record { at = map_place space; size = mapping_length nb }))) q now (old ++ told.Asked (asks.Map (map_place space) (mapping_length nb)) Granted ∷ [])
 mapping_granted m nb place p q space now old apart maps step = record {
   works = λ t a cache s.

@@ -31,7 +31,7 @@ use Rattle.arena_rules.proofs.Bins.{once_self}
 use Rattle.arena_rules.proofs.ChunkMoves.{own_from}
 use Rattle.arena_rules.proofs.MainPlaces.{IsGrowth, break_grown}
 use Rattle.arena_rules.proofs.Tops.{top_found}
-use Rattle.consolidate_trim.specs.Outside.{Means, Outside, Goes, ways}
+use Rattle.consolidate_trim.specs.Outside.{Means, Outside, AnswerGoes, ways}
 use Rattle.search_steps.specs.Ledgers.{Stage}
 use Rattle.arena_growth.specs.Asking.{IsReady, IsSearchable, found_of}
 use Rattle.arena_growth.specs.Asking as asked
@@ -68,7 +68,7 @@ granted_behind t P Q (Needs a n g) f h k = λ s fit granted. granted_behind t P 
 
 -- ---- a refused ask raised the count
 
-goes_rose : {P K : Type 0} (m : Means P K) (o p : Outside P K) (n : Need) (s : Said) → Goes m o n s p → is_refusal s ≡ true → Rose (refusals_of m o) (refusals_of m p)
+goes_rose : {P K : Type 0} (m : Means P K) (o p : Outside P K) (n : Need) (s : Said) → AnswerGoes m o n s p → is_refusal s ≡ true → Rose (refusals_of m o) (refusals_of m p)
 goes_rose m o p Flagged (told.Flag b) h e = absurd cc
 goes_rose m o p (Pops bin) (told.Popped at) h e = absurd cc
 goes_rose m o p (Owns bin) (told.Own at) h e = absurd cc

@@ -9,7 +9,7 @@ use Rattle.arena_rules.specs.Walks as walks
 use Rattle.arena_rules.specs.Walks.{Walks, Reaches, Performs}
 use Rattle.arena_rules.specs.declared.said.Said.{Said}
 use Rattle.arena_rules.specs.declared.said.Said.TheVariants as told
-use Rattle.consolidate_trim.specs.Outside.{Means, Outside, Goes, Does, ways}
+use Rattle.consolidate_trim.specs.Outside.{Means, Outside, AnswerGoes, DeedGoes, ways}
 
 -- the count of an outside
 abbrev pub refusals_of : {P K : Type 0} → Means P K → Outside P K → ℕ
@@ -18,7 +18,7 @@ refusals_of m o = space_refusals m.kernel o.space
 pub same_refusals : {P K : Type 0} (m : Means P K) (o p : Outside P K) → p.space ≡ o.space → refusals_of m o ≤ refusals_of m p
 same_refusals {K = K} m o p same = omega (arith, ap (λ (s : Space K). space_refusals m.kernel s) same)
 
-pub goes_refusals : {P K : Type 0} (m : Means P K) (o p : Outside P K) (n : Need) (s : Said) → Goes m o n s p → refusals_of m o ≤ refusals_of m p
+pub goes_refusals : {P K : Type 0} (m : Means P K) (o p : Outside P K) (n : Need) (s : Said) → AnswerGoes m o n s p → refusals_of m o ≤ refusals_of m p
 goes_refusals {P = P} {K = K} m o p Flagged (told.Flag b) h = same_refusals m o p (ap (λ (x : Outside P K). x.space) h.others)
 goes_refusals {P = P} {K = K} m o p (Pops bin) (told.Popped at) h = same_refusals m o p (ap (λ (x : Outside P K). x.space) h.others)
 goes_refusals {P = P} {K = K} m o p (Owns bin) (told.Own at) h = same_refusals m o p (ap (λ (x : Outside P K). x.space) h.others)
@@ -28,7 +28,7 @@ goes_refusals m o p (Maps len) (told.Asked asked answer) h = h.maps.later
 goes_refusals {P = P} {K = K} m o p (Reads which) (told.Dial n) h = same_refusals m o p (ap (λ (x : Outside P K). x.space) h.others)
 goes_refusals m o p n s h = absurd h
 
-pub does_refusals : {P K : Type 0} (m : Means P K) (number : ℕ) (o p : Outside P K) (d : Deed) → Does m number o d p → refusals_of m o ≤ refusals_of m p
+pub does_refusals : {P K : Type 0} (m : Means P K) (number : ℕ) (o p : Outside P K) (d : Deed) → DeedGoes m number o d p → refusals_of m o ≤ refusals_of m p
 does_refusals {P = P} {K = K} m number o p Clears h = same_refusals m o p (ap (λ (x : Outside P K). x.space) h.others)
 does_refusals {P = P} {K = K} m number o p (Gathers bin) h = same_refusals m o p (ap (λ (x : Outside P K). x.space) h.others)
 does_refusals {P = P} {K = K} m number o p (Pushes bin at) h = same_refusals m o p (ap (λ (x : Outside P K). x.space) h.others)

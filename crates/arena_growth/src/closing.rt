@@ -4,7 +4,7 @@ ghost use Rattle.std.specs.Prelude.{◌≤◌, OnErr};
 ghost use Rattle.chunk_tags.specs.Sizes.{IsRequestSize};
 ghost use Rattle.arena_rules.specs.PlainArena.{IsSound};
 ghost use Rattle.consolidate_trim.specs.Holds.{IsBacked};
-ghost use Rattle.consolidate_trim.specs.Outside.{Apart, means};
+ghost use Rattle.consolidate_trim.specs.Outside.{AreApart, means};
 ghost use Rattle.consolidate_trim.specs.Lacks.{LacksRoom};
 ghost use Rattle.search_steps.specs.Ledgers.{stage};
 ghost use Rattle.arena_growth.specs.Asking.{Closes, CutsFromGrown, FitsFound, beside_arena, chunks_in};
@@ -30,7 +30,7 @@ pub fn close<M: Moves, K: Kernel, P: FastPort + Dials>(
     said: &mut Vec<Said>,
 ) -> Result<(), NoMemory>
     requires backed { IsBacked P.fast (M.plain g.old) port.old (chunks_in rest) }
-    requires apart { Apart P.fast P.dials }
+    requires apart { AreApart P.fast P.dials }
     requires fast { t.now.max_fast ≤ 160 }
     ensures closes { Closes (means P.fast P.dials K.port) t.now rest
         (stage (M.plain g.old) (beside_arena port.old cache.old space.old) said.old.items)

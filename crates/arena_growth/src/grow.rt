@@ -3,7 +3,7 @@
 ghost use Rattle.std.specs.Prelude.{◌≡◌, false, IfOk, OnErr};
 ghost use Rattle.chunk_tags.specs.Sizes.{IsRequestSize};
 ghost use Rattle.arena_rules.specs.Growth.{has_top_for, piece_grown, main_grown, grown};
-ghost use Rattle.consolidate_trim.specs.Outside.{Apart, means};
+ghost use Rattle.consolidate_trim.specs.Outside.{AreApart, means};
 ghost use Rattle.search_steps.specs.Ledgers.{stage};
 ghost use Rattle.arena_growth.specs.Asking.{IsSearchable, IsReady, IsMainReady, AllowsMaps, Grows, Finds, FitsFound, beside_arena};
 ghost use Rattle.arena_growth.specs.Lacks.{Lacks, word_room};
@@ -32,7 +32,7 @@ fn grow_piece<M: Moves, K: Kernel, P: FastPort + Dials>(
 ) -> Result<(), NoMemory>
     requires ready { IsMainReady (means P.fast P.dials K.port) t.now
         (stage (M.plain g.old) (beside_arena port.old cache.old space.old) said.old.items) }
-    requires apart { Apart P.fast P.dials }
+    requires apart { AreApart P.fast P.dials }
     requires tuned { IsSearchable t.now }
     requires size { IsRequestSize nb }
     requires short { has_top_for (M.plain g.old) nb ≡ false }
@@ -64,7 +64,7 @@ fn grow_main<M: Moves, K: Kernel, P: FastPort + Dials>(
 ) -> Result<(), NoMemory>
     requires ready { IsMainReady (means P.fast P.dials K.port) t.now
         (stage (M.plain g.old) (beside_arena port.old cache.old space.old) said.old.items) }
-    requires apart { Apart P.fast P.dials }
+    requires apart { AreApart P.fast P.dials }
     requires tuned { IsSearchable t.now }
     requires size { IsRequestSize nb }
     requires short { has_top_for (M.plain g.old) nb ≡ false }
@@ -104,7 +104,7 @@ pub fn grow<M: Moves, K: Kernel, P: FastPort + Dials>(
     requires ready { IsReady (means P.fast P.dials K.port) t.now
         (stage (M.plain g.old) (beside_arena port.old cache.old space.old) said.old.items) }
     requires allows { tried ≡ false → AllowsMaps P.dials port.old space.old }
-    requires apart { Apart P.fast P.dials }
+    requires apart { AreApart P.fast P.dials }
     requires tuned { IsSearchable t.now }
     requires size { IsRequestSize nb }
     requires short { has_top_for (M.plain g.old) nb ≡ false }

@@ -4,7 +4,7 @@ ghost use Rattle.std.specs.Prelude.{◌≡◌, ◌+◌, [], ◌∷◌, ◌++◌,
 ghost use Rattle.chunk_tags.specs.Dials as words;
 ghost use Rattle.chunk_tags.specs.Sizes.{IsRequestSize};
 ghost use Rattle.mapped_chunks.specs.DialPorts as steps;
-ghost use Rattle.consolidate_trim.specs.Outside.{Apart, means};
+ghost use Rattle.consolidate_trim.specs.Outside.{AreApart, means};
 ghost use Rattle.consolidate_trim.specs.Lacks.{IsFull};
 ghost use Rattle.arena_growth.specs.Asking.{AllowsMaps, AsksMapping, AsksWhether, IsEnoughMapped};
 
@@ -23,7 +23,7 @@ pub fn ask_mapping<K: Kernel, P: FastPort + Dials>(
     said: &mut Vec<Said>,
 ) -> Result<Option<Chunk>, NoMemory>
     requires size { IsRequestSize nb }
-    requires apart { Apart P.fast P.dials }
+    requires apart { AreApart P.fast P.dials }
     requires allows { AllowsMaps P.dials port.old space.old }
     ensures asks { AsksMapping (means P.fast P.dials K.port) nb port.old space.old said.old.items
         result port.new space.new said.new.items }
@@ -84,7 +84,7 @@ pub fn maps_first<P: FastPort + Dials>(
     t: &Tunables,
     said: &mut Vec<Said>,
 ) -> Result<bool, NoMemory>
-    requires { Apart P.fast P.dials }
+    requires { AreApart P.fast P.dials }
     ensures asks { AsksWhether P.fast P.dials t.now nb port.old said.old.items result port.new said.new.items }
     ensures lacks { OnErr result (IsFull said.new) }
 {

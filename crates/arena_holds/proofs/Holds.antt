@@ -11,7 +11,7 @@ use Rattle.chunk_tags.specs.declared.tunables.Tunables.{Tunables}
 use Rattle.address_space.specs.Spaces.{map_length, map_start}
 use Rattle.address_space.specs.declared.space.Space.{Space}
 use Rattle.thread_cache.specs.Caches.{CacheValue, structure_of}
-use Rattle.thread_cache.specs.Held.{IsSound as IsSoundCache}
+use Rattle.thread_cache.specs.Held.{IsSoundCache}
 use Rattle.arena_rules.specs.PlainArena.{Plain, IsSound}
 use Rattle.arena_rules.specs.MainPlaces.{covers, IsPlaced}
 use Rattle.arena_rules.specs.Rules.{heap_windows_of}

@@ -27,7 +27,7 @@ use Rattle.arena_holds.specs.Going.{Goes, Mapped, here}
 use Rattle.arena_holds.specs.Holding.{Finds, FillsMapping}
 use Rattle.arena_holds.specs.Places.{PlaceWays, Setting, Standing, standing, Carries, both_of, weight_of, in_cache}
 use Rattle.arena_holds.specs.Returning.{AreReturn, AreReturned, IsSettled}
-use Rattle.arena_holds.specs.Searching.{IsSearch, IsAligned, size_searched, size_wanted, mapped_for, search_mapping, searched}
+use Rattle.arena_holds.specs.Searching.{IsSearch, IsAligned, size_searched, size_wanted, mapped_for, search_mapping, search_end}
 use Rattle.arena_holds.proofs.Carrying.{SameLaw, carries_as, carries_beside}
 use Rattle.arena_holds.proofs.Founds.{Fills, block_byte, filled_mapping}
 use Rattle.arena_holds.proofs.Unmapped.{IsFrame, frame_used, unmapped_chunk, counted_once, counted_bytes}
@@ -189,8 +189,8 @@ finds_mapped s t who cache act b c o q r first d later same search lent maps fil
     record {
       does = record {
         told = Mapped (Some b.addr) ∷ [];
-        goes = subst (λ (x : Option Block). Goes s t who (search_mapping act cache) o (Mapped (Some b.addr) ∷ []) (Done (searched 0 x cache)) (standing r later)) (sym is)
-            (going.mapped {next = λ start. Done (searched 0 (mapped_for act start) cache)} {p = standing r later} (record { lending = q; dial = first; last_dial = d; block = Some b; lent = lent; maps = maps; told = refl; gave = gave }) here);
+        goes = subst (λ (x : Option Block). Goes s t who (search_mapping act cache) o (Mapped (Some b.addr) ∷ []) (Done (search_end 0 x cache)) (standing r later)) (sym is)
+            (going.mapped {next = λ start. Done (search_end 0 (mapped_for act start) cache)} {p = standing r later} (record { lending = q; dial = first; last_dial = d; block = Some b; lent = lent; maps = maps; told = refl; gave = gave }) here);
       };
       gets = record {
         held = filled_mapping (size_searched act) (chunk_at b.addr b.size) c fills.page size fills.limit taken.fills;
@@ -210,7 +210,7 @@ pub finds_unmapped : {P H D K : Type 0} (s : Setting P H D K) (t : Tunables) (wh
 finds_unmapped s t who cache act o q r first d later same lent maps gave returned = record {
   does = record {
     told = Mapped None ∷ [];
-    goes = going.mapped {next = λ start. Done (searched 0 (mapped_for act start) cache)} {p = standing r later} (record { lending = q; dial = first; last_dial = d; block = None; lent = lent; maps = maps; told = refl; gave = gave }) here;
+    goes = going.mapped {next = λ start. Done (search_end 0 (mapped_for act start) cache)} {p = standing r later} (record { lending = q; dial = first; last_dial = d; block = None; lent = lent; maps = maps; told = refl; gave = gave }) here;
   };
   gets = record {
     held = tt;

@@ -199,4 +199,4 @@ pub short_again : {P H D K : Type 0} {s : Setting P H D K} {t : Tunables} {who :
     RunsShort s t who (trees.search t who.thread bytes again act cache) o z
 short_again {s = s} {t = t} {who = who} again {act = act} {cache = cache} {mid = mid} {p = p} {z = z} r none f short =
     short_then (tried_again t who.thread again act cache) f.does
-    (subst (λ (b : Bool). RunsShort s t who (cond b (Done (trees.searched r.search.hold r.search.block mid)) (trees.search_again t who.thread again r.arena act mid)) p z) (sym (ap (λ (o : Option Block). is_some o) none)) short)
+    (subst (λ (b : Bool). RunsShort s t who (cond b (Done (trees.search_end r.search.hold r.search.block mid)) (trees.search_again t who.thread again r.arena act mid)) p z) (sym (ap (λ (o : Option Block). is_some o) none)) short)

@@ -24,7 +24,7 @@ use Rattle.arena_holds.specs.Holding.{Gets, SearchesHeld, Finds, FindsChosen, Op
 use Rattle.arena_holds.specs.Places.{PlaceWays, Setting, Standing, standing, Carries, IsServed, both_of, weight_of, in_cache}
 use Rattle.arena_holds.specs.Returning.{IsBooked, IsChosen}
 use Rattle.arena_holds.specs.Searching as trees
-use Rattle.arena_holds.specs.Searching.{Searched, Chosen, searched, found_in, avoided, tried_again, or_in_mapping}
+use Rattle.arena_holds.specs.Searching.{Searched, Chosen, search_end, found_in, avoided, tried_again, or_in_mapping}
 use Rattle.arena_holds.proofs.Carrying.{SameLaw, FewerLaw, carries_as, carries_then, served_after, served_fewer}
 use Rattle.arena_holds.proofs.Going.{does_here, does_then, does_last}
 use Rattle.arena_holds.proofs.Opened.{carries_hidden}
@@ -48,7 +48,7 @@ gets_of : {P H D K : Type 0} {s : Setting P H D K} {t : Tunables} {who : Who} {r
 gets_of f = f.gets
 
 finds_of : {P H D K : Type 0} {s : Setting P H D K} {t : Tunables} {who : Who} {rules : Call Searched} {act : Act} {cache left : CacheValue} {o z : Standing P K} (place : ℕ) {block : Option Block} →
-    Does s t who rules o (searched place block left) z → (block ≡ None → Rose (space_refusals s.means.kernel o.space) (space_refusals s.means.kernel z.space)) → Gets s act cache o block left z →
+    Does s t who rules o (search_end place block left) z → (block ≡ None → Rose (space_refusals s.means.kernel o.space) (space_refusals s.means.kernel z.space)) → Gets s act cache o block left z →
     Finds s t who rules act cache o place block left z
 finds_of place does refused g = record { does = does; gets = g; refused = refused }
 
@@ -103,7 +103,7 @@ finds_held {s = s} {t = t} {who = who} {a = a} {act = act} {cache = cache} {left
     finds_of place
     (record {
       told = told;
-      goes = subst (λ (b : Option Block). Goes s t who (trees.search_in a act cache) o told (Done (searched place b left)) z) (sym h.block_is)
+      goes = subst (λ (b : Option Block). Goes s t who (trees.search_in a act cache) o told (Done (search_end place b left)) z) (sym h.block_is)
           (going.held {next = λ place ended left. Done (found_in a act (hold_end place ended left))} {p = z} h.step here);
     })
     h.refused h.gets
@@ -142,7 +142,7 @@ chosen_reused {s = s} {t = t} {who = who} {start = start} {a = a} fresh {act = a
     record {
       does = record {
         told = told;
-        goes = subst (λ (b : Option Block). Goes s t who (trees.search_reused who.thread fresh start act cache) o told (Done (Some (a, searched found.hold b left))) (standing z space)) (sym h.block_is)
+        goes = subst (λ (b : Option Block). Goes s t who (trees.search_reused who.thread fresh start act cache) o told (Done (Some (a, search_end found.hold b left))) (standing z space)) (sym h.block_is)
             (going.held_free {next = λ a place ended left. Books (Reuses who.thread a) (λ book. Done (Some (a, found_in a act (hold_end place ended left))))} {p = standing p space} free h.step
             (going.booked {next = λ book. Done (Some (a, found_in a act (hold_end found.hold h.entry.ended left)))} {p = standing z space} (record { booked = booked.booked; space = refl }) here));
       };
@@ -185,7 +185,7 @@ finds_without {s = s} {t = t} {who = who} {c = c} {act = act} {cache = cache} {l
 pub finds_at_once : {P H D K : Type 0} {s : Setting P H D K} {t : Tunables} {who : Who} {c : Call Chosen} (bytes : ℕ) {act : Act} {cache left : CacheValue} {o z : Standing P K} (r : Tried) → is_some r.search.block ≡ true →
     FindsChosen s t who c act cache o (Some r) left z → Finds s t who (then_call c (tried_again t who.thread bytes act cache)) act cache o r.search.hold r.search.block left z
 finds_at_once {s = s} {t = t} {who = who} bytes {act = act} {cache = cache} {left = left} {z = z} r some f =
-    let x : Searched = searched r.search.hold r.search.block left in
+    let x : Searched = search_end r.search.hold r.search.block left in
     finds_of r.search.hold
     (does_then (tried_again t who.thread bytes act cache) f.does
     (subst (λ (b : Bool). Does s t who (cond b (Done x) (trees.search_again t who.thread bytes r.arena act left)) z x z) (sym some) (does_here x z))) (f.refused refl) f.gets
@@ -199,7 +199,7 @@ pub finds_at_last : {P H D K : Type 0} {s : Setting P H D K} {t : Tunables} {who
     FindsChosen s t who (trees.choose_and_search t who.thread true bytes act cache) act cache o (Some r) left z →
     Finds s t who (trees.search_again t who.thread bytes a act cache) act cache o r.search.hold r.search.block left z
 finds_at_last {s = s} {t = t} {who = who} {bytes = bytes} {act = act} {cache = cache} {left = left} {o = o} {z = z} a r main f =
-    let x : Searched = searched r.search.hold r.search.block left in
+    let x : Searched = search_end r.search.hold r.search.block left in
     let in_main : Does s t who (then_call (trees.choose_and_search t who.thread true bytes act cache) (or_in_mapping act cache)) o x z = does_then (or_in_mapping act cache) f.does (does_here x z) in
     finds_of r.search.hold (tried_main a main in_main) (f.refused refl) f.gets
 
@@ -213,9 +213,9 @@ pub finds_again : {P H D K : Type 0} {s : Setting P H D K} {t : Tunables} {who :
     r.search.block ≡ None → FindsChosen s t who c act cache o (Some r) mid p → Finds s t who (trees.search_again t who.thread bytes r.arena act mid) act mid p place block left z →
     Finds s t who (then_call c (tried_again t who.thread bytes act cache)) act cache o place block left z
 finds_again {s = s} {t = t} {who = who} bytes {act = act} {cache = cache} {mid = mid} {left = left} {o = o} {p = p} {z = z} r place block same none f again =
-    let x : Searched = searched r.search.hold r.search.block mid in
+    let x : Searched = search_end r.search.hold r.search.block mid in
     finds_of place
     (does_then (tried_again t who.thread bytes act cache) f.does
-    (subst (λ (b : Bool). Does s t who (cond b (Done x) (trees.search_again t who.thread bytes r.arena act mid)) p (searched place block left) z) (sym (ap (λ (o : Option Block). is_some o) none)) again.does))
+    (subst (λ (b : Bool). Does s t who (cond b (Done x) (trees.search_again t who.thread bytes r.arena act mid)) p (search_end place block left) z) (sym (ap (λ (o : Option Block). is_some o) none)) again.does))
     (λ e. rose_from (space_refusals s.means.kernel o.space) (space_refusals s.means.kernel p.space) (space_refusals s.means.kernel z.space) f.gets.later (again.refused e))
     (gets_after f.gets.later f.gets.opens (none_carries cache mid r.search.block same none f.gets.carries) (gets_of again))

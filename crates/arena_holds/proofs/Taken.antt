@@ -5,7 +5,7 @@ use Rattle.chunk_tags.specs.declared.block.Block.{Block}
 use Rattle.chunk_tags.specs.declared.tunables.Tunables.{Tunables}
 use Rattle.address_space.specs.declared.space.Space.{Space}
 use Rattle.thread_cache.specs.Caches.{CacheValue, structure_of, is_open}
-use Rattle.thread_cache.specs.Held.{IsSound as IsSoundCache}
+use Rattle.thread_cache.specs.Held.{IsSoundCache}
 use Rattle.mapped_chunks.specs.DialPorts.{Dialled}
 use Rattle.arena_rules.specs.PlainArena.{times_used}
 use Rattle.arena_rules.specs.Rules.{Stop, block_of}

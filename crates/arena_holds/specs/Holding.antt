@@ -29,7 +29,7 @@ use Rattle.realloc_align.specs.Calls.{FitsResize}
 use Rattle.realloc_align.specs.declared.to_size.Resized.{Resized}
 use Rattle.realloc_align.specs.declared.to_size.Resized.TheVariants as sizes
 use Rattle.block_names.specs.Blocks.{IsHeld}
-use Rattle.arena_holds.specs.Searching.{Searched, Chosen, searched, size_searched, size_wanted, IsAligned}
+use Rattle.arena_holds.specs.Searching.{Searched, Chosen, search_end, size_searched, size_wanted, IsAligned}
 use Rattle.arena_holds.specs.declared.searching.Tried.{Tried}
 use Rattle.arena_holds.specs.Calls.{Call, Done, Opens, hold_of, hold_end, taken_of}
 use Rattle.arena_holds.specs.Going.{Does, HoldStep, FreeStep, UnmapStep, RemapStep}
@@ -111,14 +111,14 @@ SearchesShort s t who a act cache old entries room new = ((room ≤ entries) × 
 -- A chunk was searched for by these rules, for an act: the block, where one was found, and the place of the hold's entry.
 pub record Finds {P H D K : Type 0} (s : Setting P H D K) (t : Tunables) (who : Who) (rules : Call Searched) (act : Act) (cache : CacheValue)
     (old : Standing P K) (place : ℕ) (block : Option Block) (left : CacheValue) (new : Standing P K) : Type 0 where
-  pub does : Does s t who rules old (searched place block left) new
+  pub does : Does s t who rules old (search_end place block left) new
   pub gets : Gets s act cache old block left new
   pub refused : block ≡ None → Rose (space_refusals s.means.kernel old.space) (space_refusals s.means.kernel new.space)
 
 -- the arena that was searched, and what that came to, with the cache then; and the block
 abbrev pub chosen_with : CacheValue → Option Tried → Chosen
 chosen_with left None = None
-chosen_with left (Some r) = Some (r.arena, searched r.search.hold r.search.block left)
+chosen_with left (Some r) = Some (r.arena, search_end r.search.hold r.search.block left)
 
 abbrev pub block_tried : Option Tried → Option Block
 block_tried None = None

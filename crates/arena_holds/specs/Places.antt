@@ -20,7 +20,7 @@ use Rattle.arena_core.specs.Shown.{MappedShown, ShowsMapped}
 use Rattle.arena_choice.specs.Books.{BookValue}
 use Rattle.arena_holds.specs.BookChanges.{BookChange}
 use Rattle.consolidate_trim.specs.Holds.{is_block_of}
-use Rattle.consolidate_trim.specs.Outside.{Means, Apart}
+use Rattle.consolidate_trim.specs.Outside.{Means, AreApart}
 
 -- an arena between two holds: what it is, and the journal of its holds
 pub record KeptArena : Type 0 where
@@ -176,7 +176,7 @@ pub record MayLengthen (b : Block) (own len : ℕ) : Type 0 where
 -- that fits its thread's window may be counted; and a mapped chunk may be counted no more, or with another length that fits
 -- its thread's window
 pub record PlaceLaws {P H D : Type 0} (ways : PlaceWays P H D) (fast : Fast H) (dials : Dialled H) (words : Dialled D) : Type 0 where
-  pub apart : Apart fast dials
+  pub apart : AreApart fast dials
   pub shows : ShowsMapped fast dials ways.shown
   pub steady : IsSteady words
   pub same : (exact : Bool) (p : P) (hands others : Hands) → ((weigh : Block → ℕ) → others weigh ≡ hands weigh) → ways.serves exact p hands → ways.serves exact p others

@@ -51,11 +51,11 @@ pub record Searched : Type 0 where
   pub block : Option Block
   pub cache : CacheValue
 
-abbrev pub searched : ℕ → Option Block → CacheValue → Searched
-searched place block cache = record { place = place; block = block; cache = cache }
+abbrev pub search_end : ℕ → Option Block → CacheValue → Searched
+search_end place block cache = record { place = place; block = block; cache = cache }
 
 abbrev pub found_in : ℕ → Act → HoldEnd → Searched
-found_in a act e = searched e.place (taken_of a act e.ended) e.cache
+found_in a act e = search_end e.place (taken_of a act e.ended) e.cache
 
 -- one arena is searched
 abbrev pub search_in : ℕ → Act → CacheValue → Call Searched
@@ -104,7 +104,7 @@ mapped_for act (Some start) = taken_of 0 act (ended_of act (InMapping (chunk_at 
 
 -- where no arena could be had, a mapping is asked for, whatever the threshold and the count are
 abbrev pub search_mapping : Act → CacheValue → Call Searched
-search_mapping act cache = Maps (mapping_length (size_searched act)) (λ start. Done (searched 0 (mapped_for act start) cache))
+search_mapping act cache = Maps (mapping_length (size_searched act)) (λ start. Done (search_end 0 (mapped_for act start) cache))
 
 abbrev pub or_in_mapping : Act → CacheValue → Chosen → Call Searched
 or_in_mapping act cache None = search_mapping act cache

@@ -6,7 +6,7 @@ ghost use Rattle.chunk_tags.specs.Tunables.{IsTuned};
 ghost use Rattle.thread_cache.specs.Caches.{CacheValue, structure_of};
 ghost use Rattle.arena_rules.specs.PlainArena.{Plain};
 ghost use Rattle.consolidate_trim.specs.Holds.{no_chunk};
-ghost use Rattle.consolidate_trim.specs.Outside.{Apart, means};
+ghost use Rattle.consolidate_trim.specs.Outside.{AreApart, means};
 ghost use Rattle.search_steps.specs.Ledgers.{stage};
 ghost use Rattle.arena_growth.specs.Asking.{IsSearchable, IsReady, AllowsMaps, beside_arena};
 ghost use Rattle.arena_core.specs.Arenas.{FailsShort, held};
@@ -61,7 +61,7 @@ fn search_arena<M: Moves, K: Kernel, P: FastPort + Dials>(
     requires ready { IsReady (means P.fast P.dials K.port) t.now
         (stage (M.plain a.old.ground) (beside_arena port.old cache.old space.old) []) }
     requires allows { AllowsMaps P.dials port.old space.old }
-    requires apart { Apart P.fast P.dials }
+    requires apart { AreApart P.fast P.dials }
     requires tuned { IsSearchable t.now }
     requires act { IsSearch act.now }
     ensures searches { IfOk result (λ block.

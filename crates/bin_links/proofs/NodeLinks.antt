@@ -5,7 +5,7 @@ use Rattle.std.proofs.lemmas.List.{get_or-set_same, get_or-set_other}
 use Rattle.part_words.specs.Parts.{word_at, update}
 use Rattle.part_words.proofs.Updates.{update_same, update_other}
 use Rattle.bin_links.specs.Lists.{bin_count}
-use Rattle.bin_links.specs.Rings.{Moves}
+use Rattle.bin_links.specs.Rings.{Redirects}
 use Rattle.bin_links.specs.NodeWords.{links_at, no_links, ahead, back, Wrote}
 use Rattle.bin_links.specs.declared.nodes.Links.{Links}
 use Rattle.bin_links.specs.declared.nodes.Nodes.{Nodes}
@@ -37,14 +37,14 @@ wrote_word old new node l le own words = record {
 }
 
 -- one link of the two
-pub moved_ahead : {old new : Nodes} {node : ℕ} {l : Links} → Wrote old new node l → Moves (ahead old) (ahead new) node l.fd
+pub moved_ahead : {old new : Nodes} {node : ℕ} {l : Links} → Wrote old new node l → Redirects (ahead old) (ahead new) node l.fd
 moved_ahead w = record { here = ap (λ (l : Links). l.fd) w.here; others = λ n ne. ap (λ (l : Links). l.fd) (w.others n ne) }
 
-pub moved_back : {old new : Nodes} {node : ℕ} {l : Links} → Wrote old new node l → Moves (back old) (back new) node l.bk
+pub moved_back : {old new : Nodes} {node : ℕ} {l : Links} → Wrote old new node l → Redirects (back old) (back new) node l.bk
 moved_back w = record { here = ap (λ (l : Links). l.bk) w.here; others = λ n ne. ap (λ (l : Links). l.bk) (w.others n ne) }
 
 -- a move to where it led stays
-pub unmoved : {f f' : ℕ → ℕ} {node to : ℕ} → Moves f f' node to → f node ≡ to → (n : ℕ) → f' n ≡ f n
+pub unmoved : {f f' : ℕ → ℕ} {node to : ℕ} → Redirects f f' node to → f node ≡ to → (n : ℕ) → f' n ≡ f n
 unmoved {f} {f'} {node} {to} m same n = elim (cases_eq n node) [
   | inl q ↦ ap f' q ∙ (m.here ∙ (sym same ∙ ap f (sym q)))
   | inr ne ↦ m.others n ne

@@ -5,14 +5,14 @@ use Rattle.std.proofs.lemmas.List.{get_or-replicate}
 use Rattle.std.proofs.lemmas.List.Sums.{sum_by-append}
 use Rattle.part_words.specs.Extents.{Extent}
 use Rattle.bin_links.specs.Lists.{bin_count, list_at, times_in, empty_lists, first_of, last_of}
-use Rattle.bin_links.specs.Rings.{IsPath, Spells, chunk_of}
+use Rattle.bin_links.specs.Rings.{IsPath, Spells, chunk_at_node}
 use Rattle.bin_links.proofs.ListLaws.{last_stands, in_here, in_more, within, none_listed, length-empty_lists}
 
 -- no chunk of a list is a bin's own node
 abbrev AreChunks : List ℕ → Type 0
 AreChunks xs = (n : ℕ) → 1 ≤ times_in n xs → bin_count ≤ n
 
-first_of_path : (f b : ℕ → ℕ) (s e : ℕ) (xs : List ℕ) → IsPath f b s xs e → e < bin_count → AreChunks xs → first_of xs ≡ chunk_of (f s)
+first_of_path : (f b : ℕ → ℕ) (s e : ℕ) (xs : List ℕ) → IsPath f b s xs e → e < bin_count → AreChunks xs → first_of xs ≡ chunk_at_node (f s)
 first_of_path f b s e [] m lt high =
     let own : ltb (f s) bin_count ≡ true = ap (λ n. ltb n bin_count) m.ahead ∙ lt-ltb e bin_count lt in
     rw own refl
@@ -24,7 +24,7 @@ last_is_back : (f b : ℕ → ℕ) (s e x : ℕ) (xs : List ℕ) → IsPath f b 
 last_is_back f b s e x [] p = ap Some (sym p.1.back)
 last_is_back f b s e x (y ∷ ys) p = last_is_back f b x e y ys p.1
 
-last_of_path : (f b : ℕ → ℕ) (s e : ℕ) (xs : List ℕ) → IsPath f b s xs e → s < bin_count → AreChunks xs → last_of xs ≡ chunk_of (b e)
+last_of_path : (f b : ℕ → ℕ) (s e : ℕ) (xs : List ℕ) → IsPath f b s xs e → s < bin_count → AreChunks xs → last_of xs ≡ chunk_at_node (b e)
 last_of_path f b s e [] m lt high =
     let own : ltb (b e) bin_count ≡ true = ap (λ n. ltb n bin_count) m.back ∙ lt-ltb s bin_count lt in
     rw own refl
@@ -43,14 +43,14 @@ parts f b s e n (x ∷ xs) ys p = let later = parts f b x e n xs ys p.1 in ((p.0
 chunks : {f b : ℕ → ℕ} {e : Extent} {lists : List (List ℕ)} → Spells f b e lists → (bin : ℕ) → AreChunks (list_at bin lists)
 chunks {lists = lists} h bin n k = (h.places n (omega (arith, k, within n bin lists))).high
 
-pub first_read : {f b : ℕ → ℕ} {e : Extent} {lists : List (List ℕ)} → Spells f b e lists → (bin : ℕ) → bin < bin_count → first_of (list_at bin lists) ≡ chunk_of (f bin)
+pub first_read : {f b : ℕ → ℕ} {e : Extent} {lists : List (List ℕ)} → Spells f b e lists → (bin : ℕ) → bin < bin_count → first_of (list_at bin lists) ≡ chunk_at_node (f bin)
 first_read {f} {b} {lists = lists} h bin lt = first_of_path f b bin bin (list_at bin lists) (h.rings bin lt) lt (chunks h bin)
 
-pub last_read : {f b : ℕ → ℕ} {e : Extent} {lists : List (List ℕ)} → Spells f b e lists → (bin : ℕ) → bin < bin_count → last_of (list_at bin lists) ≡ chunk_of (b bin)
+pub last_read : {f b : ℕ → ℕ} {e : Extent} {lists : List (List ℕ)} → Spells f b e lists → (bin : ℕ) → bin < bin_count → last_of (list_at bin lists) ≡ chunk_at_node (b bin)
 last_read {f} {b} {lists = lists} h bin lt = last_of_path f b bin bin (list_at bin lists) (h.rings bin lt) lt (chunks h bin)
 
 -- wherever a chunk stands, the chunks beside it
-pub beside_read : {f b : ℕ → ℕ} {e : Extent} {lists : List (List ℕ)} → Spells f b e lists → (bin : ℕ) → bin < bin_count → (n : ℕ) (front back : List ℕ) → list_at bin lists ≡ front ++ n ∷ back → (first_of back ≡ chunk_of (f n)) × (last_of front ≡ chunk_of (b n))
+pub beside_read : {f b : ℕ → ℕ} {e : Extent} {lists : List (List ℕ)} → Spells f b e lists → (bin : ℕ) → bin < bin_count → (n : ℕ) (front back : List ℕ) → list_at bin lists ≡ front ++ n ∷ back → (first_of back ≡ chunk_at_node (f n)) × (last_of front ≡ chunk_at_node (b n))
 beside_read {f} {b} {lists = lists} h bin lt n front back is =
     let paths = parts f b bin bin n front back (subst (λ xs. IsPath f b bin xs bin) is (h.rings bin lt)) in
     let high : AreChunks (front ++ n ∷ back) = subst AreChunks is (chunks h bin) in (

@@ -47,7 +47,7 @@ pub record Spells (f b : ℕ → ℕ) (e : Extent) (lists : List (List ℕ)) : T
   pub places : (n : ℕ) → 1 ≤ times_listed n lists → IsPlace e n
 
 -- one link leads elsewhere
-pub record Moves (f f' : ℕ → ℕ) (node to : ℕ) : Type 0 where
+pub record Redirects (f f' : ℕ → ℕ) (node to : ℕ) : Type 0 where
   pub here : f' node ≡ to
   pub others : (n : ℕ) → n ≢ node → f' n ≡ f n
 
@@ -68,5 +68,5 @@ pub record Splices (f b f' b' : ℕ → ℕ) (after at : ℕ) : Type 0 where
   pub back_else : (n : ℕ) → n ≢ f after → n ≢ at → b' n ≡ b n
 
 -- a node that is a chunk's
-abbrev pub chunk_of : ℕ → Option ℕ
-chunk_of n = if nat_lt n bin_count then None else Some n
+abbrev pub chunk_at_node : ℕ → Option ℕ
+chunk_at_node n = if nat_lt n bin_count then None else Some n

@@ -2,7 +2,7 @@
 
 ghost use Rattle.std.specs.Prelude.{◌≡◌, ◌≢◌, ℕ, ◌+◌, ◌<◌, ◌≤◌, [], ◌∷◌, ◌++◌, List, nat_eq, length, map, slice_set, OnOk, OnErr, IfOk};
 ghost use Rattle.part_words.specs.Extents.{IsOpen, IsWithinPart, extended};
-ghost use Rattle.bin_links.specs.Rings.{chunk_of as chunk_at_node};
+ghost use Rattle.bin_links.specs.Rings.{chunk_at_node};
 ghost use Rattle.bin_links.specs.Lists.{bin_count, empty_lists, no_extent, list_at, times_listed, first_of, last_of, put_front, without};
 
 use crate::nodes::{BINS, Nodes};

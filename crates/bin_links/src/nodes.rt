@@ -31,7 +31,7 @@ impl Nodes {
     ghost use Rattle.std.specs.Prelude.{◌≢◌, OnOk, OnErr, IfOk};
     ghost use Rattle.part_words.specs.Extents.{IsWithinPart, extended};
     ghost use Rattle.bin_links.specs.Lists.{bin_count, no_extent};
-    ghost use Rattle.bin_links.specs.Rings.{IsNode, Moves, Skips, Splices};
+    ghost use Rattle.bin_links.specs.Rings.{IsNode, Redirects, Skips, Splices};
     ghost use Rattle.bin_links.specs.NodeWords.{links_at, ahead, back, extent, Wrote, IsFresh};
 
     /// Each bin's node leads to itself.
@@ -78,7 +78,7 @@ impl Nodes {
     /// Leads from a node forward to another one.
     fn set_ahead(&mut self, node: u64, to: u64)
         requires { IsNode (extent self.old) node }
-        ensures ahead { Moves (ahead self.old) (ahead self.new) node to }
+        ensures ahead { Redirects (ahead self.old) (ahead self.new) node to }
         ensures back { (n : ℕ) → back self.new n ≡ back self.old n }
         ensures extent { extent self.new ≡ extent self.old }
     {
@@ -90,7 +90,7 @@ impl Nodes {
     fn set_back(&mut self, node: u64, to: u64)
         requires { IsNode (extent self.old) node }
         ensures ahead { (n : ℕ) → ahead self.new n ≡ ahead self.old n }
-        ensures back { Moves (back self.old) (back self.new) node to }
+        ensures back { Redirects (back self.old) (back self.new) node to }
         ensures extent { extent self.new ≡ extent self.old }
     {
         let fd = self.links(node).fd;

@@ -4,7 +4,7 @@ use Rattle.std.specs.Prelude.{◌≡◌, ℕ, ◌+◌, ◌-◌, ◌*◌, ◌/◌
 use Rattle.chunk_tags.specs.declared.tiles.Tile.{Tile}
 use Rattle.chunk_tags.specs.declared.tiles.TileKind.{TileKind}
 use Rattle.chunk_tags.specs.declared.tiles.TileKind.TheVariants.{Used, Free, Top, Fence}
-use Rattle.part_words.specs.Extents.{IsOpen, Covers}
+use Rattle.part_words.specs.Extents.{IsOpen, IsWider}
 use Rattle.part_words.specs.Parts.{Parts, word_at, update, extent_of, seen_through}
 use Rattle.chunk_image.specs.declared.heads.Cell.{Cell}
 use Rattle.chunk_image.specs.declared.heads.Head.{Head}
@@ -70,7 +70,7 @@ pub record AreFooted (heads : ℕ → Head) (feet : ℕ → ℕ) : Type 0 where
 
 -- what is true of the words of tiles
 pub record IsKept (heads : Parts Head) (feet : Parts ℕ) : Type 0 where
-  pub covers : Covers (extent_of heads) (extent_of feet)
+  pub covers : IsWider (extent_of heads) (extent_of feet)
   pub fits : (a : ℕ) → IsWordSize (head_at heads a).size
   pub room : (a : ℕ) → 0 < (head_at heads a).size → IsRoom (extent_of heads) a (head_at heads a).size
   pub footed : AreFooted (head_at heads) (foot_at feet)

@@ -8,7 +8,7 @@ use Rattle.std.specs.Str.Parse.{ParsesUnsigned}
 use Rattle.std.proofs.lemmas.Bool.{and_parts, and_right, leb-true, ltb-true, lt-ltb}
 use Rattle.std.proofs.lemmas.Bool.Decides.{nat_tests}
 use Rattle.std.proofs.lemmas.Str.Parse.{IsNumeralModel, numerals_by_fold, parse_plain}
-use Rattle.trace_text.specs.Numbers.{is_numeral, value_of, number_of}
+use Rattle.trace_text.specs.Numbers.{is_numeral, value_of, numeral_value}
 use Rattle.command_words.specs.Views.{has_plain_front}
 
 abbrev AreDigits : List ℕ → Type 0
@@ -18,8 +18,8 @@ own : IsNumeralModel AreDigits value_of
 own = numerals_by_fold AreDigits (search rules) (λ n ds. fold (λ value digit. value * 10 + (digit - 48)) n ds) (search rules)
 
 -- a text with another front is no number
-pub other_front : (text : List ℕ) → has_plain_front text ≡ false → number_of text ≡ None
-unfolding number_of
+pub other_front : (text : List ℕ) → has_plain_front text ≡ false → numeral_value text ≡ None
+unfolding numeral_value
 other_front [] h = refl
 other_front (d ∷ []) h = go (d == 43) refl
   where
@@ -65,8 +65,8 @@ some_length [] h = absurd cc
 some_length (d ∷ ds) h = omega arith
 
 -- a text with a plain front is the number that std reads
-pub plain_number : {E : Type 0} (text : List ℕ) (r : Result ℕ E) → has_plain_front text ≡ true → ParsesUnsigned 64 10 text r → result_ok r ≡ number_of text
-unfolding number_of
+pub plain_number : {E : Type 0} (text : List ℕ) (r : Result ℕ E) → has_plain_front text ≡ true → ParsesUnsigned 64 10 text r → result_ok r ≡ numeral_value text
+unfolding numeral_value
 plain_number {E} text r h parses = go r (parse_plain own 64 text r parses (front_byte text h))
   where
     go : (r : Result ℕ E) → OkIff r (AreDigits text × (0 < length text) × (value_of text < 2 ^ 64)) (value_of text) → result_ok r ≡ cond (is_numeral text && ltb (value_of text) (2 ^ 64)) (Some (value_of text)) None

@@ -4,7 +4,7 @@ use Rattle.std.specs.List.{position_or_len, before_first, after_first}
 use Rattle.std.specs.Option.{option_map_or}
 use Rattle.std.specs.Str.{bytes_eq}
 use Rattle.std.specs.String.{string_bytes}
-use Rattle.trace_text.specs.Numbers.{number_of}
+use Rattle.trace_text.specs.Numbers.{numeral_value}
 use Rattle.command_words.specs.declared.part.Choice.{Choice}
 use Rattle.command_words.specs.declared.part.Choice.TheVariants.{Sets, Threads, Summary}
 use Rattle.command_words.specs.declared.setting.Setting.{Setting}
@@ -94,7 +94,7 @@ number_within setting (Some n) = if takes_number setting n then Some n else None
 
 -- the value of a setting: a number of its range
 abbrev pub number_for : Setting → Option Word → Option ℕ
-number_for setting value = number_within setting (option_and_then number_of value)
+number_for setting value = number_within setting (option_and_then numeral_value value)
 
 abbrev pub flag_by : Word → Option Choice
 flag_by name = if bytes_eq name threads_flag then Some Threads

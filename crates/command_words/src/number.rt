@@ -1,7 +1,7 @@
 //! Numbers as words have them.
 
 ghost use Rattle.std.specs.Prelude.{◌≡◌};
-ghost use Rattle.trace_text.specs.Numbers.{number_of};
+ghost use Rattle.trace_text.specs.Numbers.{numeral_value};
 ghost use Rattle.command_words.specs.Views.{has_plain_front};
 
 /// Whether no plus and no zero stand in front of further digits.
@@ -18,7 +18,7 @@ fn has_plain_front(text: &[u8]) -> bool
 /// The number that a text stands for, written as in a trace; `None` where it stands for none.
 #[tactic(auto, using(crate::proofs::Numerals::other_front))]
 pub(crate) fn number(text: &str) -> Option<u64>
-    ensures { result ≡ number_of text.now }
+    ensures { result ≡ numeral_value text.now }
 {
     if !has_plain_front(text.as_bytes()) {
         return None;

@@ -19,7 +19,7 @@ use Rattle.arena_rules.specs.Walks as walks
 use Rattle.arena_rules.specs.Walks.{Walks, Reaches}
 use Rattle.arena_rules.proofs.Beside.{beside_sized}
 use Rattle.arena_rules.proofs.Walks.{walks_then}
-use Rattle.consolidate_trim.specs.Outside.{Means, Outside, Does as DoesOutside, ways}
+use Rattle.consolidate_trim.specs.Outside.{Means, Outside, DeedGoes as DoesOutside, ways}
 use Rattle.consolidate_trim.specs.Holds.{Hold, hold, no_chunk}
 use Rattle.consolidate_trim.specs.Trims.{SpaceDoes, space_ways, TrimsHeaps}
 use Rattle.consolidate_trim.proofs.Carried.{Passes}

@@ -31,7 +31,7 @@ use Rattle.arena_rules.proofs.Walks.{reaches_here, reaches_told, reaches_done, r
 use Rattle.consolidate_trim.specs.declared.merging.Merged.{Merged}
 use Rattle.consolidate_trim.specs.declared.merging.Merged.TheVariants as ends
 use Rattle.consolidate_trim.specs.Merges.{size_merged, merging_of}
-use Rattle.consolidate_trim.specs.Outside.{Means, Goes, Apart, ways}
+use Rattle.consolidate_trim.specs.Outside.{Means, AnswerGoes, AreApart, ways}
 use Rattle.consolidate_trim.specs.Holds.{Hold, hold, outside, Chunks, no_chunk, one_chunk, is_block_of, times_cached, KeepsOthers, IsBacked, Keeps}
 use Rattle.consolidate_trim.proofs.Carried.{Passes, passes_here, passes_then}
 use Rattle.consolidate_trim.proofs.Emptying.{IsMerged, merge_left}
@@ -71,7 +71,7 @@ passes_idled sound idles = record {
 
 -- an answer was told, which changes no chunk
 pub passes_told : {P K A : Type 0} {m : Means P K} {t : Tunables} {n : Need} {chunks : Chunks} {h i : Hold P K} (f : Said → Rules A) (s : Said) →
-    IsTrue (fits t n s) → Goes m (outside h) n s (outside i) → Keeps m.fast h chunks chunks i → i.said ≡ h.said ++ s ∷ [] → Passes m t (Needs h.arena n f) chunks h (f s) chunks i
+    IsTrue (fits t n s) → AnswerGoes m (outside h) n s (outside i) → Keeps m.fast h chunks chunks i → i.said ≡ h.said ++ s ∷ [] → Passes m t (Needs h.arena n f) chunks h (f s) chunks i
 passes_told {m = m} {t = t} {n = n} {h = h} {i = i} f s fit goes keeps told_so = record {
   reaches = subst (λ (x : List Said). Reaches t (ways m h.arena.number) (Needs h.arena n f) (outside h) h.said (f s) x (outside i)) (sym told_so) (reaches_told s fit goes);
   keeps = keeps;
@@ -92,7 +92,7 @@ passes_has_room {b = b} f sound is told_so =
     (record { sound = sound; number = refl; windows = refl; placed = λ p. p; cached = λ e. omega arith; others = λ n other e. refl; kept = λ e. refl }) told_so
 
 -- the threshold
-pub passes_threshold : {P K : Type 0} {m : Means P K} {t : Tunables} {h : Hold P K} {q : P} {said : List Said} (n : ℕ) → Apart m.fast m.dials → IsSound h.arena →
+pub passes_threshold : {P K : Type 0} {m : Means P K} {t : Tunables} {h : Hold P K} {q : P} {said : List Said} (n : ℕ) → AreApart m.fast m.dials → IsSound h.arena →
     m.dials.step h.port (dial_steps.Reads TrimThreshold n) q → said ≡ h.said ++ told.Dial n ∷ [] →
     Passes m t (trimmed_by_threshold t h.arena) no_chunk h (trimmed t h.arena n) no_chunk (hold h.arena q h.cache h.space said)
 passes_threshold {t = t} {h = h} {q = q} n apart sound step told_so =
@@ -149,19 +149,19 @@ block_other number n e c other =
     let differ : nat_eq number n ≡ false = ne_eqb number n (λ same. other (sym same)) in
     ap {B = ℕ} (λ (b : Bool). cond b 1 0) (ap (λ (b : Bool). same_chunk e c && b) differ ∙ and-false (same_chunk e c))
 
-stashed_cached : (number : ℕ) (cache : CacheValue) (c : Chunk) → IfSome cache held.IsSound → IsChunkSize c.size → IsTrue (has_room cache c.size) → (e : Chunk) →
+stashed_cached : (number : ℕ) (cache : CacheValue) (c : Chunk) → IfSome cache held.IsSoundCache → IsChunkSize c.size → IsTrue (has_room cache c.size) → (e : Chunk) →
     times_cached number (with_newest cache (block_of number c)) e ≡ once e c + times_cached number cache e
 stashed_cached number cache c sound chunk room e =
     let took : Took cache (block_of number c) (with_newest cache (block_of number c)) = put cache (block_of number c) sound chunk (and_from (has_room cache c.size) true room refl) in
     omega (arith, took.same (λ b. cond (is_block_of number e b) 1 0), block_is number e c)
 
-stashed_others : (number : ℕ) (cache : CacheValue) (c : Chunk) → IfSome cache held.IsSound → IsChunkSize c.size → IsTrue (has_room cache c.size) →
+stashed_others : (number : ℕ) (cache : CacheValue) (c : Chunk) → IfSome cache held.IsSoundCache → IsChunkSize c.size → IsTrue (has_room cache c.size) →
     KeepsOthers number cache (with_newest cache (block_of number c))
 stashed_others number cache c sound chunk room n other e =
     let took : Took cache (block_of number c) (with_newest cache (block_of number c)) = put cache (block_of number c) sound chunk (and_from (has_room cache c.size) true room refl) in
     omega (arith, took.same (λ b. cond (is_block_of n e b) 1 0), block_other number n e c other)
 
-pub passes_stash : {P K : Type 0} {m : Means P K} {t : Tunables} {h : Hold P K} {cache : CacheValue} {number : ℕ} (c : Chunk) → IsSound h.arena → IfSome h.cache held.IsSound → IsChunkSize c.size → IsTrue (has_room h.cache c.size) →
+pub passes_stash : {P K : Type 0} {m : Means P K} {t : Tunables} {h : Hold P K} {cache : CacheValue} {number : ℕ} (c : Chunk) → IsSound h.arena → IfSome h.cache held.IsSoundCache → IsChunkSize c.size → IsTrue (has_room h.cache c.size) →
     number ≡ h.arena.number → cache ≡ with_newest h.cache (block_of number c) → Passes m t (Does (Stashes c) (Stop h.arena)) (one_chunk c) h (Stop h.arena) no_chunk (hold h.arena h.port cache h.space h.said)
 passes_stash {h = h} {cache = cache} c sound cached chunk room same stashed =
     let is : cache ≡ with_newest h.cache (block_of h.arena.number c) = stashed ∙ ap (λ (n : ℕ). with_newest h.cache (block_of n c)) same in

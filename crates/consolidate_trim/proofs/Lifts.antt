@@ -10,20 +10,20 @@ use Rattle.arena_rules.specs.PlainArena.{Plain}
 use Rattle.arena_rules.specs.Rules.{Rules, Need, Flagged, Pops, Owns, Deed, Clears, Gathers}
 use Rattle.arena_rules.specs.Walks as walks
 use Rattle.arena_rules.specs.Walks.{Walks, Reaches, StopsShort}
-use Rattle.consolidate_trim.specs.Outside.{Means, Outside, Goes, Does, ways}
+use Rattle.consolidate_trim.specs.Outside.{Means, Outside, AnswerGoes, DeedGoes, ways}
 use Rattle.consolidate_trim.specs.Holds.{hold, no_chunk, GivesUp}
 use Rattle.consolidate_trim.specs.FastHolds.{FastHold, FastAnswers, FastDoes, fast_ways, Empties}
 
 abbrev with_port : {P K : Type 0} → Outside P K → P → Outside P K
 with_port o p = record o { port = p }
 
-goes_lifted : {P K : Type 0} (m : Means P K) (o : Outside P K) (p q : P) (n : Need) (s : Said) → FastAnswers m.fast p n s q → Goes m (with_port o p) n s (with_port o q)
+goes_lifted : {P K : Type 0} (m : Means P K) (o : Outside P K) (p q : P) (n : Need) (s : Said) → FastAnswers m.fast p n s q → AnswerGoes m (with_port o p) n s (with_port o q)
 goes_lifted m o p q Flagged (told.Flag b) h = record { did = h; others = refl }
 goes_lifted m o p q (Pops bin) (told.Popped at) h = record { did = h; others = refl }
 goes_lifted m o p q (Owns bin) (told.Own at) h = record { did = h; others = refl }
 goes_lifted m o p q n s h = absurd h
 
-does_lifted : {P K : Type 0} (m : Means P K) (number : ℕ) (o : Outside P K) (p q : P) (d : Deed) → FastDoes m.fast p d q → Does m number (with_port o p) d (with_port o q)
+does_lifted : {P K : Type 0} (m : Means P K) (number : ℕ) (o : Outside P K) (p q : P) (d : Deed) → FastDoes m.fast p d q → DeedGoes m number (with_port o p) d (with_port o q)
 does_lifted m number o p q Clears h = record { did = h; others = refl }
 does_lifted m number o p q (Gathers bin) h = record { did = h; others = refl }
 does_lifted m number o p q d h = absurd h

@@ -67,15 +67,15 @@ pub record MapGoes {P K : Type 0} (m : Means P K) (o : Outside P K) (len : ℕ) 
   pub others : p ≡ record o { space = p.space }
 
 -- how the outside goes on with an answer to what is needed
-abbrev pub Goes : {P K : Type 0} → Means P K → Outside P K → Need → Said → Outside P K → Type 0
-Goes m o Flagged (told.Flag b) p = FastGoes m o (fasts.Flags b) p
-Goes m o (Pops bin) (told.Popped at) p = FastGoes m o (fasts.Pops bin at) p
-Goes m o (Owns bin) (told.Own at) p = FastGoes m o (fasts.Owns bin at) p
-Goes m o (Rooms size) (told.Room b) p = RoomGoes o size b p
-Goes m o (Asks ask) (told.Asked asked answer) p = AskGoes m o asked answer p
-Goes m o (Maps len) (told.Asked asked answer) p = MapGoes m o len asked answer p
-Goes m o (Reads which) (told.Dial n) p = DialGoes m o (dial_steps.Reads which n) p
-Goes m o need said p = ⊥
+abbrev pub AnswerGoes : {P K : Type 0} → Means P K → Outside P K → Need → Said → Outside P K → Type 0
+AnswerGoes m o Flagged (told.Flag b) p = FastGoes m o (fasts.Flags b) p
+AnswerGoes m o (Pops bin) (told.Popped at) p = FastGoes m o (fasts.Pops bin at) p
+AnswerGoes m o (Owns bin) (told.Own at) p = FastGoes m o (fasts.Owns bin at) p
+AnswerGoes m o (Rooms size) (told.Room b) p = RoomGoes o size b p
+AnswerGoes m o (Asks ask) (told.Asked asked answer) p = AskGoes m o asked answer p
+AnswerGoes m o (Maps len) (told.Asked asked answer) p = MapGoes m o len asked answer p
+AnswerGoes m o (Reads which) (told.Dial n) p = DialGoes m o (dial_steps.Reads which n) p
+AnswerGoes m o need said p = ⊥
 
 -- address space goes back
 pub record GiveGoes {P K : Type 0} (m : Means P K) (o : Outside P K) (back : Back) (p : Outside P K) : Type 0 where
@@ -83,14 +83,14 @@ pub record GiveGoes {P K : Type 0} (m : Means P K) (o : Outside P K) (back : Bac
   pub others : p ≡ record o { space = p.space }
 
 -- what a deed makes of the outside of a hold of the arena with this number
-abbrev pub Does : {P K : Type 0} → Means P K → ℕ → Outside P K → Deed → Outside P K → Type 0
-Does m number o Clears p = FastGoes m o fasts.Clears p
-Does m number o (Gathers bin) p = FastGoes m o (fasts.Gathers bin) p
-Does m number o (Pushes bin at) p = PushGoes m o bin at p
-Does m number o (Stashes c) p = p ≡ record o { cache = cache_after_deed number (Stashes c) o.cache }
-Does m number o (Draws size) p = p ≡ record o { cache = cache_after_deed number (Draws size) o.cache }
-Does m number o (Gives back) p = GiveGoes m o back p
-Does m number o (Counts len) p = DialGoes m o (dial_steps.Maps len) p
+abbrev pub DeedGoes : {P K : Type 0} → Means P K → ℕ → Outside P K → Deed → Outside P K → Type 0
+DeedGoes m number o Clears p = FastGoes m o fasts.Clears p
+DeedGoes m number o (Gathers bin) p = FastGoes m o (fasts.Gathers bin) p
+DeedGoes m number o (Pushes bin at) p = PushGoes m o bin at p
+DeedGoes m number o (Stashes c) p = p ≡ record o { cache = cache_after_deed number (Stashes c) o.cache }
+DeedGoes m number o (Draws size) p = p ≡ record o { cache = cache_after_deed number (Draws size) o.cache }
+DeedGoes m number o (Gives back) p = GiveGoes m o back p
+DeedGoes m number o (Counts len) p = DialGoes m o (dial_steps.Maps len) p
 
 -- room is made in the fast bins, and nothing else is seen
 pub record IdleGoes {P K : Type 0} (m : Means P K) (o : Outside P K) (p : Outside P K) : Type 0 where
@@ -99,11 +99,11 @@ pub record IdleGoes {P K : Type 0} (m : Means P K) (o : Outside P K) (p : Outsid
 
 -- the ways of a hold
 abbrev pub ways : {P K : Type 0} → Means P K → ℕ → Ways (Outside P K)
-ways m number = record { goes = Goes m; does = Does m number; idles = IdleGoes m }
+ways m number = record { goes = AnswerGoes m; does = DeedGoes m number; idles = IdleGoes m }
 
 -- The words and the fast bins of one port are apart: a step of the words leaves the stock and the room, and no step but
 -- a count changes what may be counted.
-pub record Apart {P : Type 0} (fast : Fast P) (dials : Dialled P) : Type 0 where
+pub record AreApart {P : Type 0} (fast : Fast P) (dials : Dialled P) : Type 0 where
   pub stock : (p q : P) (s : dial_steps.DialStep) → dials.step p s q → (e : Chunk) → fast.stock q e ≡ fast.stock p e
   pub room : (p q : P) (s : dial_steps.DialStep) → dials.step p s q → (k : ℕ) → IsTrue (fast.room p k) → IsTrue (fast.room q k)
   pub steps : (p q : P) (s : fasts.FastStep) (d : dial_steps.DialStep) → fast.step p s q → dials.allows p d → dials.allows q d

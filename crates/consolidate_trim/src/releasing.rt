@@ -10,7 +10,7 @@ ghost use Rattle.consolidate_trim.specs.FastHolds.{Empties, fast_hold};
 ghost use Rattle.consolidate_trim.specs.Holds.{GivesUp, IsBacked, hold, no_chunk, one_chunk};
 ghost use Rattle.consolidate_trim.specs.Lacks.{IsFull, LacksRoom};
 ghost use Rattle.consolidate_trim.specs.Merges.{merging_of};
-ghost use Rattle.consolidate_trim.specs.Outside.{Apart, means};
+ghost use Rattle.consolidate_trim.specs.Outside.{AreApart, means};
 
 use crate::answers::{make_room, tell};
 use crate::consolidating::consolidate;
@@ -55,7 +55,7 @@ fn trim_by_threshold<M: Moves, K: Kernel, P: FastPort + Dials>(
     said: &mut Vec<Said>,
 ) -> Result<(), NoMemory>
     requires sound { IsSound (M.plain g.old) }
-    requires apart { Apart P.fast P.dials }
+    requires apart { AreApart P.fast P.dials }
     ensures gives { (cache : CacheValue) →
         let before = hold (M.plain g.old) port.old cache space.old said.old.items in
         let after = hold (M.plain g.new) port.new cache space.new said.new.items in
@@ -85,7 +85,7 @@ pub fn settle<M: Moves, K: Kernel, P: FastPort + Dials>(
     said: &mut Vec<Said>,
 ) -> Result<(), NoMemory>
     requires backed { IsBacked P.fast (M.plain g.old) port.old no_chunk }
-    requires apart { Apart P.fast P.dials }
+    requires apart { AreApart P.fast P.dials }
     ensures gives { (cache : CacheValue) →
         let before = hold (M.plain g.old) port.old cache space.old said.old.items in
         let after = hold (M.plain g.new) port.new cache space.new said.new.items in
@@ -114,7 +114,7 @@ pub fn give<M: Moves, K: Kernel, P: FastPort + Dials>(
     said: &mut Vec<Said>,
 ) -> Result<(), NoMemory>
     requires backed { IsBacked P.fast (M.plain g.old) port.old (one_chunk c) }
-    requires apart { Apart P.fast P.dials }
+    requires apart { AreApart P.fast P.dials }
     ensures gives { (cache : CacheValue) →
         let before = hold (M.plain g.old) port.old cache space.old said.old.items in
         let after = hold (M.plain g.new) port.new cache space.new said.new.items in
@@ -138,7 +138,7 @@ pub fn release<M: Moves, K: Kernel, P: FastPort + Dials>(
     said: &mut Vec<Said>,
 ) -> Result<(), NoMemory>
     requires backed { IsBacked P.fast (M.plain g.old) port.old (one_chunk c) }
-    requires apart { Apart P.fast P.dials }
+    requires apart { AreApart P.fast P.dials }
     requires fast { t.now.max_fast ≤ 160 }
     ensures gives { let before = hold (M.plain g.old) port.old cache.old space.old said.old.items in
         let after = hold (M.plain g.new) port.new cache.new space.new said.new.items in

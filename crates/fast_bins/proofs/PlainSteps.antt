@@ -8,7 +8,7 @@ use Rattle.std.proofs.lemmas.List.Sums.{sum_by-append}
 use Rattle.chunk_tags.specs.BinOrder.{times_in, same_chunk, fast_chunk, once}
 use Rattle.chunk_tags.specs.declared.tiles.Chunk.{Chunk}
 use Rattle.fast_bins.specs.FastPorts.{FastStep, Pushes, Pops, Gathers, Owns, Did, times_given, times_put, leaves_room}
-use Rattle.fast_bins.specs.PlainBins.{FastBin, FastState, RoomyBin, PlainBins, empty_bin, no_bin, listed, bin_at, pushed, front_of, without_front, gathered, own_front, without_own, on_bin, Tells, after_step, chunks_from, has_room, state_of, ten_bins, plain_fast}
+use Rattle.fast_bins.specs.PlainBins.{FastBin, FastState, RoomyBin, PlainBins, empty_bin, no_bin, listed, fast_bin_at, pushed, first_in, without_front, gathered, own_front, without_own, on_bin, FastTells, after_fast_step, chunks_from, has_room, state_of, ten_bins, plain_fast}
 
 -- b is the bin at an index
 pub record Reads (p : PlainBins) (i : ℕ) (b : RoomyBin) : Type 0 where
@@ -18,7 +18,7 @@ pub record Reads (p : PlainBins) (i : ℕ) (b : RoomyBin) : Type 0 where
 pub bin_read_at : (p : PlainBins) (i : ℕ) (d : RoomyBin) → i < length p.bins → Reads p i (get_or p.bins i d)
 bin_read_at p i d below = record { below = below; read = get_or_default p.bins i no_bin d below }
 
-bin_read : (p : PlainBins) (i : ℕ) (b : RoomyBin) → Reads p i b → bin_at (state_of p) i ≡ b.bin
+bin_read : (p : PlainBins) (i : ℕ) (b : RoomyBin) → Reads p i b → fast_bin_at (state_of p) i ≡ b.bin
 bin_read p i b r =
     get_or-map (λ x. x.bin) p.bins i no_bin empty_bin r.below ∙ ap (λ (x : RoomyBin). x.bin) r.read
 
@@ -71,7 +71,7 @@ room_with p s i f b b' r t k had =
           (subst IsTrue (t.others k (has_room (get_or p.bins k no_bin)) ne) had)
     ]
 
-did_at : (p : PlainBins) (s : FastStep) (i : ℕ) (f : FastBin → FastBin) (b b' : RoomyBin) (flag : Bool) → Reads p i b → Turns s i f b b' → Tells (state_of p) s → after_step s (state_of p) ≡ record (on_bin i f (state_of p)) { flag = flag } → Did plain_fast p s (record { flag = flag; bins = set p.bins i b' })
+did_at : (p : PlainBins) (s : FastStep) (i : ℕ) (f : FastBin → FastBin) (b b' : RoomyBin) (flag : Bool) → Reads p i b → Turns s i f b b' → FastTells (state_of p) s → after_fast_step s (state_of p) ≡ record (on_bin i f (state_of p)) { flag = flag } → Did plain_fast p s (record { flag = flag; bins = set p.bins i b' })
 did_at p s i f b b' flag r t tells e = record {
   step = (tells, ap (λ bins. let s : FastState = record { flag = flag; bins = bins } in s) (bins_with p i b b' f r t.bin) ∙ sym e);
   stock = stock_with p s i f b b' r t;
@@ -110,12 +110,12 @@ turns_by_gather i b b' e room = record {
 some_room : (n room : ℕ) → suc n ≤ room → IsTrue (nat_lt n room)
 some_room n room h = grind (arith, nat_tests)
 
-front_times : (i : ℕ) (chain own : List ℕ) (e : Chunk) → let b : FastBin = record { chain = chain; own = own } in times_at e i (without_front b) + times_given (Pops i (front_of b)) e ≡ times_at e i b + 0
+front_times : (i : ℕ) (chain own : List ℕ) (e : Chunk) → let b : FastBin = record { chain = chain; own = own } in times_at e i (without_front b) + times_given (Pops i (first_in b)) e ≡ times_at e i b + 0
 front_times i [] [] e = refl
 front_times i [] (x ∷ own) e = omega (arith, times_in-cons e (fast_chunk i x) (map (fast_chunk i) own))
 front_times i (x ∷ chain) own e = omega (arith, times_in-cons e (fast_chunk i x) (map (fast_chunk i) (chain ++ own)))
 
-front_room : (i : ℕ) (chain own : List ℕ) (room : ℕ) → let b : FastBin = record { chain = chain; own = own } in length (listed b) ≤ room → IsTrue (leaves_room (Pops i (front_of b)) i (nat_lt (length (listed b)) room)) → IsTrue (nat_lt (length (listed (without_front b))) room)
+front_room : (i : ℕ) (chain own : List ℕ) (room : ℕ) → let b : FastBin = record { chain = chain; own = own } in length (listed b) ≤ room → IsTrue (leaves_room (Pops i (first_in b)) i (nat_lt (length (listed b)) room)) → IsTrue (nat_lt (length (listed (without_front b))) room)
 front_room i [] [] room within h = h
 front_room i [] (x ∷ own) room within h = some_room (length own) room within
 front_room i (x ∷ chain) own room within h = some_room (length (chain ++ own)) room within
@@ -124,12 +124,12 @@ front_others : (i k : ℕ) (answer : Option ℕ) (had : Bool) → k ≢ i → le
 front_others i k None had ne = refl
 front_others i k (Some at) had ne = rw (other_bin k i ne)
 
-turns_by_pop : (i : ℕ) (b b' : RoomyBin) → b'.bin ≡ without_front b.bin → b'.room ≡ b.room → length (listed b.bin) ≤ b.room → Turns (Pops i (front_of b.bin)) i without_front b b'
+turns_by_pop : (i : ℕ) (b b' : RoomyBin) → b'.bin ≡ without_front b.bin → b'.room ≡ b.room → length (listed b.bin) ≤ b.room → Turns (Pops i (first_in b.bin)) i without_front b b'
 turns_by_pop i b b' e room within = record {
   bin = e;
   times = front_times i b.bin.chain b.bin.own;
   room = λ h. with_room b b' without_front e room (front_room i b.bin.chain b.bin.own b.room within h);
-  others = λ k had ne. front_others i k (front_of b.bin) had ne;
+  others = λ k had ne. front_others i k (first_in b.bin) had ne;
 }
 
 own_times : (i : ℕ) (chain own : List ℕ) (e : Chunk) → let b : FastBin = record { chain = chain; own = own } in times_at e i (without_own b) + times_given (Owns i (own_front b)) e ≡ times_at e i b + 0
@@ -169,10 +169,10 @@ pub record Pulls (f : FastBin → FastBin) (b b' : RoomyBin) : Type 0 where
   pub room : b'.room ≡ b.room
   pub within : length (listed b.bin) ≤ b.room
 
-pops : (p : PlainBins) (i : ℕ) (b b' : RoomyBin) (answer : Option ℕ) → Reads p i b → answer ≡ front_of b.bin → Pulls without_front b b' → Did plain_fast p (Pops i answer) (record p { bins = set p.bins i b' })
+pops : (p : PlainBins) (i : ℕ) (b b' : RoomyBin) (answer : Option ℕ) → Reads p i b → answer ≡ first_in b.bin → Pulls without_front b b' → Did plain_fast p (Pops i answer) (record p { bins = set p.bins i b' })
 pops p i b b' answer r e pulls =
     subst (λ o. Did plain_fast p (Pops i o) (record p { bins = set p.bins i b' })) (sym e)
-    (did_at p (Pops i (front_of b.bin)) i without_front b b' p.flag r (turns_by_pop i b b' pulls.bin pulls.room pulls.within) (ap front_of (sym (bin_read p i b r))) refl)
+    (did_at p (Pops i (first_in b.bin)) i without_front b b' p.flag r (turns_by_pop i b b' pulls.bin pulls.room pulls.within) (ap first_in (sym (bin_read p i b r))) refl)
 
 pops_own : (p : PlainBins) (i : ℕ) (b b' : RoomyBin) (answer : Option ℕ) → Reads p i b → answer ≡ own_front b.bin → Pulls without_own b b' → Did plain_fast p (Owns i answer) (record p { bins = set p.bins i b' })
 pops_own p i b b' answer r e pulls =
@@ -211,7 +211,7 @@ pub kept_push : (flag : Bool) (bins : List RoomyBin) (i at : ℕ) (b b' : RoomyB
 kept_push flag bins i at b b' below read e =
     did_kept flag true bins (Pushes i at) i b' below (pushes (kept flag bins) i at b b' (read_kept flag bins i b below read) e)
 
-pub kept_pop : (flag : Bool) (bins : List RoomyBin) (i : ℕ) (b b' : RoomyBin) (answer : Option ℕ) → i < length bins → b ≡ get_or bins i b → answer ≡ front_of b.bin → Pulls without_front b b' → Did plain_fast (kept flag bins) (Pops i answer) (kept flag (set bins i b'))
+pub kept_pop : (flag : Bool) (bins : List RoomyBin) (i : ℕ) (b b' : RoomyBin) (answer : Option ℕ) → i < length bins → b ≡ get_or bins i b → answer ≡ first_in b.bin → Pulls without_front b b' → Did plain_fast (kept flag bins) (Pops i answer) (kept flag (set bins i b'))
 kept_pop flag bins i b b' answer below read e pulls =
     did_kept flag flag bins (Pops i answer) i b' below (pops (kept flag bins) i b b' answer (read_kept flag bins i b below read) e pulls)
 

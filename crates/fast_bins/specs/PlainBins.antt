@@ -26,16 +26,16 @@ empty_state = record { flag = false; bins = replicate 10 empty_bin }
 abbrev pub listed : FastBin → List ℕ
 listed b = b.chain ++ b.own
 
-abbrev pub bin_at : FastState → ℕ → FastBin
-bin_at s k = slice_index_or s.bins k empty_bin
+abbrev pub fast_bin_at : FastState → ℕ → FastBin
+fast_bin_at s k = slice_index_or s.bins k empty_bin
 
 -- What is done to one bin. A push goes before all that is there; a pop takes the front of all.
 
 abbrev pub pushed : ℕ → FastBin → FastBin
 pushed at b = record b { chain = at ∷ b.chain }
 
-abbrev pub front_of : FastBin → Option ℕ
-front_of b = slice_get (listed b) 0
+abbrev pub first_in : FastBin → Option ℕ
+first_in b = slice_get (listed b) 0
 
 abbrev pub without_front : FastBin → FastBin
 without_front b = elim b.chain [ [] ↦ record b { own = drop 1 b.own } | at ∷ chain ↦ record b { chain = chain } ]
@@ -51,25 +51,25 @@ abbrev pub without_own : FastBin → FastBin
 without_own b = record b { own = drop 1 b.own }
 
 abbrev pub on_bin : ℕ → (FastBin → FastBin) → FastState → FastState
-on_bin k f s = record s { bins = slice_set s.bins k (f (bin_at s k)) }
+on_bin k f s = record s { bins = slice_set s.bins k (f (fast_bin_at s k)) }
 
 -- the answer of a step is what the bins tell
-abbrev pub Tells : FastState → FastStep → Type 0
-Tells s (Flags flag) = flag ≡ s.flag
-Tells s Clears = Unit {0}
-Tells s (Pushes bin at) = Unit {0}
-Tells s (Pops bin at) = at ≡ front_of (bin_at s bin)
-Tells s (Gathers bin) = Unit {0}
-Tells s (Owns bin at) = at ≡ own_front (bin_at s bin)
+abbrev pub FastTells : FastState → FastStep → Type 0
+FastTells s (Flags flag) = flag ≡ s.flag
+FastTells s Clears = Unit {0}
+FastTells s (Pushes bin at) = Unit {0}
+FastTells s (Pops bin at) = at ≡ first_in (fast_bin_at s bin)
+FastTells s (Gathers bin) = Unit {0}
+FastTells s (Owns bin at) = at ≡ own_front (fast_bin_at s bin)
 
 -- the bins after a step
-abbrev pub after_step : FastStep → FastState → FastState
-after_step (Flags flag) s = s
-after_step Clears s = record s { flag = false }
-after_step (Pushes bin at) s = record (on_bin bin (pushed at) s) { flag = true }
-after_step (Pops bin at) s = on_bin bin without_front s
-after_step (Gathers bin) s = on_bin bin gathered s
-after_step (Owns bin at) s = on_bin bin without_own s
+abbrev pub after_fast_step : FastStep → FastState → FastState
+after_fast_step (Flags flag) s = s
+after_fast_step Clears s = record s { flag = false }
+after_fast_step (Pushes bin at) s = record (on_bin bin (pushed at) s) { flag = true }
+after_fast_step (Pops bin at) s = on_bin bin without_front s
+after_fast_step (Gathers bin) s = on_bin bin gathered s
+after_fast_step (Owns bin at) s = on_bin bin without_own s
 
 -- the chunks of the bins, the first of which has an index
 abbrev pub chunks_from : ℕ → List FastBin → List Chunk
@@ -122,7 +122,7 @@ pub record AreTen (is_roomy : Bool) (bins : List RoomyBin) : Type 0 where
 -- is in them.
 abbrev pub plain_fast : Fast PlainBins
 plain_fast = record {
-  step = λ p s q. Tells (state_of p) s × (state_of q ≡ after_step s (state_of p));
+  step = λ p s q. FastTells (state_of p) s × (state_of q ≡ after_fast_step s (state_of p));
   idle = λ p q. state_of q ≡ state_of p;
   stock = λ p e. times_in e (chunks_of (state_of p));
   room = λ p k. has_room (slice_index_or p.bins k no_bin);

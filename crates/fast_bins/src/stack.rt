@@ -1,7 +1,7 @@
 //! One fast bin: a chain and a private list, in one stack.
 
 ghost use Rattle.std.specs.Prelude.{◌≡◌, ◌≤◌, false, length, IsTrue, IfOk, OnOk, OnErr, IsSome};
-ghost use Rattle.fast_bins.specs.PlainBins.{empty_bin, listed, pushed, front_of, without_front, gathered, own_front, without_own, has_room};
+ghost use Rattle.fast_bins.specs.PlainBins.{empty_bin, listed, pushed, first_in, without_front, gathered, own_front, without_own, has_room};
 
 use chunk_tags::{Addr, NoMemory};
 use std::alloc::{AllocError, Global};
@@ -71,7 +71,7 @@ impl BinStack {
 
     /// The front, which leaves the bin.
     pub fn pop(&mut self) -> Option<Addr>
-        ensures front { result ≡ front_of self.old.bin }
+        ensures front { result ≡ first_in self.old.bin }
         ensures bin { self.new.bin ≡ without_front self.old.bin }
         ensures room { self.new.room ≡ self.old.room }
         ensures within { length (listed self.old.bin) ≤ self.old.room }

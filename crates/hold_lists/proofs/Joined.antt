@@ -3,11 +3,11 @@ use Rattle.fast_bins.specs.PlainBins.{plain_fast}
 use Rattle.mapped_chunks.specs.Mappings.{IsSteady}
 use Rattle.mapped_chunks.specs.PlainDials.{plain_dials}
 use Rattle.mapped_chunks.proofs.PlainSteady.{plain_steady}
-use Rattle.consolidate_trim.specs.Outside.{Apart}
+use Rattle.consolidate_trim.specs.Outside.{AreApart}
 use Rattle.serial_places.proofs.Joining.{apart_joined}
 use Rattle.hold_lists.specs.Ports.{port_fast, port_dials}
 
-pub apart : Apart port_fast port_dials
+pub apart : AreApart port_fast port_dials
 apart = apart_joined plain_fast plain_dials plain_steady
 
 pub steady : IsSteady port_dials

@@ -10,9 +10,9 @@ use Rattle.chunk_tags.specs.declared.tiles.Chunk.{Chunk}
 use Rattle.chunk_tags.specs.declared.tunables.Tunables.{Tunables}
 use Rattle.address_space.specs.Budgets.{BudgetState, budget_port}
 use Rattle.list_laws.proofs.Sums.{sum_by-flat-less}
-use Rattle.thread_cache.specs.Caches.{CacheValue, opened, newest, without_newest, with_newest, blocks_of}
+use Rattle.thread_cache.specs.Caches.{CacheValue, opened_cache, newest, without_newest, with_newest, blocks_of}
 use Rattle.thread_cache.specs.Caches.{takes as takes_block}
-use Rattle.thread_cache.specs.Held.{IsSound as IsSoundCache}
+use Rattle.thread_cache.specs.Held.{IsSoundCache}
 use Rattle.thread_cache.proofs.CacheLaws.{Took, put, none_opened}
 use Rattle.fast_bins.specs.FastPorts as fasts
 use Rattle.fast_bins.specs.FastPorts.{Did, Idles}
@@ -218,14 +218,14 @@ kept_put x cache b is k sound taken now =
       used = λ e. omega (arith, k.used e, ap (λ (c : CacheValue). times_cached 0 c e) now, took.same (times_of e));
     }
 
-pub kept_opened : {t : Tunables} (x : Bench) (cache : CacheValue) (structure : Block) (count bins : ℕ) → IsKept t x (chunks_of (Some structure)) → cache ≡ opened structure count bins → IsKept t (record x { cache = cache }) no_chunk
+pub kept_opened : {t : Tunables} (x : Bench) (cache : CacheValue) (structure : Block) (count bins : ℕ) → IsKept t x (chunks_of (Some structure)) → cache ≡ opened_cache structure count bins → IsKept t (record x { cache = cache }) no_chunk
 kept_opened x cache structure count bins k now = record {
   sound = k.sound;
   main = k.main;
   placed = k.placed;
   windows = k.windows;
   used = λ e.
-      let none : times_cached 0 (opened structure count bins) e ≡ 0 = ap (λ bs. count_by (is_block_of 0 e) bs) (none_opened structure count bins) in
+      let none : times_cached 0 (opened_cache structure count bins) e ≡ 0 = ap (λ bs. count_by (is_block_of 0 e) bs) (none_opened structure count bins) in
       omega (arith, k.used e, ap (λ (c : CacheValue). times_cached 0 c e) now, none);
 }
 

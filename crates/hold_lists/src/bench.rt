@@ -3,7 +3,7 @@
 ghost use Rattle.std.specs.Prelude.{◌≡◌, ◌+◌, ◌-◌, ◌≤◌, ◌<◌, ◌^◌, true, Some, None, IsTrue, IfOk, OnOk, OnSome, IfSome};
 ghost use Rattle.chunk_tags.specs.Sizes.{IsRequestSize, max_cached};
 ghost use Rattle.chunk_tags.specs.Tunables.{IsTuned};
-ghost use Rattle.thread_cache.specs.Held.{IsSound as IsSoundCache};
+ghost use Rattle.thread_cache.specs.Held.{IsSoundCache};
 ghost use Rattle.mapped_chunks.specs.Mappings.{IsMapped};
 ghost use Rattle.arena_rules.specs.Align.{IsAlignment};
 ghost use Rattle.arena_growth.specs.Asking.{AllowsMaps};

@@ -23,7 +23,7 @@ use Rattle.arena_holds.specs.Places.{Setting, Standing, Carries, weight_of}
 use Rattle.own_blocks.specs.Own.{in_names, in_own}
 use Rattle.own_blocks.specs.LeftCalls.{IsLeft}
 use Rattle.own_blocks.proofs.LeftCalls.{left_behind}
-use Rattle.own_blocks.specs.Supplying.{Supplies, block_of}
+use Rattle.own_blocks.specs.Supplying.{Supplies, block_supplied}
 use Rattle.arena_holds.proofs.Going.{does_last}
 use Rattle.arena_holds.proofs.Carrying.{SameLaw, carries_as, carries_beside}
 use Rattle.own_blocks.proofs.Weights.{in_names-with}
@@ -31,7 +31,7 @@ use Rattle.own_blocks.proofs.Weights.{in_names-with}
 -- ---- a name gets it
 
 named_weight : (name : ℕ) (got : Option Supply) (names : NameTable) (weigh : Block → ℕ) → has_place names name ≡ true → block_at names name ≡ None →
-    in_names (names_with name got names) weigh ≡ weight_of (block_of got) weigh + in_names names weigh
+    in_names (names_with name got names) weigh ≡ weight_of (block_supplied got) weigh + in_names names weigh
 named_weight name None names weigh below empty = omega arith
 named_weight name (Some g) names weigh below empty = in_names-with name g.block names weigh below empty
 

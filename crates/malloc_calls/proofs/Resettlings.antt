@@ -16,7 +16,7 @@ use Rattle.arena_holds.specs.Calls.{Call, Done, then_call, hold_of, hold_end, ta
 use Rattle.own_blocks.specs.Calls.{Supplied, origin_of, plain_supply, releasing, FitsName, HoldsStill}
 use Rattle.chunk_tags.specs.Sizes.{padded_request}
 use Rattle.own_blocks.specs.Frees.{IsFreed, HoldsOrLoses}
-use Rattle.malloc_calls.specs.Reallocs.{realloc_call, realloc_in, Resettled, kept_block, got_block, refused_block, moved_from_arena, moved_from_mapping, after_resize, resize_in_arena, remapped, not_remapped, realloc_in_mapping, settled, IfAnswered}
+use Rattle.malloc_calls.specs.Reallocs.{realloc_call, realloc_in, Resettled, kept_block, got_block, refused_block, moved_from_arena, moved_from_mapping, after_resize, resize_in_arena, remapped, not_remapped, realloc_in_mapping, resettled, IfAnswered}
 use Rattle.arena_holds.specs.Holding.{resized_to, placed_block}
 use Rattle.own_blocks.specs.declared.own.Own.{Own}
 use Rattle.malloc_calls.specs.declared.realloc.Reallocated.{Reallocated}
@@ -40,7 +40,7 @@ use Rattle.arena_holds.specs.Places.{PlaceWays, Setting, Standing, Carries, Hand
 use Rattle.arena_holds.specs.RunningShort.{RunsShort}
 use Rattle.own_blocks.specs.LeftCalls.{IsLeft}
 use Rattle.malloc_calls.specs.Resettling.{Resettles}
-use Rattle.own_blocks.specs.Supplying.{Supplies, Releases, ReleasesShort, block_of}
+use Rattle.own_blocks.specs.Supplying.{Supplies, Releases, ReleasesShort, block_supplied}
 use Rattle.own_blocks.proofs.Calling.{carries_hand}
 use Rattle.arena_holds.proofs.Carrying.{SameLaw, FewerLaw, carries_here, carries_as, carries_then, carries_beside, carries_fewer, served_after, served_fewer}
 use Rattle.arena_holds.proofs.Going.{does_here, does_last, does_then}
@@ -358,8 +358,8 @@ pub served_got : {P H D K : Type 0} {s : Setting P H D K} {t u : Tunables} {who 
     IsServed s.ways u (both_of (λ weigh. weigh b) (in_cache cache)) o → IsServed s.ways u (both_of (λ weigh. weigh b) (in_cache left)) p
 served_got {cache = cache} {left = left} {got = got} b same fewer h served =
     served_fewer fewer (both_of (λ weigh. weigh b) (in_cache left)) (λ w. omega arith)
-    (served_after {got = both_of (λ weigh. weigh b) (both_of (weight_of (block_of got)) (in_cache left))} same served
-    (carries_as same (both_of (λ weigh. weigh b) (in_cache cache)) (both_of (λ weigh. weigh b) (both_of (weight_of (block_of got)) (in_cache left))) (λ w. omega arith) (λ w. omega arith)
+    (served_after {got = both_of (λ weigh. weigh b) (both_of (weight_of (block_supplied got)) (in_cache left))} same served
+    (carries_as same (both_of (λ weigh. weigh b) (in_cache cache)) (both_of (λ weigh. weigh b) (both_of (weight_of (block_supplied got)) (in_cache left))) (λ w. omega arith) (λ w. omega arith)
     (carries_beside same (λ weigh. weigh b) h.carries)))
 
 -- ---- a name has it
@@ -371,16 +371,16 @@ settled_names name b names taken now e put = put ∙ (ap (with_block name b) e �
 pub settled_does : {P H D K : Type 0} {s : Setting P H D K} {t : Tunables} {who : Who} {nb : ℕ} {left : CacheValue} {o z : Standing P K}
     (rules : Block → Call Resettled) (name : ℕ) (b c : Block) (own : Own) (done : Reallocated) (taken names : NameTable) → c ≡ b → taken ≡ without_block name own.names →
     names ≡ with_block name done.block taken → Resettles s t who (rules c) nb c own.cache o done left z →
-    Does s t who (then_call (rules b) (λ r. Done (settled name own r))) o (done.reply, record { cache = left; names = names }) z
+    Does s t who (then_call (rules b) (λ r. Done (resettled name own r))) o (done.reply, record { cache = left; names = names }) z
 settled_does {s = s} {t = t} {who = who} {left = left} {o = o} {z = z} rules name b c own done taken names e gone put h =
     let d : Does s t who (rules b) o (done, left) z = subst (λ (x : Block). Does s t who (rules x) o (done, left) z) e h.does in
-    rw (settled_names name done.block own.names taken names gone put) (does_last (settled name own) d)
+    rw (settled_names name done.block own.names taken names gone put) (does_last (resettled name own) d)
 
 -- after want of memory
 pub settled_left : {P H D K : Type 0} {s : Setting P H D K} {t : Tunables} {who : Who} {o z : Standing P K} (rules : Block → Call Resettled) (name : ℕ) (b c : Block) (own : Own) → c ≡ b →
-    IsLeft s t who (rules c) o z → IsLeft s t who (then_call (rules b) (λ r. Done (settled name own r))) o z
+    IsLeft s t who (rules c) o z → IsLeft s t who (then_call (rules b) (λ r. Done (resettled name own r))) o z
 settled_left {s = s} {t = t} {who = who} {o = o} {z = z} rules name b c own e l =
-    left_behind (λ r. Done (settled name own r)) (subst (λ (x : Block). IsLeft s t who (rules x) o z) e l)
+    left_behind (λ r. Done (resettled name own r)) (subst (λ (x : Block). IsLeft s t who (rules x) o z) e l)
 
 pub holds_still : (nb name : ℕ) (b c : Block) (names taken now : NameTable) → block_at names name ≡ Some b → taken ≡ without_block name names → now ≡ with_block name c taken →
     (c ≡ b) ⊎ (need_of c.arena nb ≤ c.size) → HoldsStill nb name names now
@@ -454,6 +454,6 @@ realloc_big s t who thread name size b own o at some big = rw (at, some, big) (d
 -- a realloc is left where its block gets another size
 pub realloc_left : {P H D K A E : Type 0} (s : Setting P H D K) (t : Tunables) (who : Who) (thread name size nb : ℕ) (b : Block) (own : Own) (o z : Standing P K) (r : Result A E) →
     block_at own.names name ≡ Some b → nat_eq size 0 ≡ false → padded_request size ≡ Some nb →
-    ((x : Block) → block_at own.names name ≡ Some x → OnErr r (IsLeft s t who (then_call (realloc_in t thread size nb x x.arena own.cache) (λ y. Done (settled name own y))) o z)) →
+    ((x : Block) → block_at own.names name ≡ Some x → OnErr r (IsLeft s t who (then_call (realloc_in t thread size nb x x.arena own.cache) (λ y. Done (resettled name own y))) o z)) →
     OnErr r (IsLeft s t who (realloc_call t thread name size own) o z)
 realloc_left s t who thread name size nb b own o z r at some padded left = rw (at, some, padded) (left b at)

@@ -97,13 +97,13 @@ realloc_in t thread size nb b None cache = realloc_in_mapping t thread size nb b
 realloc_in t thread size nb b (Some a) cache = realloc_in_arena t thread size nb a b cache
 
 -- the name has the block then
-abbrev pub settled : ℕ → Own → Resettled → Reply × Own
-settled name own r = (r.0.reply, own_with name r.0.block r.1 own)
+abbrev pub resettled : ℕ → Own → Resettled → Reply × Own
+resettled name own r = (r.0.reply, own_with name r.0.block r.1 own)
 
 abbrev pub padded_realloc : Tunables → ℕ → ℕ → ℕ → Option ℕ → Block → Own → Call (Reply × Own)
 padded_realloc t thread name size None b own = refuse whys.Big own
 padded_realloc t thread name size (Some nb) b own =
-    then_call (realloc_in t thread size nb b b.arena own.cache) (λ r. Done (settled name own r))
+    then_call (realloc_in t thread size nb b b.arena own.cache) (λ r. Done (resettled name own r))
 
 -- to 0 bytes the block is freed
 abbrev pub realloc_of_block : Tunables → ℕ → ℕ → ℕ → Block → Own → Call (Reply × Own)

@@ -13,7 +13,7 @@ ghost use Rattle.arena_holds.specs.Calls.{Done, then_call};
 ghost use Rattle.own_blocks.specs.Calls.{plain_supply, FitsName, HoldsStill};
 ghost use Rattle.own_blocks.specs.Frees.{HoldsOrLoses};
 ghost use Rattle.own_blocks.specs.LeftCalls.{IsLeft};
-ghost use Rattle.malloc_calls.specs.Reallocs.{realloc_call, realloc_in, resize_in_arena, realloc_in_arena, realloc_in_mapping, moved_from_arena, moved_from_mapping, not_remapped, remapped, kept_block, got_block, refused_block, settled, IfAnswered, has_what_it_needs};
+ghost use Rattle.malloc_calls.specs.Reallocs.{realloc_call, realloc_in, resize_in_arena, realloc_in_arena, realloc_in_mapping, moved_from_arena, moved_from_mapping, not_remapped, remapped, kept_block, got_block, refused_block, resettled, IfAnswered, has_what_it_needs};
 ghost use Rattle.malloc_calls.specs.Resettling.{Resettles};
 ghost use Rattle.arena_holds.specs.Holding.{ResizesShort};
 ghost use Rattle.own_blocks.specs.declared.reply.Reply.TheVariants.{NotYours, Null, Freed};
@@ -415,7 +415,7 @@ fn realloc_name<P: Places, K: Kernel>(
     ensures does { IfOk result (λ reply. (b : Piece) → block_at own.old.names name ≡ Some b →
         Does (setting P.ways (means P.Hold.fast P.Hold.dials K.port) P.Dial.dials) t.now who.now
         (then_call (realloc_in t.now who.now.thread size nb b b.arena own.old.cache)
-        (λ r. Done (settled name own.old r)))
+        (λ r. Done (resettled name own.old r)))
         (standing p.old space.old) (reply, own.new) (standing p.new space.new)) }
     ensures fits { IfOk result (λ reply. IfAnswered reply (FitsName nb name own.new.names)) }
     ensures refused { IfOk result (λ reply. reply ≡ Null Refused
@@ -427,7 +427,7 @@ fn realloc_name<P: Places, K: Kernel>(
     ensures left { (b : Piece) → block_at own.old.names name ≡ Some b → OnErr result
         (IsLeft (setting P.ways (means P.Hold.fast P.Hold.dials K.port) P.Dial.dials) t.now who.now
         (then_call (realloc_in t.now who.now.thread size nb b b.arena own.old.cache)
-        (λ r. Done (settled name own.old r)))
+        (λ r. Done (resettled name own.old r)))
         (standing p.old space.old) (standing p.new space.new)) }
     ensures kept { StaysOpen own.old.cache own.new.cache }
     ensures back { OnErr result (HoldsStill nb name own.old.names own.new.names) }

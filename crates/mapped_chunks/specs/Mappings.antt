@@ -93,7 +93,7 @@ abbrev pub is_raise : ℕ → ℕ → Bool
 is_raise threshold size = nat_lt threshold (size + 2) && nat_le (size + 2) largest_threshold
 
 -- one step, and what comes behind it
-pub record Steps {P : Type 0} (dials : Dialled P) (old : P) (s : DialStep) (Rest : P → Type 0) : Type 0 where
+pub record StepThen {P : Type 0} (dials : Dialled P) (old : P) (s : DialStep) (Rest : P → Type 0) : Type 0 where
   pub next : P
   pub step : dials.step old s next
   pub rest : Rest next
@@ -101,7 +101,7 @@ pub record Steps {P : Type 0} (dials : Dialled P) (old : P) (s : DialStep) (Rest
 -- several steps, one after another
 abbrev pub AllSteps : {P : Type 0} → Dialled P → P → List DialStep → P → Type 0
 AllSteps dials old [] new = new ≡ old
-AllSteps dials old (s ∷ ss) new = Steps dials old s (λ next. AllSteps dials next ss new)
+AllSteps dials old (s ∷ ss) new = StepThen dials old s (λ next. AllSteps dials next ss new)
 
 -- What is done at the words when a mapped chunk is freed, the threshold being what was read: where the thresholds are
 -- dynamic they may be raised first.

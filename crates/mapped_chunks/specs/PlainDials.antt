@@ -7,26 +7,26 @@ use Rattle.mapped_chunks.specs.DialPorts.{DialStep, Reads, Raises, Maps, Unmaps,
 use Rattle.mapped_chunks.specs.Mappings.{MayRaise}
 
 -- the answer of a step is the word that is read
-abbrev pub Tells : DialState → DialStep → Type 0
-Tells d (Reads MmapThreshold n) = n ≡ d.mmap_threshold
-Tells d (Reads TrimThreshold n) = n ≡ d.trim_threshold
-Tells d (Reads MappedCount n) = n ≡ d.mapped
-Tells d (Raises size) = Unit {0}
-Tells d (Maps len) = Unit {0}
-Tells d (Unmaps len) = Unit {0}
-Tells d (Remaps old_len new_len) = Unit {0}
+abbrev pub DialTells : DialState → DialStep → Type 0
+DialTells d (Reads MmapThreshold n) = n ≡ d.mmap_threshold
+DialTells d (Reads TrimThreshold n) = n ≡ d.trim_threshold
+DialTells d (Reads MappedCount n) = n ≡ d.mapped
+DialTells d (Raises size) = Unit {0}
+DialTells d (Maps len) = Unit {0}
+DialTells d (Unmaps len) = Unit {0}
+DialTells d (Remaps old_len new_len) = Unit {0}
 
 -- the words with other bytes, whose maximum may rise
 abbrev pub with_bytes : ℕ → DialState → DialState
 with_bytes bytes d = record d { bytes = bytes; max_bytes = max d.max_bytes bytes }
 
 -- the words after a step
-abbrev pub after_step : DialStep → DialState → DialState
-after_step (Reads which n) d = d
-after_step (Raises size) d = record d { mmap_threshold = size; trim_threshold = 2 * size }
-after_step (Maps len) d = record (with_bytes (d.bytes + len) d) { mapped = d.mapped + 1; max_mapped = max d.max_mapped (d.mapped + 1) }
-after_step (Unmaps len) d = record d { mapped = d.mapped - 1; bytes = d.bytes - len }
-after_step (Remaps old_len new_len) d = with_bytes (d.bytes - old_len + new_len) d
+abbrev pub after_dial_step : DialStep → DialState → DialState
+after_dial_step (Reads which n) d = d
+after_dial_step (Raises size) d = record d { mmap_threshold = size; trim_threshold = 2 * size }
+after_dial_step (Maps len) d = record (with_bytes (d.bytes + len) d) { mapped = d.mapped + 1; max_mapped = max d.max_mapped (d.mapped + 1) }
+after_dial_step (Unmaps len) d = record d { mapped = d.mapped - 1; bytes = d.bytes - len }
+after_dial_step (Remaps old_len new_len) d = with_bytes (d.bytes - old_len + new_len) d
 
 -- a mapping may be counted, no count passing 64 bits
 pub record MayMap (d : DialState) (len : ℕ) : Type 0 where
@@ -53,6 +53,6 @@ Allows d (Remaps old_len new_len) = MayRemap d old_len new_len
 -- what these words are as a port: they tell each answer, and what they are after each step
 abbrev pub plain_dials : Dialled PlainDials
 plain_dials = record {
-  step = λ p s q. Tells p.state s × (q ≡ record { state = after_step s p.state });
+  step = λ p s q. DialTells p.state s × (q ≡ record { state = after_dial_step s p.state });
   allows = λ p s. Allows p.state s;
 }

@@ -4,7 +4,7 @@ use Rattle.std.specs.Prelude.{Result, Ok, Err, OnOk, OnErr, is_ok}
 use Rattle.chunk_tags.specs.Sizes.{structure_bytes, structure_size}
 use Rattle.chunk_tags.specs.declared.block.Block.{Block}
 use Rattle.chunk_tags.specs.declared.tunables.Tunables.{Tunables}
-use Rattle.thread_cache.specs.Caches.{CacheValue, is_open, opened}
+use Rattle.thread_cache.specs.Caches.{CacheValue, is_open, opened_cache}
 use Rattle.arena_core.specs.declared.journal.Act.TheVariants as acts
 use Rattle.arena_core.specs.declared.journal.Who.{Who}
 use Rattle.arena_holds.specs.Calls.{Call}
@@ -40,10 +40,10 @@ opened_does now after (Ok u) e d = rw e d
 opened_does now after (Err x) e d = tt
 
 pub opened_carries : {P H D K E : Type 0} {ways : PlaceWays P H D} {o z : Standing P K} (structure : Block) (count bins : ℕ) (cache left now : CacheValue)
-    (r : Result (Unit {0}) E) → SameLaw ways → FewerLaw ways → is_open left ≡ false → OnOk r (now ≡ opened structure count bins) → OnErr r (now ≡ left) →
+    (r : Result (Unit {0}) E) → SameLaw ways → FewerLaw ways → is_open left ≡ false → OnOk r (now ≡ opened_cache structure count bins) → OnErr r (now ≡ left) →
     Carries ways true (in_cache cache) o (both_of (weight_of (Some structure)) (in_cache left)) z → Carries ways (is_ok r) (in_cache cache) o (in_cache now) z
 opened_carries structure count bins cache left now (Ok u) same fewer closed e short c = rw e
-    (carries_as same (in_cache cache) (in_cache (opened structure count bins)) (λ w. refl)
+    (carries_as same (in_cache cache) (in_cache (opened_cache structure count bins)) (λ w. refl)
     (λ w. omega (arith, in_cache-opened structure count bins w, in_cache-closed left w closed)) c)
 opened_carries structure count bins cache left now (Err x) same fewer closed e short c =
     rw short (carries_fewer fewer (in_cache left) (λ w. omega arith) (carries_short c))

@@ -6,7 +6,7 @@ use Rattle.chunk_tags.specs.declared.block.Block.{Block}
 use Rattle.chunk_tags.specs.declared.tunables.Tunables.{Tunables}
 use Rattle.address_space.specs.declared.space.Space.{Space}
 use Rattle.thread_cache.specs.Caches.{CacheValue, takes, with_newest}
-use Rattle.thread_cache.specs.Held.{IsSound}
+use Rattle.thread_cache.specs.Held.{IsSoundCache}
 use Rattle.arena_core.specs.declared.journal.Who.{Who}
 use Rattle.arena_core.specs.declared.take.GiveShort.{GiveShort}
 use Rattle.block_names.specs.Blocks.{IsHeld}
@@ -39,10 +39,10 @@ use Rattle.own_blocks.proofs.Weights.{in_cache-put}
 -- ---- into the cache
 
 pub released_cached : {P H D K : Type 0} {s : Setting P H D K} {t : Tunables} {who : Who} (o : Standing P K) (a : ℕ) (b : Block) (cache left : CacheValue) →
-    SameLaw s.ways → takes cache b ≡ true → left ≡ with_newest cache b → IfSome left IsSound →
+    SameLaw s.ways → takes cache b ≡ true → left ≡ with_newest cache b → IfSome left IsSoundCache →
     Releases s t who (releasing t a b cache) b cache o sinks.Cached left o
 released_cached {s = s} o a b cache left same taken put sound =
-    let well : IfSome (with_newest cache b) IsSound = subst (λ (c : CacheValue). IfSome c IsSound) put sound in
+    let well : IfSome (with_newest cache b) IsSoundCache = subst (λ (c : CacheValue). IfSome c IsSoundCache) put sound in
     rw put (record {
       does = rw taken (does_here _ o);
       carries = carries_as same (both_of (λ weigh. weigh b) (in_cache cache)) (in_cache (with_newest cache b)) (λ w. refl)

@@ -23,7 +23,7 @@ use Rattle.arena_holds.specs.declared.holding.Search.{Search}
 use Rattle.arena_holds.specs.Holding.{Finds}
 use Rattle.arena_holds.specs.Places.{PlaceWays, Setting, Standing, Carries, Hands, in_cache}
 use Rattle.arena_holds.specs.RunningShort.{RunsShort}
-use Rattle.own_blocks.specs.Supplying.{Supplies, block_of}
+use Rattle.own_blocks.specs.Supplying.{Supplies, block_supplied}
 use Rattle.arena_holds.proofs.Going.{does_here, does_last, does_then}
 use Rattle.arena_holds.proofs.Carrying.{SameLaw, carries_here, carries_as, carries_then}
 use Rattle.own_blocks.proofs.Weights.{in_cache-taken}
@@ -33,7 +33,7 @@ use Rattle.own_blocks.proofs.Weights.{in_cache-taken}
 abbrev found_in : ℕ → Option Block → Option Supply
 found_in place block = option_map (λ b. supply_of b (origin_of place b)) block
 
-block_found : (place : ℕ) (block : Option Block) → block_of (found_in place block) ≡ block
+block_found : (place : ℕ) (block : Option Block) → block_supplied (found_in place block) ≡ block
 block_found place None = refl
 block_found place (Some b) = refl
 

@@ -5,8 +5,8 @@ use Rattle.std.proofs.lemmas.List.{length-set}
 use Rattle.chunk_tags.specs.Sizes.{max_cached, cache_index_of}
 use Rattle.chunk_tags.specs.declared.block.Block.{Block}
 use Rattle.list_laws.proofs.Sums.{sum_by-flat-less, sum_by-flat-more}
-use Rattle.thread_cache.specs.Caches.{CacheValue, is_open, opened, has_room, takes, newest, without_newest, with_newest}
-use Rattle.thread_cache.specs.Held.{IsSound}
+use Rattle.thread_cache.specs.Caches.{CacheValue, is_open, opened_cache, has_room, takes, newest, without_newest, with_newest}
+use Rattle.thread_cache.specs.Held.{IsSoundCache}
 use Rattle.thread_cache.proofs.CacheLaws.{none_opened, HasRoomAt, room_at}
 use Rattle.block_names.specs.Names.{NameTable, has_place, block_at, with_block, without_block}
 use Rattle.own_blocks.specs.Own.{newest_of_size, without_newest_of}
@@ -32,7 +32,7 @@ in_names-without name b names at weigh =
 
 -- ---- the cache
 
-pub in_cache-opened : (structure : Block) (count bins : ℕ) (weigh : Block → ℕ) → in_cache (opened structure count bins) weigh ≡ weigh structure
+pub in_cache-opened : (structure : Block) (count bins : ℕ) (weigh : Block → ℕ) → in_cache (opened_cache structure count bins) weigh ≡ weigh structure
 in_cache-opened structure count bins weigh = rw (none_opened structure count bins) (omega arith)
 
 -- a closed cache has none
@@ -60,7 +60,7 @@ first_true true y h = refl
 first_true false y h = absurd cc
 
 -- a block comes in
-pub in_cache-put : (c : CacheValue) (b : Block) → takes c b ≡ true → IfSome (with_newest c b) IsSound → (weigh : Block → ℕ) →
+pub in_cache-put : (c : CacheValue) (b : Block) → takes c b ≡ true → IfSome (with_newest c b) IsSoundCache → (weigh : Block → ℕ) →
     in_cache (with_newest c b) weigh ≡ weigh b + in_cache c weigh
 in_cache-put None b taken sound weigh = absurd cc
 in_cache-put (Some c) b taken sound weigh =

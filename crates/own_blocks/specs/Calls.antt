@@ -4,7 +4,7 @@ use Rattle.std.specs.Prelude.{ℕ, ◌≤◌, ◌≡◌, ◌⊎◌, nat_le, Opti
 use Rattle.chunk_tags.specs.Sizes.{structure_bytes, structure_size, fast_index_of}
 use Rattle.chunk_tags.specs.declared.block.Block.{Block}
 use Rattle.chunk_tags.specs.declared.tunables.Tunables.{Tunables}
-use Rattle.thread_cache.specs.Caches.{CacheValue, opened, is_open, with_newest, takes}
+use Rattle.thread_cache.specs.Caches.{CacheValue, opened_cache, is_open, with_newest, takes}
 use Rattle.arena_core.specs.Arenas.{need_of}
 use Rattle.arena_core.specs.declared.journal.Act.{Act}
 use Rattle.arena_core.specs.declared.journal.Act.TheVariants.{Take, Give}
@@ -34,7 +34,7 @@ with_cache cache own = record own { cache = cache }
 -- the cache in the chunk that was taken for its structure; where none was, it stays closed
 abbrev pub cache_with_structure : Tunables → Option Block → CacheValue → CacheValue
 cache_with_structure t None cache = cache
-cache_with_structure t (Some b) cache = opened b t.tcache_count t.tcache_bins
+cache_with_structure t (Some b) cache = opened_cache b t.tcache_count t.tcache_bins
 
 abbrev pub opening : Tunables → ℕ → CacheValue → Call CacheValue
 opening t thread cache =

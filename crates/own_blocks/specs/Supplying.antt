@@ -17,8 +17,8 @@ use Rattle.own_blocks.specs.declared.reply.To.{To}
 use Rattle.own_blocks.specs.declared.supplying.Supply.{Supply}
 
 -- the block of what was got
-abbrev pub block_of : Option Supply → Option Block
-block_of o = option_map (λ s. s.block) o
+abbrev pub block_supplied : Option Supply → Option Block
+block_supplied o = option_map (λ s. s.block) o
 
 -- A block of nb bytes was got by these rules, or none.
 pub record Supplies {P H D K : Type 0} (s : Setting P H D K) (t : Tunables) (who : Who) (rules : Call Supplied) (nb : ℕ) (cache : CacheValue)
@@ -28,7 +28,7 @@ pub record Supplies {P H D K : Type 0} (s : Setting P H D K) (t : Tunables) (who
   pub fits : IfSome got (λ g. need_of g.block.arena nb ≤ g.block.size)
   pub refused : got ≡ None → Rose (space_refusals s.means.kernel old.space) (space_refusals s.means.kernel new.space)
   pub later : space_refusals s.means.kernel old.space ≤ space_refusals s.means.kernel new.space
-  pub carries : Carries s.ways true (in_cache cache) old (both_of (weight_of (block_of got)) (in_cache left)) new
+  pub carries : Carries s.ways true (in_cache cache) old (both_of (weight_of (block_supplied got)) (in_cache left)) new
 
 -- A block of an arena was released: where it went.
 pub record Releases {P H D K : Type 0} (s : Setting P H D K) (t : Tunables) (who : Who) (rules : Call (To × CacheValue)) (b : Block) (cache : CacheValue)

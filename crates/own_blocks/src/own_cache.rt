@@ -4,8 +4,8 @@ ghost use Rattle.std.specs.Prelude.{◌≡◌, ◌^◌, ◌<◌, ◌≤◌, [], 
 ghost use Rattle.chunk_tags.specs.Sizes.{IsChunkSize, IsRequestSize, cache_index_of};
 ghost use Rattle.chunk_tags.specs.Tunables.{IsTuned};
 ghost use Rattle.consolidate_trim.specs.Outside.{means};
-ghost use Rattle.thread_cache.specs.Caches.{opened, is_open, takes, newest, without_newest, with_newest, blocks_of, without_next, structure_of};
-ghost use Rattle.thread_cache.specs.Held.{IsCachedAt, IsSound};
+ghost use Rattle.thread_cache.specs.Caches.{opened_cache, is_open, takes, newest, without_newest, with_newest, blocks_of, without_next, structure_of};
+ghost use Rattle.thread_cache.specs.Held.{IsCachedAt, IsSoundCache};
 ghost use Rattle.block_names.specs.Blocks.{IsHeld};
 ghost use Rattle.arena_core.specs.declared.journal.Act.TheVariants.{Resize};
 ghost use Rattle.arena_holds.specs.Calls.{hold_of};
@@ -69,7 +69,7 @@ impl OwnCache {
         requires held { IsHeld structure }
         requires tuned { IsTuned t.now }
         ensures ok { OnOk result
-            (self.new ≡ opened structure t.now.tcache_count t.now.tcache_bins) }
+            (self.new ≡ opened_cache structure t.now.tcache_count t.now.tcache_bins) }
         ensures unchanged { OnErr result (self.new ≡ self.old) }
     {
         match self
@@ -99,7 +99,7 @@ impl OwnCache {
         ensures ok { OnOk result (self.new ≡ with_newest self.old b) }
         ensures err { IfErr result (λ back. back ≡ b) }
         ensures unchanged { OnErr result (self.new ≡ self.old) }
-        ensures sound { OnOk result (IfSome self.new IsSound) }
+        ensures sound { OnOk result (IfSome self.new IsSoundCache) }
     {
         self.cache.put(b)
     }

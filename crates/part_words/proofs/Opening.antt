@@ -4,7 +4,7 @@ use Rattle.std.proofs.lemmas.Bool.{cases_eq, cases_lt, eqb-true}
 use Rattle.std.proofs.Math.ListN.{get_or-map, get_or-eq_default}
 use Rattle.std.proofs.Math.Nat.{mod-eq_of_lt, mul-add-mod_self_right}
 use Rattle.std.proofs.lemmas.Nat.{div-add-mod', div-mul-add}
-use Rattle.part_words.specs.Extents.{Extent, index_of, IsOpen, IsWithinPart, AreOpen, Covers, changed_at, extended}
+use Rattle.part_words.specs.Extents.{Extent, index_of, IsOpen, IsWithinPart, AreOpen, IsWider, changed_at, extended}
 use Rattle.part_words.specs.Parts.{Parts, word_at, extent_of}
 
 -- what stands at an index after a change there, and what stands elsewhere
@@ -86,18 +86,18 @@ IsOpen-within e at l m whole lt all =
     subst (IsOpen e) same (all (m / 16) (omega (arith, whole, lt)))
 
 -- what covers an extent
-pub IsOpen-covers : (e f : Extent) (a : ℕ) → Covers e f → IsOpen e a → IsOpen f a
+pub IsOpen-covers : (e f : Extent) (a : ℕ) → IsWider e f → IsOpen e a → IsOpen f a
 IsOpen-covers e f a c at_a =
     record {
       place = rw c.base at_a.place;
       below = rw (c.base, c.width) (omega (arith, at_a.below, c.words (index_of e.base a / e.width)));
     }
 
-pub IsWithinPart-covers : (e f : Extent) (at len : ℕ) → Covers e f → IsWithinPart e at len → IsWithinPart f at len
+pub IsWithinPart-covers : (e f : Extent) (at len : ℕ) → IsWider e f → IsWithinPart e at len → IsWithinPart f at len
 IsWithinPart-covers e f at len c range =
     record { place = rw c.base range.place; whole = range.whole; fits = rw (c.base, c.width) range.fits }
 
-pub AreOpen-covers : (e f : Extent) (at len : ℕ) → Covers e f → AreOpen e at len → AreOpen f at len
+pub AreOpen-covers : (e f : Extent) (at len : ℕ) → IsWider e f → AreOpen e at len → AreOpen f at len
 AreOpen-covers e f at len c all = λ n h. IsOpen-covers e f (at + 16 * n) c (all n h)
 
 words_more : (k n : ℕ) (xs ys : List ℕ) → ((i : ℕ) → get_or xs i 0 ≤ get_or ys i 0) → (i : ℕ) → get_or (changed_at 0 k (max n) xs) i 0 ≤ get_or (changed_at 0 k (max n) ys) i 0
@@ -107,7 +107,7 @@ words_more k n xs ys le i =
       | inr other ↦ rw (get_or-changed_other 0 k (max n) xs i other, get_or-changed_other 0 k (max n) ys i other) (le i)
     ]
 
-pub Covers-extended : (e f : Extent) (at len : ℕ) → Covers e f → Covers (extended e at len) (extended f at len)
+pub Covers-extended : (e f : Extent) (at len : ℕ) → IsWider e f → IsWider (extended e at len) (extended f at len)
 Covers-extended e f at len c =
     record {
       base = c.base;
@@ -115,7 +115,7 @@ Covers-extended e f at len c =
       words = rw (c.base, c.width) (words_more _ _ e.words f.words c.words);
     }
 
-pub Covers-more : (e f : Extent) (at len : ℕ) → Covers e f → Covers e (extended f at len)
+pub Covers-more : (e f : Extent) (at len : ℕ) → IsWider e f → IsWider e (extended f at len)
 Covers-more e f at len c =
     record {
       base = c.base;
@@ -123,7 +123,7 @@ Covers-more e f at len c =
       words = λ part. omega (arith, c.words part, changed_more (index_of f.base at / f.width) (index_of f.base at % f.width + len / 16) f.words part);
     }
 
-pub Covers-same : (e : Extent) → Covers e e
+pub Covers-same : (e : Extent) → IsWider e e
 Covers-same e = record { base = refl; width = refl; words = λ part. omega arith }
 
 -- a word that isn't the default is open

@@ -41,7 +41,7 @@ extended e at len =
     record e { words = changed_at 0 (n / e.width) (max (n % e.width + len / 16)) e.words }
 
 -- the second has a word wherever the first has one
-pub record Covers (e f : Extent) : Type 0 where
+pub record IsWider (e f : Extent) : Type 0 where
   pub base : f.base ≡ e.base
   pub width : f.width ≡ e.width
   pub words : (part : ℕ) → slice_index e.words part ≤ slice_index f.words part

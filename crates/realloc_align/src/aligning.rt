@@ -8,7 +8,7 @@ ghost use Rattle.arena_rules.specs.Moves.{hand};
 ghost use Rattle.arena_rules.specs.Resize.{back_of};
 ghost use Rattle.arena_rules.specs.Align.{IsAlignment, bytes_past, align_of, aligned_in, tail_cut, lead_of, size_with_lead};
 ghost use Rattle.consolidate_trim.specs.Holds.{IsBacked, one_chunk};
-ghost use Rattle.consolidate_trim.specs.Outside.{Apart, means};
+ghost use Rattle.consolidate_trim.specs.Outside.{AreApart, means};
 ghost use Rattle.consolidate_trim.specs.Lacks.{LacksRoom};
 ghost use Rattle.search_steps.specs.Ledgers.{stage};
 ghost use Rattle.search_steps.specs.Steps.{IsEnough};
@@ -82,7 +82,7 @@ fn cut_tail<M: Moves, K: Kernel, P: FastPort + Dials>(
     said: &mut Vec<Said>,
 ) -> Result<Chunk, NoMemory>
     requires backed { IsBacked P.fast (M.plain g.old) port.old (one_chunk c.now) }
-    requires apart { Apart P.fast P.dials }
+    requires apart { AreApart P.fast P.dials }
     requires fast { t.now.max_fast ≤ 160 }
     requires size { IsRequestSize nb }
     requires fits { nb ≤ c.now.size }
@@ -114,7 +114,7 @@ fn cut_lead<M: Moves, K: Kernel, P: FastPort + Dials>(
     said: &mut Vec<Said>,
 ) -> Result<Chunk, NoMemory>
     requires backed { IsBacked P.fast (M.plain g.old) port.old (one_chunk c.now) }
-    requires apart { Apart P.fast P.dials }
+    requires apart { AreApart P.fast P.dials }
     requires fast { t.now.max_fast ≤ 160 }
     requires chunk { IsChunkSize lead }
     requires fits { lead + 32 ≤ c.now.size }
@@ -142,7 +142,7 @@ fn align_in<M: Moves, K: Kernel, P: FastPort + Dials>(
     said: &mut Vec<Said>,
 ) -> Result<Chunk, NoMemory>
     requires backed { IsBacked P.fast (M.plain g.old) port.old (one_chunk c.now) }
-    requires apart { Apart P.fast P.dials }
+    requires apart { AreApart P.fast P.dials }
     requires fast { t.now.max_fast ≤ 160 }
     requires size { IsRequestSize nb }
     requires align { IsAlignment align }
@@ -178,7 +178,7 @@ pub fn align_in_arena<M: Moves, K: Kernel, P: FastPort + Dials>(
     requires ready { IsReady (means P.fast P.dials K.port) t.now
         (stage (M.plain g.old) (beside_arena port.old cache.old space.old) said.old.items) }
     requires allows { AllowsMaps P.dials port.old space.old }
-    requires apart { Apart P.fast P.dials }
+    requires apart { AreApart P.fast P.dials }
     requires tuned { IsSearchable t.now }
     requires size { IsRequestSize nb }
     requires align { IsAlignment align }

@@ -7,7 +7,7 @@ ghost use Rattle.address_space.specs.Spaces.{space_refusals};
 ghost use Rattle.arena_rules.specs.PlainArena.{IsSound, is_own};
 ghost use Rattle.arena_rules.specs.Resize.{fits_with_top, fits_with_free, is_next_to};
 ghost use Rattle.consolidate_trim.specs.Holds.{IsBacked, one_chunk};
-ghost use Rattle.consolidate_trim.specs.Outside.{Apart, means};
+ghost use Rattle.consolidate_trim.specs.Outside.{AreApart, means};
 ghost use Rattle.search_steps.specs.Ledgers.{stage};
 ghost use Rattle.arena_growth.specs.Asking.{IsSearchable, IsReady, AllowsMaps, FitsFound, beside_arena};
 ghost use Rattle.arena_growth.specs.Lacks.{Lacks, word_room};
@@ -98,7 +98,7 @@ pub fn reshape<M: Moves, K: Kernel, P: FastPort + Dials>(
         (stage (M.plain g.old) (beside_arena port.old cache.old space.old) said.old.items) }
     requires backed { IsBacked P.fast (M.plain g.old) port.old (one_chunk c) }
     requires allows { AllowsMaps P.dials port.old space.old }
-    requires apart { Apart P.fast P.dials }
+    requires apart { AreApart P.fast P.dials }
     requires tuned { IsSearchable t.now }
     requires size { IsRequestSize nb }
     ensures reshapes { Reshapes (means P.fast P.dials K.port) t.now c nb

@@ -5,7 +5,7 @@ ghost use Rattle.chunk_tags.specs.Sizes.{IsRequestSize};
 ghost use Rattle.address_space.specs.Ports.{Rose};
 ghost use Rattle.address_space.specs.Spaces.{space_refusals};
 ghost use Rattle.consolidate_trim.specs.Holds.{IsBacked, one_chunk};
-ghost use Rattle.consolidate_trim.specs.Outside.{Apart, means};
+ghost use Rattle.consolidate_trim.specs.Outside.{AreApart, means};
 ghost use Rattle.consolidate_trim.specs.Lacks.{LacksRoom};
 ghost use Rattle.search_steps.specs.Ledgers.{stage};
 ghost use Rattle.arena_growth.specs.Asking.{IsSearchable, IsReady, AllowsMaps, Closes, FitsFound, beside_arena, chunks_in};
@@ -40,7 +40,7 @@ fn release_rest<M: Moves, K: Kernel, P: FastPort + Dials>(
     said: &mut Vec<Said>,
 ) -> Result<(), NoMemory>
     requires backed { IsBacked P.fast (M.plain g.old) port.old (chunks_in rest) }
-    requires apart { Apart P.fast P.dials }
+    requires apart { AreApart P.fast P.dials }
     requires fast { t.now.max_fast ≤ 160 }
     ensures closes { Closes (means P.fast P.dials K.port) t.now rest
         (stage (M.plain g.old) (beside_arena port.old cache.old space.old) said.old.items)
@@ -69,7 +69,7 @@ pub fn resize_in<M: Moves, K: Kernel, P: FastPort + Dials>(
         (stage (M.plain g.old) (beside_arena port.old cache.old space.old) said.old.items) }
     requires backed { IsBacked P.fast (M.plain g.old) port.old (one_chunk c) }
     requires allows { AllowsMaps P.dials port.old space.old }
-    requires apart { Apart P.fast P.dials }
+    requires apart { AreApart P.fast P.dials }
     requires tuned { IsSearchable t.now }
     requires size { IsRequestSize nb }
     ensures resizes { Resizes (means P.fast P.dials K.port) t.now c nb

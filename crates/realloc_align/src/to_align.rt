@@ -6,7 +6,7 @@ ghost use Rattle.address_space.specs.Ports.{Rose};
 ghost use Rattle.address_space.specs.Spaces.{space_refusals};
 ghost use Rattle.arena_rules.specs.PlainArena.{Plain};
 ghost use Rattle.arena_rules.specs.Align.{IsAlignment, aligned_block};
-ghost use Rattle.consolidate_trim.specs.Outside.{Apart, means};
+ghost use Rattle.consolidate_trim.specs.Outside.{AreApart, means};
 ghost use Rattle.search_steps.specs.Ledgers.{stage};
 ghost use Rattle.arena_growth.specs.Asking.{IsSearchable, IsReady, AllowsMaps, beside_arena, found_of};
 ghost use Rattle.arena_core.specs.Arenas.{held};
@@ -102,7 +102,7 @@ pub fn aligned<M: Moves, K: Kernel, P: FastPort + Dials>(
     requires ready { IsReady (means P.fast P.dials K.port) t.now
         (stage (M.plain a.old.ground) (beside_arena port.old cache.old space.old) []) }
     requires allows { AllowsMaps P.dials port.old space.old }
-    requires apart { Apart P.fast P.dials }
+    requires apart { AreApart P.fast P.dials }
     requires tuned { IsSearchable t.now }
     requires size { IsRequestSize nb }
     requires align { IsAlignment align }

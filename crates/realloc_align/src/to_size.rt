@@ -6,7 +6,7 @@ ghost use Rattle.address_space.specs.Ports.{Rose};
 ghost use Rattle.address_space.specs.Spaces.{space_refusals};
 ghost use Rattle.arena_rules.specs.PlainArena.{Plain};
 ghost use Rattle.consolidate_trim.specs.Holds.{IsBacked, one_chunk};
-ghost use Rattle.consolidate_trim.specs.Outside.{Apart, means};
+ghost use Rattle.consolidate_trim.specs.Outside.{AreApart, means};
 ghost use Rattle.search_steps.specs.Ledgers.{stage};
 ghost use Rattle.arena_growth.specs.Asking.{IsSearchable, IsReady, AllowsMaps, FitsFound, beside_arena};
 ghost use Rattle.arena_core.specs.Arenas.{held};
@@ -95,7 +95,7 @@ pub fn resize<M: Moves, K: Kernel, P: FastPort + Dials>(
     requires backed { IsBacked P.fast (M.plain a.old.ground) port.old
         (one_chunk (chunk_at b.addr b.size)) }
     requires allows { AllowsMaps P.dials port.old space.old }
-    requires apart { Apart P.fast P.dials }
+    requires apart { AreApart P.fast P.dials }
     requires tuned { IsSearchable t.now }
     requires size { IsRequestSize nb }
     ensures resized { IfOk result (λ r.

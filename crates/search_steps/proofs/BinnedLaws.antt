@@ -21,7 +21,7 @@ use Rattle.consolidate_trim.specs.Holds.{no_chunk}
 use Rattle.search_steps.specs.declared.step.Step as step_type
 use Rattle.search_steps.specs.declared.step.Step.TheVariants as steps
 use Rattle.search_steps.specs.Ledgers.{Ledger, Stage, stage, Balances}
-use Rattle.search_steps.specs.Steps.{step_of, chunks_of, chosen, topped, binned}
+use Rattle.search_steps.specs.Steps.{step_of, chunks_taken, chosen, topped, taken_behind_scan}
 use Rattle.search_steps.proofs.Balance.{balances_here, balances_moved}
 use Rattle.search_steps.proofs.Chosen.{is_chosen}
 use Rattle.search_steps.proofs.Remainders.{carve_balances}
@@ -32,7 +32,7 @@ from_larger : (nb : ℕ) (a : Plain) (o : Option Chunk) → next_step (Stop (tak
 from_larger nb a None = refl
 from_larger nb a (Some c) = refl
 
-pub binned_is : (nb : ℕ) (a : Plain) → next_step (best_taken nb a) (λ b. next_step (larger_taken nb b) (top_taken nb)) ≡ Stop (binned nb a)
+pub binned_is : (nb : ℕ) (a : Plain) → next_step (best_taken nb a) (λ b. next_step (larger_taken nb b) (top_taken nb)) ≡ Stop (taken_behind_scan nb a)
 binned_is nb a =
     let larger : Option Chunk = first_oldest (drop (bin_of nb + 1) a.bins) in
     let tail : Plain → Rules Step = λ b. next_step (larger_taken nb b) (top_taken nb) in
@@ -71,7 +71,7 @@ top_steps l x nb said s chunk =
     ] in
     top (has_top_for x.arena nb) refl
 
-step_balances : {O : Type 0} (l : Ledger O) (x : Stage O) (nb : ℕ) (said : List Said) → IsSound x.arena → IsChunkSize nb → Steps_balance l x said (binned nb x.arena)
+step_balances : {O : Type 0} (l : Ledger O) (x : Stage O) (nb : ℕ) (said : List Said) → IsSound x.arena → IsChunkSize nb → Steps_balance l x said (taken_behind_scan nb x.arena)
 step_balances l x nb said s chunk =
     let cases : (o : Option Chunk) → chosen nb x.arena ≡ o → Steps_balance l x said (elim o [ None ↦ topped nb x.arena | Some c ↦ taken_from nb x.arena (Some c) ]) = elim [
       | None ↦ λ e. top_steps l x nb said s chunk
@@ -81,12 +81,12 @@ step_balances l x nb said s chunk =
     ] in
     cases (chosen nb x.arena) refl
 
-pub binned_balances : {O : Type 0} (l : Ledger O) (x : Stage O) (nb : ℕ) (said : List Said) (r : step_type.Step) (b : Plain) → IsSound x.arena → IsChunkSize nb → step_of r b ≡ binned nb x.arena → Balances l x no_chunk (chunks_of r) (stage b x.outside said)
+pub binned_balances : {O : Type 0} (l : Ledger O) (x : Stage O) (nb : ℕ) (said : List Said) (r : step_type.Step) (b : Plain) → IsSound x.arena → IsChunkSize nb → step_of r b ≡ taken_behind_scan nb x.arena → Balances l x no_chunk (chunks_taken r) (stage b x.outside said)
 binned_balances l x nb said (steps.Taken c) b s chunk e = subst (Steps_balance l x said) (sym e) (step_balances l x nb said s chunk)
 binned_balances l x nb said steps.Onward b s chunk e = subst (Steps_balance l x said) (sym e) (step_balances l x nb said s chunk)
 
 -- the same of top alone
-pub topped_balances : {O : Type 0} (l : Ledger O) (x : Stage O) (nb : ℕ) (said : List Said) (r : step_type.Step) (b : Plain) → IsSound x.arena → IsChunkSize nb → step_of r b ≡ topped nb x.arena → Balances l x no_chunk (chunks_of r) (stage b x.outside said)
+pub topped_balances : {O : Type 0} (l : Ledger O) (x : Stage O) (nb : ℕ) (said : List Said) (r : step_type.Step) (b : Plain) → IsSound x.arena → IsChunkSize nb → step_of r b ≡ topped nb x.arena → Balances l x no_chunk (chunks_taken r) (stage b x.outside said)
 topped_balances l x nb said (steps.Taken c) b s chunk e = subst (Steps_balance l x said) (sym e) (top_steps l x nb said s chunk)
 topped_balances l x nb said steps.Onward b s chunk e = subst (Steps_balance l x said) (sym e) (top_steps l x nb said s chunk)
 
@@ -99,7 +99,7 @@ top_short nb a b e =
     ] in
     top (has_top_for a nb) refl e
 
-pub onward_short : (nb : ℕ) (a b : Plain) → search.Onward b ≡ binned nb a → has_top_for b nb ≡ false
+pub onward_short : (nb : ℕ) (a b : Plain) → search.Onward b ≡ taken_behind_scan nb a → has_top_for b nb ≡ false
 onward_short nb a b e =
     let cases : (o : Option Chunk) → search.Onward b ≡ (elim o [ None ↦ topped nb a | Some c ↦ taken_from nb a (Some c) ]) → has_top_for b nb ≡ false = elim [
       | None ↦ λ same. top_short nb a b same

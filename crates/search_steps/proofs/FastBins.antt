@@ -9,7 +9,7 @@ use Rattle.chunk_tags.specs.declared.refusals.NoMemory.{NoMemory}
 use Rattle.chunk_tags.specs.declared.tiles.Chunk.{Chunk}
 use Rattle.chunk_tags.specs.declared.tunables.Tunables.{Tunables}
 use Rattle.thread_cache.specs.Caches.{CacheValue, has_room, list_of, with_newest}
-use Rattle.thread_cache.specs.Held.{IsSound as IsSoundCache}
+use Rattle.thread_cache.specs.Held.{IsSoundCache}
 use Rattle.fast_bins.specs.FastPorts as fasts
 use Rattle.fast_bins.specs.FastPorts.{Fast, Did}
 use Rattle.arena_rules.specs.declared.said.Said.{Said}

@@ -13,7 +13,7 @@ use Rattle.chunk_tags.specs.Sizes.{cache_index_of}
 use Rattle.arena_rules.specs.Walks.{Ways, Walks, here, idled, done, told, Reaches, StopsShort}
 use Rattle.consolidate_trim.specs.FastHolds.{FastHold, FastAnswers, FastDoes, Empties}
 use Rattle.consolidate_trim.specs.Holds.{Chunks, no_chunk, times_cached, Hold, outside, Carries}
-use Rattle.consolidate_trim.specs.Outside.{Means, Outside, Goes, Does}
+use Rattle.consolidate_trim.specs.Outside.{Means, Outside, AnswerGoes, DeedGoes}
 use Rattle.search_steps.specs.Ledgers.{Ledger, Stage, stage, Balances, Loses, Works, shelf, CacheGoes, CacheDoes, Near, near, NearGoes, NearDoes, near_ledger, fast_ledger, full}
 
 -- one outside as a part of another
@@ -92,14 +92,14 @@ shelf_part fast port = record {
   cached = λ n o p e. omega arith;
 }
 
-near_goes : {P K : Type 0} (m : Means P K) (space : Space K) (o p : Near P) (n : Need) (s : Said) → NearGoes m.fast o n s p → Goes m (far space o) n s (far space p)
+near_goes : {P K : Type 0} (m : Means P K) (space : Space K) (o p : Near P) (n : Need) (s : Said) → NearGoes m.fast o n s p → AnswerGoes m (far space o) n s (far space p)
 near_goes m space o p Flagged (told.Flag b) h = record { did = h.did; others = ap (λ c. far space (near p.port c)) h.cache }
 near_goes m space o p (Pops bin) (told.Popped at) h = record { did = h.did; others = ap (λ c. far space (near p.port c)) h.cache }
 near_goes m space o p (Owns bin) (told.Own at) h = record { did = h.did; others = ap (λ c. far space (near p.port c)) h.cache }
 near_goes m space o p (Rooms size) (told.Room b) h = record { told = h.step.told; others = ap (λ c. far space (near p.port c)) h.step.same ∙ ap (λ q. far space (near q o.cache)) h.port }
 near_goes m space o p n s h = absurd h
 
-near_does : {P K : Type 0} (m : Means P K) (n : ℕ) (space : Space K) (o p : Near P) (d : Deed) → NearDoes m.fast n o d p → Does m n (far space o) d (far space p)
+near_does : {P K : Type 0} (m : Means P K) (n : ℕ) (space : Space K) (o p : Near P) (d : Deed) → NearDoes m.fast n o d p → DeedGoes m n (far space o) d (far space p)
 near_does m n space o p Clears h = record { did = h.did; others = ap (λ c. far space (near p.port c)) h.cache }
 near_does m n space o p (Gathers bin) h = record { did = h.did; others = ap (λ c. far space (near p.port c)) h.cache }
 near_does m n space o p (Stashes k) h = ap (λ c. far space (near p.port c)) h.step ∙ ap (λ q. far space (near q (with_newest o.cache (block_of n k)))) h.port

@@ -22,7 +22,7 @@ use Rattle.consolidate_trim.specs.Holds.{no_chunk, IsBacked}
 use Rattle.search_steps.specs.declared.step.Step as step_type
 use Rattle.search_steps.specs.declared.step.Step.TheVariants as steps
 use Rattle.search_steps.specs.Ledgers.{Ledger, Stage, stage, Works, Balances, shelf, Near, near, near_ledger, fast_ledger}
-use Rattle.search_steps.specs.Steps.{Steps, Sweeps, step_of, chunks_of, binned, begun, begun_small}
+use Rattle.search_steps.specs.Steps.{Steps, Sweeps, step_of, chunks_taken, taken_behind_scan, begun, begun_small}
 use Rattle.search_steps.proofs.Balance.{balances_here, balances_then, balances_as, loses_from, works_ok, works_short}
 use Rattle.search_steps.proofs.BinnedLaws.{binned_is, binned_balances}
 use Rattle.search_steps.proofs.Lifting.{works_put, works_empties, shelf_part, fast_part}
@@ -39,7 +39,7 @@ look_ends nb x y c s = record { works = λ t. step_ends (after_scan nb) c (s.wor
 pub look_short : (nb : ℕ) (x y : Stage CacheValue) (e : NoMemory) (r : Result step_type.Step NoMemory) → IsErr r → Steps shelf (scanned_all nb x.arena) x (Err e) y → Steps shelf (looked nb x.arena) x r y
 look_short nb x y e r is s = record { works = λ t. short_behind_works (λ (step : search.Step). elim step [ search.Taken c a ↦ Stop (search.Taken c a) | search.Onward a ↦ after_scan nb a ]) e r is (s.works t) }
 
-pub look_binned : (nb : ℕ) (x y : Stage CacheValue) (s : step_type.Step) (b : Plain) → IsChunkSize nb → Steps shelf (scanned_all nb x.arena) x (Ok steps.Onward) y → step_of s b ≡ binned nb y.arena →
+pub look_binned : (nb : ℕ) (x y : Stage CacheValue) (s : step_type.Step) (b : Plain) → IsChunkSize nb → Steps shelf (scanned_all nb x.arena) x (Ok steps.Onward) y → step_of s b ≡ taken_behind_scan nb y.arena →
     Steps shelf (looked nb x.arena) x (Ok s) (stage b y.outside y.said)
 look_binned nb x y s b chunk st is = record {
   works = λ t.
@@ -125,7 +125,7 @@ abbrev after_small : ℕ → search.Step → Rules search.Step
 after_small nb step = elim step [ search.Taken c a ↦ Stop (search.Taken c a) | search.Onward a ↦ consolidated_first nb a ]
 
 lifted_step : {P : Type 0} {rules : Rules search.Step} {x y : Stage CacheValue} (fast : Fast P) (port : P) (t : Tunables) (r : Result step_type.Step NoMemory) → Steps shelf rules x r y →
-    Works (near_ledger fast) t rules no_chunk (stage x.arena (near port x.outside) x.said) (λ s. step_of s y.arena) chunks_of r (stage y.arena (near port y.outside) y.said)
+    Works (near_ledger fast) t rules no_chunk (stage x.arena (near port x.outside) x.said) (λ s. step_of s y.arena) chunks_taken r (stage y.arena (near port y.outside) y.said)
 lifted_step fast port t r s = works_put r (shelf_part fast port) (s.works t)
 
 pub small_ends : {P : Type 0} (fast : Fast P) (port : P) (nb : ℕ) (x y : Stage CacheValue) (c : Chunk) → Steps shelf (small_taken nb x.arena) x (Ok (steps.Taken c)) y →

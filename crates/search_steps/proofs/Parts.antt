@@ -15,7 +15,7 @@ use Rattle.consolidate_trim.specs.Holds.{Chunks, no_chunk, IsBacked}
 use Rattle.search_steps.specs.declared.step.Step as step_type
 use Rattle.search_steps.specs.declared.step.Step.TheVariants.{Taken, Onward}
 use Rattle.search_steps.specs.Ledgers.{Ledger, Stage, Balances, Works}
-use Rattle.search_steps.specs.Steps.{step_of, chunks_of}
+use Rattle.search_steps.specs.Steps.{step_of, chunks_taken}
 use Rattle.search_steps.proofs.Balance.{balances_here, balances_then, balances_as, loses_then}
 
 -- From these rules to what is left of them: so far.
@@ -73,7 +73,7 @@ abbrev step_made : Plain → step_type.Step → search.Step
 step_made a s = step_of s a
 
 pub step_ends : {O E : Type 0} {l : Ledger O} {t : Tunables} {r : Rules search.Step} {x y : Stage O} (f : Plain → Rules search.Step) (c : Chunk) → let ok : Result step_type.Step E = Ok (Taken c) in
-    Works l t r no_chunk x (step_made y.arena) chunks_of ok y → Works l t (next_step r f) no_chunk x (step_made y.arena) chunks_of ok y
+    Works l t r no_chunk x (step_made y.arena) chunks_taken ok y → Works l t (next_step r f) no_chunk x (step_made y.arena) chunks_taken ok y
 step_ends f c w = record {
   walk = record { done = reaches_behind (λ (step : search.Step). elim step [ search.Taken c a ↦ Stop (search.Taken c a) | search.Onward a ↦ f a ]) w.walk.done; short = tt };
   keeps = w.keeps;
@@ -81,7 +81,7 @@ step_ends f c w = record {
 }
 
 pub step_goes : {O E : Type 0} {l : Ledger O} {t : Tunables} {r : Rules search.Step} {x y : Stage O} (f : Plain → Rules search.Step) → let ok : Result step_type.Step E = Ok Onward in
-    Works l t r no_chunk x (step_made y.arena) chunks_of ok y → Passes l t (next_step r f) x no_chunk (f y.arena) y
+    Works l t r no_chunk x (step_made y.arena) chunks_taken ok y → Passes l t (next_step r f) x no_chunk (f y.arena) y
 step_goes f w = record {
   reaches = reaches_behind (λ (step : search.Step). elim step [ search.Taken c a ↦ Stop (search.Taken c a) | search.Onward a ↦ f a ]) w.walk.done;
   balances = w.keeps;

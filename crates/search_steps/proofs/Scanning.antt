@@ -11,7 +11,7 @@ use Rattle.chunk_tags.specs.declared.tiles.Chunk.{Chunk}
 use Rattle.chunk_tags.specs.declared.tunables.Tunables.{Tunables}
 use Rattle.chunk_tags.specs.Sizes.{IsChunkSize, is_small_size, max_cached, cache_index_of}
 use Rattle.thread_cache.specs.Caches.{CacheValue, has_room, newest, with_newest, without_newest}
-use Rattle.thread_cache.specs.Held.{IsSound as IsSoundCache}
+use Rattle.thread_cache.specs.Held.{IsSoundCache}
 use Rattle.arena_rules.specs.declared.said.Said.TheVariants as told
 use Rattle.arena_rules.specs.PlainArena.{Plain, IsSound, times_listed, unsorted_of}
 use Rattle.arena_rules.specs.Moves.{claimed}

@@ -8,7 +8,7 @@ use Rattle.chunk_tags.specs.declared.tiles.Chunk.{Chunk}
 use Rattle.chunk_tags.specs.declared.block.Block.{Block}
 use Rattle.chunk_tags.specs.declared.tunables.Tunables.{Tunables}
 use Rattle.thread_cache.specs.Caches.{CacheValue, has_room, list_of, newest, with_newest, without_newest}
-use Rattle.thread_cache.specs.Held.{IsSound as IsSoundCache}
+use Rattle.thread_cache.specs.Held.{IsSoundCache}
 use Rattle.thread_cache.proofs.CacheLaws.{HasRoomAt, room_at, Took, put, Gave, got}
 use Rattle.arena_rules.specs.declared.said.Said.{Said}
 use Rattle.arena_rules.specs.declared.said.Said.TheVariants as told

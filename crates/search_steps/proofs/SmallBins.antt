@@ -9,7 +9,7 @@ use Rattle.chunk_tags.specs.declared.refusals.NoMemory.{NoMemory}
 use Rattle.chunk_tags.specs.declared.tiles.Chunk.{Chunk}
 use Rattle.chunk_tags.specs.declared.tunables.Tunables.{Tunables}
 use Rattle.thread_cache.specs.Caches.{CacheValue, has_room, list_of, with_newest}
-use Rattle.thread_cache.specs.Held.{IsSound as IsSoundCache}
+use Rattle.thread_cache.specs.Held.{IsSoundCache}
 use Rattle.arena_rules.specs.declared.said.Said.{Said}
 use Rattle.arena_rules.specs.declared.said.Said.TheVariants as told
 use Rattle.arena_rules.specs.PlainArena.{Plain, IsSound, bin_at, times_listed, BelongsIn}

@@ -23,9 +23,9 @@ step_of (Taken c) a = search.Taken c a
 step_of Onward a = search.Onward a
 
 -- the chunk that a step took
-abbrev pub chunks_of : Step → Chunks
-chunks_of (Taken c) e = once e c
-chunks_of Onward e = 0
+abbrev pub chunks_taken : Step → Chunks
+chunks_taken (Taken c) e = once e c
+chunks_taken Onward e = 0
 
 -- a size of chunks that is enough for a need
 pub record IsEnough (need size : ℕ) : Type 0 where
@@ -39,7 +39,7 @@ FitsStep nb Onward = Unit {0}
 
 -- a step of the search, whatever the tunables
 pub record Steps {O : Type 0} (l : Ledger O) (rules : Rules search.Step) (before : Stage O) (result : Result Step NoMemory) (after : Stage O) : Type 0 where
-  pub works : (t : Tunables) → Works l t rules no_chunk before (λ s. step_of s after.arena) chunks_of result after
+  pub works : (t : Tunables) → Works l t rules no_chunk before (λ s. step_of s after.arena) chunks_taken result after
 
 -- the best chunk of a large size's own bin, else the last one of the first bin above
 abbrev pub chosen : ℕ → Plain → Option Chunk
@@ -53,8 +53,8 @@ abbrev pub topped : ℕ → Plain → search.Step
 topped = cut_or search.Taken search.Onward
 
 -- what is taken from the bins, else from top
-abbrev pub binned : ℕ → Plain → search.Step
-binned nb a = elim (chosen nb a) [ None ↦ topped nb a | Some c ↦ taken_from nb a (Some c) ]
+abbrev pub taken_behind_scan : ℕ → Plain → search.Step
+taken_behind_scan nb a = elim (chosen nb a) [ None ↦ topped nb a | Some c ↦ taken_from nb a (Some c) ]
 
 -- Further chunks of a small bin were put into the cache, whatever the first one was.
 pub record StashesSmall (nb : ℕ) (before : Stage CacheValue) (result : Result (Unit {0}) NoMemory) (after : Stage CacheValue) : Type 0 where

@@ -4,7 +4,7 @@ ghost use Rattle.std.specs.Prelude.{◌≡◌, ◌+◌, nat_le};
 ghost use Rattle.chunk_tags.specs.Sizes.{IsChunkSize};
 ghost use Rattle.arena_rules.specs.PlainArena.{IsSound};
 ghost use Rattle.arena_rules.specs.Growth.{has_top_for};
-ghost use Rattle.search_steps.specs.Steps.{FitsStep, step_of, chosen, topped, binned};
+ghost use Rattle.search_steps.specs.Steps.{FitsStep, step_of, chosen, topped, taken_behind_scan};
 
 use crate::carve::{MIN_CHUNK, carve};
 use crate::step::Step;
@@ -62,7 +62,7 @@ pub fn take_top<M: Moves>(g: &mut M, nb: Size) -> Step
 pub fn take_binned<M: Moves>(g: &mut M, nb: Size) -> Step
     requires sound { IsSound (M.plain g.old) }
     requires chunk { IsChunkSize nb }
-    ensures step { step_of result (M.plain g.new) ≡ binned nb (M.plain g.old) }
+    ensures step { step_of result (M.plain g.new) ≡ taken_behind_scan nb (M.plain g.old) }
     ensures fits { FitsStep nb result }
 {
     match choose(g, nb) {

@@ -3,7 +3,7 @@
 ghost use Rattle.std.specs.Prelude.{◌≡◌, ◌<◌, [], ◌∷◌, ◌++◌, vec_len, vec_capacity, IsTrue, IfOk, OnOk, OnErr, IfSome};
 ghost use Rattle.chunk_tags.specs.Sizes.{IsChunkSize};
 ghost use Rattle.thread_cache.specs.Caches.{has_room, with_newest};
-ghost use Rattle.thread_cache.specs.Held.{IsSound as IsSoundCache};
+ghost use Rattle.thread_cache.specs.Held.{IsSoundCache};
 ghost use Rattle.arena_rules.specs.PlainArena.{IsSound, times_listed};
 ghost use Rattle.arena_rules.specs.Moves.{claimed};
 ghost use Rattle.arena_rules.specs.Rules.{block_of};

@@ -3,7 +3,7 @@ use Rattle.std.proofs.Common.{◌≡◌, IsTrue, sym, ap, subst}
 use Rattle.fast_bins.specs.FastPorts.{Fast, FastStep, Did, Idles}
 use Rattle.mapped_chunks.specs.DialPorts.{Dialled}
 use Rattle.mapped_chunks.specs.Mappings.{IsSteady}
-use Rattle.consolidate_trim.specs.Outside.{Apart}
+use Rattle.consolidate_trim.specs.Outside.{AreApart}
 use Rattle.serial_places.specs.declared.both.Both.{Both}
 use Rattle.serial_places.specs.Joined.{joined_fast, joined_dials}
 
@@ -14,7 +14,7 @@ pub idles_joined : {B D : Type 0} (fast : Fast B) (p q : Both B D) → Idles fas
 idles_joined fast p q h e = record { idle = (h.idle, e); stock = h.stock; room = h.room }
 
 -- the parts of a joined port are apart, where reading a word changes nothing of what may be counted
-pub apart_joined : {B D : Type 0} (fast : Fast B) (dials : Dialled D) → IsSteady dials → Apart (joined_fast fast) (joined_dials dials)
+pub apart_joined : {B D : Type 0} (fast : Fast B) (dials : Dialled D) → IsSteady dials → AreApart (joined_fast fast) (joined_dials dials)
 apart_joined fast dials steady = record {
   stock = λ p q s h e. ap (λ b. fast.stock b e) h.1;
   room = λ p q s h k r. subst (λ b. IsTrue (fast.room b k)) (sym h.1) r;

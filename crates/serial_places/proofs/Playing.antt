@@ -13,7 +13,7 @@ use Rattle.address_space.specs.Ports.{Port}
 use Rattle.address_space.specs.Spaces.{space_tells, granted_place, place_answer, map_ask, map_place}
 use Rattle.fast_bins.specs.PlainBins.{FastState, state_of}
 use Rattle.mapped_chunks.specs.DialPorts.{Reads as reading}
-use Rattle.mapped_chunks.specs.PlainDials.{Tells}
+use Rattle.mapped_chunks.specs.PlainDials.{DialTells}
 use Rattle.mapped_chunks.specs.declared.plain.DialState.{DialState}
 use Rattle.mapped_chunks.specs.declared.plain.PlainDials.{PlainDials}
 use Rattle.arena_rules.specs.declared.said.Said.{Said}
@@ -21,7 +21,7 @@ use Rattle.arena_rules.specs.declared.said.Said.TheVariants as told
 use Rattle.arena_rules.specs.Rules.{Rules, Stop, Need, Flagged, Pops, Owns, Rooms, Asks, Maps, Reads, Deed, Clears, Gathers, Pushes, Stashes, Draws, Gives, Counts, fits, same_ask}
 use Rattle.arena_rules.specs.Walks as walks
 use Rattle.arena_rules.specs.Walks.{Walks}
-use Rattle.consolidate_trim.specs.Outside.{Outside, Goes, Does, ways}
+use Rattle.consolidate_trim.specs.Outside.{Outside, AnswerGoes, DeedGoes, ways}
 use Rattle.serial_places.specs.Playing.{HoldWorld, PlainPort, plain_means, world_of, word_of, world_answer, world_told, world_done, PlayedHold, told_first, played_hold}
 
 -- the world gave this answer, and is what it is then
@@ -50,7 +50,7 @@ space_world : {K : Type 0} (o p : Outside PlainPort K) (s : Space K) → p ≡ r
     world_of p ≡ record (world_of o) { space = s }
 space_world o p s others e = ap world_of others ∙ ap (λ x. record (world_of o) { space = x }) e
 
-word_told : (which : Dial) (n : ℕ) (d : DialState) → Tells d (reading which n) → n ≡ word_of which d
+word_told : (which : Dial) (n : ℕ) (d : DialState) → DialTells d (reading which n) → n ≡ word_of which d
 word_told MmapThreshold n d h = h
 word_told TrimThreshold n d h = h
 word_told MappedCount n d h = h
@@ -74,7 +74,7 @@ granted_answer at Granted = refl
 granted_answer at Refused = refl
 
 answered : {K : Type 0} (port : Port K) (t : Tunables) (o p : Outside PlainPort K) (n : Need) (s : Said) → IsTrue (space_tells port o.space) →
-    IsTrue (fits t n s) → Goes (plain_means port) o n s p → Answered port o n s p
+    IsTrue (fits t n s) → AnswerGoes (plain_means port) o n s p → Answered port o n s p
 answered port t o p Flagged (told.Flag b) tells fit h = record {
   said = ap told.Flag h.did.step.0.0;
   world = bins_world o p (state_of o.port.bins) h.others h.did.step.0.1 h.did.step.1;
@@ -121,7 +121,7 @@ pub record Done {K : Type 0} (port : Port K) (number : ℕ) (o : Outside PlainPo
   pub tells : IsTrue (space_tells port p.space)
 
 done : {K : Type 0} (port : Port K) (number : ℕ) (o p : Outside PlainPort K) (d : Deed) → IsTrue (space_tells port o.space) →
-    Does (plain_means port) number o d p → Done port number o d p
+    DeedGoes (plain_means port) number o d p → Done port number o d p
 done port number o p Clears tells h = record {
   world = bins_world o p _ h.others h.did.step.0.1 h.did.step.1;
   tells = still_tells port p (record o { port = p.port }) h.others tells;

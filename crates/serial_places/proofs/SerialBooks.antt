@@ -4,7 +4,7 @@ use Rattle.std.specs.Prelude.{slice_get, ◌==◌}
 use Rattle.chunk_tags.specs.declared.tunables.Tunables.{Tunables}
 use Rattle.arena_choice.specs.Numbers.{has, lowest_from, lowest_unused, with_second}
 use Rattle.arena_choice.specs.Books.{BookValue, IsSound, attached_to, arena_of, numbers_of}
-use Rattle.arena_choice.specs.Choices.{CanAttach, choice_from, choice_of, book_from, own_arena, newest_free, without_newest_free, with_limit_settled, new_number, with_new_number, has_place, start_of, listed, left_book}
+use Rattle.arena_choice.specs.Choices.{CanAttach, choice_from, choice_of, book_from, own_arena, newest_free, without_newest_free, with_limit_settled, new_number, with_new_number, has_number_left, start_of, listed, left_book}
 use Rattle.arena_choice.specs.declared.choice.Choice.{Choice}
 use Rattle.arena_choice.specs.declared.choice.Choice.TheVariants.{New, Reuse}
 use Rattle.arena_choice.proofs.BookLaws.{sound_limit, sound_without_newest_free, sound_undone, place_left, new_unlisted, sound_with_new_number, sound_attached, sound_reused, arena_listed, sound_detached}
@@ -69,7 +69,7 @@ new_most xs = omega (arith, lowest_most (length xs) 0 xs)
 
 -- ---- a choice
 
-at_new : (b : BookValue) (thread : ℕ) → IsSound b → (v : Bool) → has_place b ≡ v →
+at_new : (b : BookValue) (thread : ℕ) → IsSound b → (v : Bool) → has_number_left b ≡ v →
     KeepsList b (attached_where_free thread (cond v (New (new_number b)) (Reuse (start_of b.next))) (cond v (with_new_number b) b))
 at_new b thread s true e = record { list = refl; records = refl; sound = sound_with_new_number b s e }
 at_new b thread s false e = record { list = refl; records = refl; sound = s }
@@ -86,7 +86,7 @@ from_choice b thread None (Some a) t s e =
     }
 from_choice b thread None None t s e =
     let c : BookValue = with_limit_settled t b in
-    let k = at_new c thread (sound_limit b c.limit s) (has_place c) refl in
+    let k = at_new c thread (sound_limit b c.limit s) (has_number_left c) refl in
     record { list = k.list; records = k.records; sound = k.sound }
 
 pub chooses : (b : BookValue) (thread : ℕ) (fresh : Bool) (t : Tunables) → IsSound b → KeepsList b (book_after t (Chooses thread fresh) b)
@@ -124,7 +124,7 @@ start_listed b None s e = first_has 0 b.list s.main
 start_listed b (Some a) s e = s.next a e
 
 -- a new number is owed
-owed_new : (st : SerialState) (b : BookValue) → IsSound b → has_place b ≡ true → IsOwed (record st { book = with_new_number b }) (new_number b)
+owed_new : (st : SerialState) (b : BookValue) → IsSound b → has_number_left b ≡ true → IsOwed (record st { book = with_new_number b }) (new_number b)
 owed_new st b s place =
     let n : ℕ = new_number b in
     let out : has n b.list ≡ false = new_unlisted b in
@@ -140,7 +140,7 @@ owed_new st b s place =
       below = omega (arith, new_most (numbers_of b), length-append b.list b.kept, place_left b place, s.records);
     }
 
-allowed_new : (st : SerialState) (b : BookValue) (thread : ℕ) → IsSound b → b.list ≡ st.book.list → IsWhole st → (v : Bool) → has_place b ≡ v →
+allowed_new : (st : SerialState) (b : BookValue) (thread : ℕ) → IsSound b → b.list ≡ st.book.list → IsWhole st → (v : Bool) → has_number_left b ≡ v →
     let choice : Choice = cond v (New (new_number b)) (Reuse (start_of b.next)) in
     IsAllowed state_ways (record st { book = attached_where_free thread choice (cond v (with_new_number b) b) }) choice
 allowed_new st b thread s list w true e = owed_new st b s e
@@ -153,7 +153,7 @@ allowed_from st thread (Some a) free t s mine e w = w.listed a (mine a refl)
 allowed_from st thread None (Some a) t s mine e w = w.listed a (free_known st.book a s e).listed
 allowed_from st thread None None t s mine e w =
     let b : BookValue = with_limit_settled t st.book in
-    allowed_new st b thread (sound_limit st.book b.limit s) refl w (has_place b) refl
+    allowed_new st b thread (sound_limit st.book b.limit s) refl w (has_number_left b) refl
 
 pub allowed : (st : SerialState) (thread : ℕ) (fresh : Bool) (t : Tunables) → IsSound st.book → IsWhole st →
     IsAllowed state_ways (record st { book = book_after t (Chooses thread fresh) st.book }) (choice_of st.book thread fresh t)

@@ -13,7 +13,7 @@ use Rattle.fast_bins.specs.FastPorts.{Pushes, Did, Idles}
 use Rattle.fast_bins.specs.PlainBins.{PlainBins, FastState, plain_fast, state_of, empty_state, chunks_of}
 use Rattle.mapped_chunks.specs.DialPorts.{DialStep, Reads, Raises, Maps, Unmaps, Remaps}
 use Rattle.mapped_chunks.specs.Mappings.{AllSteps}
-use Rattle.mapped_chunks.specs.PlainDials.{after_step, plain_dials}
+use Rattle.mapped_chunks.specs.PlainDials.{after_dial_step, plain_dials}
 use Rattle.mapped_chunks.specs.declared.plain.DialState.{DialState}
 use Rattle.mapped_chunks.specs.declared.plain.PlainDials.{PlainDials}
 use Rattle.arena_rules.specs.PlainArena.{times_used}
@@ -202,7 +202,7 @@ words_returned places first d steps told walk =
           };
       shorter = λ old_len new_len own others one allowed less n.
           let walked : AllSteps plain_dials first (Remaps old_len new_len ∷ []) d = subst (λ (ss : List DialStep). AllSteps plain_dials first ss d) one walk in
-          let after : d.state ≡ after_step (Remaps old_len new_len) first.state = ap (λ (x : PlainDials). x.state) walked.rest ∙ ap (λ (x : PlainDials). x.state) walked.step.1 in
+          let after : d.state ≡ after_dial_step (Remaps old_len new_len) first.state = ap (λ (x : PlainDials). x.state) walked.rest ∙ ap (λ (x : PlainDials). x.state) walked.step.1 in
           record {
             windows = n.windows;
             count = omega (arith, n.count, ap (λ (x : DialState). x.mapped) after, mapped);

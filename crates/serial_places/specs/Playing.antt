@@ -9,7 +9,7 @@ use Rattle.address_space.specs.Spaces.{space_answer, space_asked, space_place, s
 use Rattle.thread_cache.specs.Caches.{CacheValue, has_room}
 use Rattle.fast_bins.specs.FastPorts as fasts
 use Rattle.fast_bins.specs.PlainBins as bins
-use Rattle.fast_bins.specs.PlainBins.{FastState, PlainBins, state_of, bin_at, front_of, own_front, plain_fast}
+use Rattle.fast_bins.specs.PlainBins.{FastState, PlainBins, state_of, fast_bin_at, first_in, own_front, plain_fast}
 use Rattle.mapped_chunks.specs.DialPorts as dials
 use Rattle.mapped_chunks.specs.PlainDials as words
 use Rattle.mapped_chunks.specs.PlainDials.{plain_dials}
@@ -47,8 +47,8 @@ word_of MappedCount d = d.mapped
 -- what the world answers
 abbrev pub world_answer : {K : Type 0} → Port K → Need → HoldWorld K → Said
 world_answer port Flagged w = told.Flag w.bins.flag
-world_answer port (Pops bin) w = told.Popped (front_of (bin_at w.bins bin))
-world_answer port (Owns bin) w = told.Own (own_front (bin_at w.bins bin))
+world_answer port (Pops bin) w = told.Popped (first_in (fast_bin_at w.bins bin))
+world_answer port (Owns bin) w = told.Own (own_front (fast_bin_at w.bins bin))
 world_answer port (Rooms size) w = told.Room (has_room w.cache size)
 world_answer port (Asks ask) w = told.Asked ask (space_answer port w.space (passes_window w.space.windows ask) ask)
 world_answer port (Maps len) w = told.Asked (map_ask w.space len) (place_answer (space_place port w.space len))
@@ -57,8 +57,8 @@ world_answer port (Reads which) w = told.Dial (word_of which w.dials)
 -- the world when it has answered
 abbrev pub world_told : {K : Type 0} → Port K → Need → HoldWorld K → HoldWorld K
 world_told port Flagged w = w
-world_told port (Pops bin) w = record w { bins = bins.after_step (fasts.Pops bin (front_of (bin_at w.bins bin))) w.bins }
-world_told port (Owns bin) w = record w { bins = bins.after_step (fasts.Owns bin (own_front (bin_at w.bins bin))) w.bins }
+world_told port (Pops bin) w = record w { bins = bins.after_fast_step (fasts.Pops bin (first_in (fast_bin_at w.bins bin))) w.bins }
+world_told port (Owns bin) w = record w { bins = bins.after_fast_step (fasts.Owns bin (own_front (fast_bin_at w.bins bin))) w.bins }
 world_told port (Rooms size) w = w
 world_told port (Asks ask) w = record w { space = space_asked port w.space (passes_window w.space.windows ask) ask }
 world_told port (Maps len) w = record w { space = space_mapped port w.space len }
@@ -66,13 +66,13 @@ world_told port (Reads which) w = w
 
 -- the world after a deed in a hold of the arena with a number
 abbrev pub world_done : {K : Type 0} → Port K → ℕ → Deed → HoldWorld K → HoldWorld K
-world_done port number Clears w = record w { bins = bins.after_step fasts.Clears w.bins }
-world_done port number (Gathers bin) w = record w { bins = bins.after_step (fasts.Gathers bin) w.bins }
-world_done port number (Pushes bin at) w = record w { bins = bins.after_step (fasts.Pushes bin at) w.bins }
+world_done port number Clears w = record w { bins = bins.after_fast_step fasts.Clears w.bins }
+world_done port number (Gathers bin) w = record w { bins = bins.after_fast_step (fasts.Gathers bin) w.bins }
+world_done port number (Pushes bin at) w = record w { bins = bins.after_fast_step (fasts.Pushes bin at) w.bins }
 world_done port number (Stashes c) w = record w { cache = cache_after_deed number (Stashes c) w.cache }
 world_done port number (Draws size) w = record w { cache = cache_after_deed number (Draws size) w.cache }
 world_done port number (Gives back) w = record w { space = record w.space { kernel = port.given w.space.kernel back } }
-world_done port number (Counts len) w = record w { dials = words.after_step (dials.Maps len) w.dials }
+world_done port number (Counts len) w = record w { dials = words.after_dial_step (dials.Maps len) w.dials }
 
 -- how a hold ended: its result, what it was told, and the world
 pub record PlayedHold (K A : Type 0) : Type 0 where

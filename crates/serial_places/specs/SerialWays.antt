@@ -408,12 +408,12 @@ opening_played port t who n bytes w = option_map (λ p. (is_some p.result, openi
 -- the words after some steps
 abbrev pub after_steps : List dials.DialStep → DialState → DialState
 after_steps [] d = d
-after_steps (s ∷ ss) d = after_steps ss (words.after_step s d)
+after_steps (s ∷ ss) d = after_steps ss (words.after_dial_step s d)
 
 -- the words when a mapping was granted, or refused
 abbrev pub map_words : ℕ → Option ℕ → DialState → DialState
 map_words len None d = d
-map_words len (Some start) d = words.after_step (dials.Maps len) d
+map_words len (Some start) d = words.after_dial_step (dials.Maps len) d
 
 -- the world when a mapping was asked for
 abbrev pub world_mapped : {K : Type 0} → Port K → ℕ → SerialWorld K → SerialWorld K
@@ -437,7 +437,7 @@ remap_start port b len w = space_remap_place port w.space (mapping_change b len)
 -- the words when another length was granted, or refused
 abbrev pub remap_words : Block → ℕ → Option ℕ → DialState → DialState
 remap_words b len None d = d
-remap_words b len (Some start) d = words.after_step (dials.Remaps (mapping_bytes b) len) d
+remap_words b len (Some start) d = words.after_dial_step (dials.Remaps (mapping_bytes b) len) d
 
 -- the world then
 abbrev pub world_remapped : {K : Type 0} → Port K → Block → ℕ → SerialWorld K → SerialWorld K
@@ -448,7 +448,7 @@ world_remapped port b len w = record w {
 
 -- the world when a block was pushed into a fast bin of its arena, where that is there
 abbrev pub slot_pushed : Block → WorldSlot → WorldSlot
-slot_pushed b s = record s { bins = bins.after_step (fasts.Pushes (fast_index_of b.size) b.addr) s.bins }
+slot_pushed b s = record s { bins = bins.after_fast_step (fasts.Pushes (fast_index_of b.size) b.addr) s.bins }
 
 abbrev pub world_pushed : {K : Type 0} → Block → SerialWorld K → Option (SerialWorld K)
 world_pushed b w =

@@ -1,31 +1,31 @@
 //! Worked examples: how texts are read, stated on the definitions alone. Nothing runs; the check computes them.
-#![tactic(auto, unfolding(trace_text::specs::Before::is_held, trace_text::specs::Before::has_ended, trace_text::specs::Before::was_posted, trace_text::specs::Before::was_taken, trace_text::specs::Grammar::thread_of, trace_text::specs::Grammar::command_of, trace_text::specs::Grammar::number_at, trace_text::specs::Grammar::name_at, trace_text::specs::Grammar::tray_at, trace_text::specs::Grammar::one_number, trace_text::specs::Grammar::two_numbers, trace_text::specs::Grammar::three_numbers, trace_text::specs::Grammar::call_of, trace_text::specs::Grammar::fitting, trace_text::specs::Grammar::filled_line, trace_text::specs::Grammar::line_of, trace_text::specs::Grammar::lines_after, trace_text::specs::Grammar::version_of, trace_text::specs::Grammar::reading_of, trace_text::specs::Numbers::number_of))]
+#![tactic(auto, unfolding(trace_text::specs::Before::is_held, trace_text::specs::Before::has_ended, trace_text::specs::Before::was_posted, trace_text::specs::Before::was_taken, trace_text::specs::Grammar::thread_of, trace_text::specs::Grammar::command_of, trace_text::specs::Grammar::number_at, trace_text::specs::Grammar::name_at, trace_text::specs::Grammar::tray_read, trace_text::specs::Grammar::one_number, trace_text::specs::Grammar::two_numbers, trace_text::specs::Grammar::three_numbers, trace_text::specs::Grammar::call_read, trace_text::specs::Grammar::fitting, trace_text::specs::Grammar::filled_line, trace_text::specs::Grammar::line_of, trace_text::specs::Grammar::lines_after, trace_text::specs::Grammar::version_of, trace_text::specs::Grammar::reading_of, trace_text::specs::Numbers::numeral_value))]
 
 ghost use Rattle.std.specs.Prelude.{◌≡◌, ◌∷◌, [], ◌-◌, ◌^◌, codes, Some, None, IsOk};
 ghost use Rattle.trace_text.specs.Grammar.{whole, faulty, reading_of};
-ghost use Rattle.trace_text.specs.Numbers.{number_of};
+ghost use Rattle.trace_text.specs.Numbers.{numeral_value};
 
 use trace_text::{BadWhy, Call};
 
 /// Fields that are numbers.
 fn numbers_are_decimal()
-    ensures zero { number_of (codes "0") ≡ Some 0 }
-    ensures request { number_of (codes "1032") ≡ Some 1032 }
-    ensures largest { number_of (codes "18446744073709551615") ≡ Some (2 ^ 64 - 1) }
+    ensures zero { numeral_value (codes "0") ≡ Some 0 }
+    ensures request { numeral_value (codes "1032") ≡ Some 1032 }
+    ensures largest { numeral_value (codes "18446744073709551615") ≡ Some (2 ^ 64 - 1) }
 {}
 
 /// Fields that are no numbers.
 fn other_fields_are_no_numbers()
-    ensures too_large { number_of (codes "18446744073709551616") ≡ None }
-    ensures too_long { number_of (codes "184467440737095516150") ≡ None }
-    ensures leading_zero { number_of (codes "01") ≡ None }
-    ensures two_zeros { number_of (codes "00") ≡ None }
-    ensures empty { number_of [] ≡ None }
-    ensures sign { number_of (codes "+1") ≡ None }
-    ensures minus { number_of (codes "-1") ≡ None }
-    ensures letter { number_of (codes "1a") ≡ None }
-    ensures hexadecimal { number_of (codes "0x8") ≡ None }
-    ensures blank { number_of (codes "1 ") ≡ None }
+    ensures too_large { numeral_value (codes "18446744073709551616") ≡ None }
+    ensures too_long { numeral_value (codes "184467440737095516150") ≡ None }
+    ensures leading_zero { numeral_value (codes "01") ≡ None }
+    ensures two_zeros { numeral_value (codes "00") ≡ None }
+    ensures empty { numeral_value [] ≡ None }
+    ensures sign { numeral_value (codes "+1") ≡ None }
+    ensures minus { numeral_value (codes "-1") ≡ None }
+    ensures letter { numeral_value (codes "1a") ≡ None }
+    ensures hexadecimal { numeral_value (codes "0x8") ≡ None }
+    ensures blank { numeral_value (codes "1 ") ≡ None }
 {}
 
 /// The first line has a newline, and is the header.

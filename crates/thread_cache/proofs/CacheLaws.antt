@@ -8,12 +8,12 @@ use Rattle.chunk_tags.specs.Sizes.{IsChunkSize, cache_index_of}
 use Rattle.chunk_tags.specs.declared.block.Block.{Block}
 use Rattle.list_laws.proofs.Replaced.{at_each-set, get_or-empty}
 use Rattle.list_laws.proofs.Sums.{sum_by-flat-less, sum_by-flat-more}
-use Rattle.thread_cache.specs.Caches.{CacheValue, Opened, opened, empty_lists, has_room, takes, newest, without_newest, with_newest, blocks_of, next_drained, without_next}
-use Rattle.thread_cache.specs.Held.{IsCachedAt, IsListAt, IsSound}
+use Rattle.thread_cache.specs.Caches.{CacheValue, Opened, opened_cache, empty_cache_lists, has_room, takes, newest, without_newest, with_newest, blocks_of, next_drained, without_next}
+use Rattle.thread_cache.specs.Held.{IsCachedAt, IsListAt, IsSoundCache}
 use Rattle.thread_cache.proofs.Draining.{IsFound, first_found}
 
 -- another list at an index, as it may stand there
-pub sound_with : (c : Opened) (i : ℕ) (blocks : List Block) → IsSound c → i < 64 → IsListAt c.count i blocks → (c.bins ≤ i → blocks ≡ []) → IsSound (record c { lists = set c.lists i blocks })
+pub sound_with : (c : Opened) (i : ℕ) (blocks : List Block) → IsSoundCache c → i < 64 → IsListAt c.count i blocks → (c.bins ≤ i → blocks ≡ []) → IsSoundCache (record c { lists = set c.lists i blocks })
 sound_with c i blocks sound lt at unused =
     let below : i < length c.lists = omega (arith, lt, sound.width) in
     record {
@@ -26,8 +26,8 @@ sound_with c i blocks sound lt at unused =
 
 -- ---- opening
 
-pub sound_opened : (structure : Block) (count bins : ℕ) → count ≤ 127 → bins ≤ 64 → IfSome (opened structure count bins) IsSound
-unfolding empty_lists
+pub sound_opened : (structure : Block) (count bins : ℕ) → count ≤ 127 → bins ≤ 64 → IfSome (opened_cache structure count bins) IsSoundCache
+unfolding empty_cache_lists
 sound_opened structure count bins c b = record {
   count = c;
   bins = b;
@@ -36,8 +36,8 @@ sound_opened structure count bins c b = record {
   unused = λ i past. get_or-empty 64 i;
 }
 
-pub none_opened : (structure : Block) (count bins : ℕ) → blocks_of (opened structure count bins) ≡ []
-unfolding empty_lists
+pub none_opened : (structure : Block) (count bins : ℕ) → blocks_of (opened_cache structure count bins) ≡ []
+unfolding empty_cache_lists
 none_opened structure count bins = refl
 
 -- ---- getting
@@ -54,12 +54,12 @@ list_at-newest count i (b ∷ blocks) at = at.cached.0
 
 -- a cache that gave a block of the list at an index
 pub record Gave (c : CacheValue) (i : ℕ) (b : Block) (now : CacheValue) : Type 0 where
-  pub sound : IfSome now IsSound
+  pub sound : IfSome now IsSoundCache
   pub cached : IsCachedAt i b
   -- the other blocks are those that were there, each as often
   pub same : (g : Block → ℕ) → g b + sum_by g (blocks_of now) ≡ sum_by g (blocks_of c)
 
-pub got : (c : CacheValue) (i : ℕ) (b : Block) → IfSome c IsSound → i < 64 → newest c i ≡ Some b → Gave c i b (without_newest c i)
+pub got : (c : CacheValue) (i : ℕ) (b : Block) → IfSome c IsSoundCache → i < 64 → newest c i ≡ Some b → Gave c i b (without_newest c i)
 got None i b sound lt found = absurd cc
 got (Some c) i b sound lt found = record {
   sound = sound_with c i (drop 1 (get_or c.lists i [])) sound lt (list_at-rest c.count i (get_or c.lists i []) (sound.lists i)) (λ past. ap (λ (l : List Block). drop 1 l) (sound.unused i past));
@@ -78,7 +78,7 @@ pub room_at : (c : Opened) (s : ℕ) → IsTrue (has_room (Some c) s) → HasRoo
 room_at c s room = record { used = grind (arith, nat_tests); short = grind (arith, nat_tests) }
 
 -- a list with one more block in front
-pub list_at-more : (c : Opened) (b : Block) → IsSound c → HasRoomAt c b.size → IsChunkSize b.size → IsSome b.arena → IsListAt c.count (cache_index_of b.size) (b ∷ get_or c.lists (cache_index_of b.size) [])
+pub list_at-more : (c : Opened) (b : Block) → IsSoundCache c → HasRoomAt c b.size → IsChunkSize b.size → IsSome b.arena → IsListAt c.count (cache_index_of b.size) (b ∷ get_or c.lists (cache_index_of b.size) [])
 list_at-more c b sound room chunk arena = record {
   short = omega (arith, room.short);
   cached = (record { chunk = chunk; index = refl; arena = arena }, (sound.lists (cache_index_of b.size)).cached);
@@ -86,11 +86,11 @@ list_at-more c b sound room chunk arena = record {
 
 -- a cache that took a block
 pub record Took (c : CacheValue) (b : Block) (now : CacheValue) : Type 0 where
-  pub sound : IfSome now IsSound
+  pub sound : IfSome now IsSoundCache
   -- the blocks are that one and those that were there, each as often
   pub same : (g : Block → ℕ) → sum_by g (blocks_of now) ≡ g b + sum_by g (blocks_of c)
 
-put_in : (c : Opened) (b : Block) → IsSound c → HasRoomAt c b.size → IsChunkSize b.size → IsSome b.arena → Took (Some c) b (with_newest (Some c) b)
+put_in : (c : Opened) (b : Block) → IsSoundCache c → HasRoomAt c b.size → IsChunkSize b.size → IsSome b.arena → Took (Some c) b (with_newest (Some c) b)
 put_in c b sound room chunk arena =
     let i : ℕ = cache_index_of b.size in
     let lt : i < 64 = omega (arith, room.used, sound.bins) in
@@ -99,7 +99,7 @@ put_in c b sound room chunk arena =
       same = λ g. sum_by-flat-more g c.lists i b (omega (arith, lt, sound.width));
     }
 
-pub put : (c : CacheValue) (b : Block) → IfSome c IsSound → IsChunkSize b.size → IsTrue (takes c b) → Took c b (with_newest c b)
+pub put : (c : CacheValue) (b : Block) → IfSome c IsSoundCache → IsChunkSize b.size → IsTrue (takes c b) → Took c b (with_newest c b)
 put None b sound chunk taken = absurd cc
 put (Some c) b sound chunk taken =
     let cases : (room arena : Bool) → has_room (Some c) b.size ≡ room → is_some b.arena ≡ arena → IsTrue (room && arena) → Took (Some c) b (with_newest (Some c) b) = elim [
@@ -113,7 +113,7 @@ put (Some c) b sound chunk taken =
 
 -- ---- draining
 
-pub drained : (c : CacheValue) (b : Block) → IfSome c IsSound → next_drained c ≡ Some b → Gave c (cache_index_of b.size) b (without_next c)
+pub drained : (c : CacheValue) (b : Block) → IfSome c IsSoundCache → next_drained c ≡ Some b → Gave c (cache_index_of b.size) b (without_next c)
 drained None b sound found = absurd cc
 drained (Some c) b sound found =
     let first : IsFound c.lists b = first_found c.lists b found in

@@ -6,8 +6,8 @@ use Rattle.std.proofs.lemmas.List.{map-set, get_or-map, length-map}
 use Rattle.std.proofs.lemmas.List.Elements.{All-set}
 use Rattle.chunk_tags.specs.Sizes.{IsChunkSize, cache_index_of}
 use Rattle.chunk_tags.specs.declared.block.Block.{Block}
-use Rattle.thread_cache.specs.Caches.{has_room, empty_lists}
-use Rattle.thread_cache.specs.Held.{IsListAt, IsSound}
+use Rattle.thread_cache.specs.Caches.{has_room, empty_cache_lists}
+use Rattle.thread_cache.specs.Held.{IsListAt, IsSoundCache}
 use Rattle.thread_cache.specs.Stacks.{Stacked, seen, IsKept}
 use Rattle.thread_cache.proofs.CacheLaws.{HasRoomAt, room_at, sound_with, sound_opened, list_at-rest, list_at-more}
 
@@ -36,7 +36,7 @@ seen_with structure count bins ss i s t r f e =
 -- a list with room is put in the place of another
 pub kept_with : (structure : Block) (count bins : ℕ) (ss : List Stacked) (i : ℕ) (s t : Stacked) → Reads structure count bins ss i s → IsListAt count i t.blocks → (bins ≤ i → t.blocks ≡ []) → s.room ≤ t.room → IsKept structure count bins (set ss i t)
 kept_with structure count bins ss i s t r at unused room = record {
-  sound = subst (λ ls. IsSound (record { structure = structure; count = count; bins = bins; lists = ls })) (sym (map-set (λ x. x.blocks) ss i t)) (sound_with (seen structure count bins ss) i t.blocks r.kept.sound r.below at unused);
+  sound = subst (λ ls. IsSoundCache (record { structure = structure; count = count; bins = bins; lists = ls })) (sym (map-set (λ x. x.blocks) ss i t)) (sound_with (seen structure count bins ss) i t.blocks r.kept.sound r.below at unused);
   room = All-set (λ x. count ≤ x.room) ss i t (omega (arith, room, room_of structure count bins ss i s r)) r.kept.room;
 }
 
@@ -54,8 +54,8 @@ kept_more structure count bins ss b s t r room chunk arena e more =
     (λ past. let no : ⊥ = omega (arith, past, has.used) in absurd no) more
 
 -- a cache as it is opened
-pub kept_empty : (structure : Block) (count bins : ℕ) (ss : List Stacked) → count ≤ 127 → bins ≤ 64 → map (λ x. x.blocks) ss ≡ empty_lists → All (λ x. count ≤ x.room) ss → IsKept structure count bins ss
+pub kept_empty : (structure : Block) (count bins : ℕ) (ss : List Stacked) → count ≤ 127 → bins ≤ 64 → map (λ x. x.blocks) ss ≡ empty_cache_lists → All (λ x. count ≤ x.room) ss → IsKept structure count bins ss
 kept_empty structure count bins ss c b e room = record {
-  sound = subst (λ ls. IsSound (record { structure = structure; count = count; bins = bins; lists = ls })) (sym e) (sound_opened structure count bins c b);
+  sound = subst (λ ls. IsSoundCache (record { structure = structure; count = count; bins = bins; lists = ls })) (sym e) (sound_opened structure count bins c b);
   room = room;
 }

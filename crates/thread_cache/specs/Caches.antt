@@ -19,12 +19,12 @@ abbrev pub CacheValue : Type 0
 CacheValue = Option Opened
 
 -- the lists of a cache that was just opened: 64 (TCACHE_MAX_BINS)
-unfoldable pub empty_lists : List (List Block)
-empty_lists = replicate 64 []
+unfoldable pub empty_cache_lists : List (List Block)
+empty_cache_lists = replicate 64 []
 
 -- a cache as it is opened
-abbrev pub opened : Block → ℕ → ℕ → CacheValue
-opened structure count bins = Some (record { structure = structure; count = count; bins = bins; lists = empty_lists })
+abbrev pub opened_cache : Block → ℕ → ℕ → CacheValue
+opened_cache structure count bins = Some (record { structure = structure; count = count; bins = bins; lists = empty_cache_lists })
 
 abbrev pub is_open : CacheValue → Bool
 is_open None = false
@@ -97,9 +97,9 @@ addresses_of None = []
 addresses_of (Some c) = map (λ blocks. map (λ b. b.addr) blocks) c.lists
 
 -- a cached block as a tile: its chunk is used, also while it is cached
-abbrev pub tile_of : Block → Tile
-tile_of b = record { addr = b.addr; size = b.size; kind = Used }
+abbrev pub block_tile : Block → Tile
+block_tile b = record { addr = b.addr; size = b.size; kind = Used }
 
 -- all blocks as tiles, in the order of blocks_of
-abbrev pub tiles_of : CacheValue → List Tile
-tiles_of c = map tile_of (blocks_of c)
+abbrev pub cached_tiles : CacheValue → List Tile
+cached_tiles c = map block_tile (blocks_of c)

@@ -18,7 +18,7 @@ pub record IsListAt (count i : ℕ) (blocks : List Block) : Type 0 where
   pub cached : AllByRecursion (IsCachedAt i) blocks
 
 -- 64 lists, each at its index; those that aren't used are empty
-pub record IsSound (c : Opened) : Type 0 where
+pub record IsSoundCache (c : Opened) : Type 0 where
   pub count : c.count ≤ 127
   pub bins : c.bins ≤ 64
   pub width : length c.lists ≡ 64

@@ -4,7 +4,7 @@ use Rattle.std.specs.Prelude.{ℕ, ◌≤◌, List, map}
 use Rattle.std.specs.List.{All}
 use Rattle.chunk_tags.specs.declared.block.Block.{Block}
 use Rattle.thread_cache.specs.Caches.{Opened}
-use Rattle.thread_cache.specs.Held.{IsSound}
+use Rattle.thread_cache.specs.Held.{IsSoundCache}
 
 -- the blocks, newest first, and how many may be there before memory is asked for
 pub record Stacked : Type 0 where
@@ -17,5 +17,5 @@ seen structure count bins stacks = record { structure = structure; count = count
 
 -- each list has room for as many blocks as it may have
 pub record IsKept (structure : Block) (count bins : ℕ) (stacks : List Stacked) : Type 0 where
-  pub sound : IsSound (seen structure count bins stacks)
+  pub sound : IsSoundCache (seen structure count bins stacks)
   pub room : All (λ s. count ≤ s.room) stacks

@@ -2,8 +2,8 @@
 
 ghost use Rattle.std.specs.Prelude.{◌≡◌, ◌<◌, ◌≤◌, ◌&&◌, false, [], ◌++◌, map, None, is_some, is_ok, option_to_list, option_copied, OnOk, OnErr, IfOk, IfErr, IfSome, IfNone};
 ghost use Rattle.chunk_tags.specs.Sizes.{IsChunkSize, cache_index_of};
-ghost use Rattle.thread_cache.specs.Caches.{opened, is_open, has_room, takes, newest, without_newest, with_newest, blocks_of, next_drained, without_next, structure_of, addresses_of, tiles_of};
-ghost use Rattle.thread_cache.specs.Held.{IsCachedAt, IsSound};
+ghost use Rattle.thread_cache.specs.Caches.{opened_cache, is_open, has_room, takes, newest, without_newest, with_newest, blocks_of, next_drained, without_next, structure_of, addresses_of, cached_tiles};
+ghost use Rattle.thread_cache.specs.Held.{IsCachedAt, IsSoundCache};
 
 use crate::open::OpenCache;
 use chunk_tags::{Addr, Block, NoMemory, Size, Tile};
@@ -55,10 +55,10 @@ impl Cache {
         requires closed { is_open self.old ≡ false }
         requires count { count ≤ 127 }
         requires bins { bins ≤ 64 }
-        ensures ok { OnOk result (self.new ≡ opened structure count bins) }
+        ensures ok { OnOk result (self.new ≡ opened_cache structure count bins) }
         ensures err { IfErr result (λ short. short.structure ≡ structure) }
         ensures unchanged { OnErr result (self.new ≡ self.old) }
-        ensures sound { IfSome self.new IsSound }
+        ensures sound { IfSome self.new IsSoundCache }
     {
         match OpenCache::new(alloc, structure, count, bins) {
             Ok(open) => {
@@ -71,7 +71,7 @@ impl Cache {
 
     /// A law; the call does nothing. An open cache is sound.
     pub fn laws(&self)
-        ensures { IfSome self.now IsSound }
+        ensures { IfSome self.now IsSoundCache }
     {
         if let Some(open) = &self.open {
             open.laws();
@@ -89,7 +89,7 @@ impl Cache {
     /// list is shorter than the count.
     pub fn has_room(&self, s: Size) -> bool
         ensures room { result ≡ has_room self.now s }
-        ensures sound { IfSome self.now IsSound }
+        ensures sound { IfSome self.now IsSoundCache }
     {
         match &self.open {
             None => false,
@@ -105,7 +105,7 @@ impl Cache {
         ensures rest { self.new ≡ without_newest self.old bin }
         ensures cached { IfSome result (IsCachedAt bin) }
         ensures unchanged { IfNone result (self.new ≡ self.old) }
-        ensures sound { IfSome self.new IsSound }
+        ensures sound { IfSome self.new IsSoundCache }
     {
         match &mut self.open {
             None => None,
@@ -121,7 +121,7 @@ impl Cache {
         ensures ok { OnOk result (self.new ≡ with_newest self.old b) }
         ensures err { IfErr result (λ back. back ≡ b) }
         ensures unchanged { OnErr result (self.new ≡ self.old) }
-        ensures sound { OnOk result (IfSome self.new IsSound) }
+        ensures sound { OnOk result (IfSome self.new IsSoundCache) }
     {
         match &mut self.open {
             Some(open) if b.arena.is_some() && open.has_room(b.size) => {
@@ -143,7 +143,7 @@ impl Cache {
         ensures empty { IfNone result (blocks_of self.old ≡ []) }
         ensures cached { IfSome result (λ b. IsCachedAt (cache_index_of b.size) b) }
         ensures unchanged { IfNone result (self.new ≡ self.old) }
-        ensures sound { IfSome self.new IsSound }
+        ensures sound { IfSome self.new IsSoundCache }
     {
         match &mut self.open {
             None => None,
@@ -176,7 +176,7 @@ impl Cache {
     pub fn lists(&self, alloc: Global) -> Result<Vec<Vec<Addr>>, NoMemory>
         ensures addresses { IfOk result (λ v.
             map (λ list. list.items) v.items ≡ addresses_of self.now) }
-        ensures sound { IfSome self.now IsSound }
+        ensures sound { IfSome self.now IsSoundCache }
     {
         match &self.open {
             None => Ok(Vec::new(alloc)),
@@ -186,7 +186,7 @@ impl Cache {
 
     /// The blocks as tiles: lists ascending, newest first. A closed cache has none.
     pub fn tiles(&self, alloc: Global) -> Result<Vec<Tile>, NoMemory>
-        ensures { IfOk result (λ v. v.items ≡ tiles_of self.now) }
+        ensures { IfOk result (λ v. v.items ≡ cached_tiles self.now) }
     {
         match &self.open {
             None => Ok(Vec::new(alloc)),

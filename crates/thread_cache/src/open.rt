@@ -3,8 +3,8 @@
 ghost use Rattle.std.specs.Prelude.{◌≡◌, ◌<◌, ◌≤◌, [], ◌++◌, map, Some, option_to_list, IsSome, IsTrue, IfOk, IfErr, IfSome, IfNone};
 ghost use Rattle.std.specs.List.{All};
 ghost use Rattle.chunk_tags.specs.Sizes.{IsChunkSize, cache_index_of};
-ghost use Rattle.thread_cache.specs.Caches.{opened, has_room, newest, without_newest, with_newest, empty_lists, blocks_of, next_drained, without_next, addresses_of, tiles_of};
-ghost use Rattle.thread_cache.specs.Held.{IsCachedAt, IsSound};
+ghost use Rattle.thread_cache.specs.Caches.{opened_cache, has_room, newest, without_newest, with_newest, empty_cache_lists, blocks_of, next_drained, without_next, addresses_of, cached_tiles};
+ghost use Rattle.thread_cache.specs.Held.{IsCachedAt, IsSoundCache};
 ghost use Rattle.thread_cache.specs.Stacks.{Stacked};
 
 use crate::stack::Stack;
@@ -36,9 +36,9 @@ impl Model for OpenCache {
 }
 
 /// As many empty lists as a cache has, each with room for `count` blocks.
-#[tactic(auto, unfolding(crate::specs::Caches::empty_lists))]
+#[tactic(auto, unfolding(crate::specs::Caches::empty_cache_lists))]
 fn reserved_lists(alloc: Global, count: u16) -> Result<Vec<Stack>, AllocError>
-    ensures empty { IfOk result (λ v. map (λ s. s.blocks) v.items ≡ empty_lists) }
+    ensures empty { IfOk result (λ v. map (λ s. s.blocks) v.items ≡ empty_cache_lists) }
     ensures room { IfOk result (λ v. All (λ s. count ≤ s.room) v.items) }
 {
     let mut lists = Vec::with_capacity(alloc, LISTS)?;
@@ -53,8 +53,8 @@ impl OpenCache {
     pub fn new(alloc: Global, structure: Block, count: u16, bins: u8) -> Result<OpenCache, Block>
         requires count { count ≤ 127 }
         requires bins { bins ≤ 64 }
-        ensures ok { IfOk result (λ c. Some c ≡ opened structure count bins) }
-        ensures sound { IfOk result IsSound }
+        ensures ok { IfOk result (λ c. Some c ≡ opened_cache structure count bins) }
+        ensures sound { IfOk result IsSoundCache }
         ensures err { IfErr result (λ back. back ≡ structure) }
     {
         match reserved_lists(alloc, count) {
@@ -77,7 +77,7 @@ impl OpenCache {
 
     /// A law; the call does nothing. The lists are sound.
     pub fn laws(&self)
-        ensures { IsSound self.now }
+        ensures { IsSoundCache self.now }
     {
         let _ = &self.lists;
     }
@@ -85,7 +85,7 @@ impl OpenCache {
     /// Whether one more chunk of this size is taken.
     pub fn has_room(&self, s: Size) -> bool
         ensures room { result ≡ has_room (Some self.now) s }
-        ensures sound { IsSound self.now }
+        ensures sound { IsSoundCache self.now }
     {
         let used = self.bins;
         if s > MAX_CACHED {
@@ -101,7 +101,7 @@ impl OpenCache {
         ensures newest { result ≡ newest (Some self.old) bin }
         ensures rest { Some self.new ≡ without_newest (Some self.old) bin }
         ensures cached { IfSome result (IsCachedAt bin) }
-        ensures sound { IsSound self.new }
+        ensures sound { IsSoundCache self.new }
     {
         let list = &mut self.lists[usize::from(bin)];
         list.pop()
@@ -113,7 +113,7 @@ impl OpenCache {
         requires chunk { IsChunkSize b.size }
         requires arena { IsSome b.arena }
         ensures put { Some self.new ≡ with_newest (Some self.old) b }
-        ensures sound { IsSound self.new }
+        ensures sound { IsSoundCache self.new }
     {
         let list = &mut self.lists[usize::from(cache_index(b.size))];
         list.push(b);
@@ -127,7 +127,7 @@ impl OpenCache {
         ensures order { blocks_of (Some self.old)
             ≡ option_to_list result ++ blocks_of (Some self.new) }
         ensures cached { IfSome result (λ b. IsCachedAt (cache_index_of b.size) b) }
-        ensures sound { IsSound self.new }
+        ensures sound { IsSoundCache self.new }
         ensures unchanged { IfNone result (self.new ≡ self.old) }
     {
         for bin in 0..self.lists.len() as u8 {
@@ -149,7 +149,7 @@ impl OpenCache {
     pub fn addresses(&self, alloc: Global) -> Result<Vec<Vec<Addr>>, NoMemory>
         ensures addresses { IfOk result (λ v.
             map (λ l. l.items) v.items ≡ addresses_of (Some self.now)) }
-        ensures sound { IsSound self.now }
+        ensures sound { IsSoundCache self.now }
     {
         let mut lists = Vec::with_capacity(alloc, self.lists.len())?;
         for list in &self.lists {
@@ -160,7 +160,7 @@ impl OpenCache {
 
     /// The blocks as tiles: lists ascending, newest first.
     pub fn tiles(&self, alloc: Global) -> Result<Vec<Tile>, NoMemory>
-        ensures { IfOk result (λ v. v.items ≡ tiles_of (Some self.now)) }
+        ensures { IfOk result (λ v. v.items ≡ cached_tiles (Some self.now)) }
     {
         let mut tiles = Vec::new(alloc);
         for list in &self.lists {

@@ -1,7 +1,7 @@
 //! A list of blocks whose room is reserved when it is made.
 
 ghost use Rattle.std.specs.Prelude.{◌≡◌, ℕ, ◌<◌, ◌≤◌, [], ◌∷◌, drop, length, map, IfOk, slice_get};
-ghost use Rattle.thread_cache.specs.Caches.{tile_of};
+ghost use Rattle.thread_cache.specs.Caches.{block_tile};
 
 use chunk_tags::{Addr, Block, Tile, TileKind};
 use std::alloc::{AllocError, Global};
@@ -24,7 +24,7 @@ impl Model for Stack {
 
 /// A block as a tile: cached chunks are used ones.
 fn tile(block: &Block) -> Tile
-    ensures { result ≡ tile_of block.now }
+    ensures { result ≡ block_tile block.now }
 {
     Tile {
         addr: block.addr,
@@ -82,7 +82,7 @@ impl Stack {
 
     /// The blocks as tiles, newest first.
     pub fn tiles(&self, alloc: Global) -> Result<Vec<Tile>, AllocError>
-        ensures { IfOk result (λ v. v.items ≡ map tile_of self.now.blocks) }
+        ensures { IfOk result (λ v. v.items ≡ map block_tile self.now.blocks) }
     {
         let mut tiles = Vec::with_capacity(alloc, self.oldest_first.len())?;
         for block in &self.oldest_first {

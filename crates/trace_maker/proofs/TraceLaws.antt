@@ -9,7 +9,7 @@ use Rattle.trace_text.specs.declared.trace.Line.{Line}
 use Rattle.trace_text.specs.Before.{is_held}
 use Rattle.trace_text.specs.Grammar.{fitting, place_after}
 use Rattle.trace_text.specs.Spelling.{IsName, IsCall, Fits, AllFit, Allows}
-use Rattle.trace_maker.specs.Generator.{State, draw, behind_draw, queue_of, sizes_of, malloc_made, unheld_made, receiver_of, post_made, realloc_made, held_made, call_made, line_made, more_lines, opening, lines_made, IsPosted, AllPosted, TakesPosted}
+use Rattle.trace_maker.specs.Generator.{State, draw, behind_draw, queue_of, sizes_of, malloc_made, unheld_made, receiver_of, post_made, realloc_made, held_made, call_made, line_made, more_lines, first_state, lines_made, IsPosted, AllPosted, TakesPosted}
 use Rattle.trace_maker.proofs.TrayLaws.{Follows, Follows-none, Follows-plain, Follows-take, Follows-post}
 
 -- ---- what is drawn is in its range
@@ -144,8 +144,8 @@ more_good (suc count) before s fit posted now =
 
 pub lines_made_allowed : (seed count : ℕ) → Allows 1 (lines_made seed count)
 unfolding lines_made AllFit AllPosted
-lines_made_allowed seed count = ((omega arith, omega arith), (more_good count [] (opening seed) tt tt Follows-none).0)
+lines_made_allowed seed count = ((omega arith, omega arith), (more_good count [] (first_state seed) tt tt Follows-none).0)
 
 pub lines_made_posted : (seed count : ℕ) → TakesPosted (lines_made seed count)
 unfolding lines_made AllFit AllPosted
-lines_made_posted seed count = (more_good count [] (opening seed) tt tt Follows-none).1
+lines_made_posted seed count = (more_good count [] (first_state seed) tt tt Follows-none).1

@@ -88,12 +88,12 @@ more_lines before s (suc count) =
     let made = line_made before s in more_lines (before ++ made.0 ∷ []) made.1 count
 
 -- before the first line: nothing waits, and tray 0 is next
-abbrev pub opening : ℕ → State
-opening seed = record { seed = seed; queues = [] ∷ [] ∷ [] ∷ [] ∷ []; next_tray = 0 }
+abbrev pub first_state : ℕ → State
+first_state seed = record { seed = seed; queues = [] ∷ [] ∷ [] ∷ [] ∷ []; next_tray = 0 }
 
 -- the lines of a seed, so many
 unfoldable pub lines_made : ℕ → ℕ → List Line
-lines_made seed count = more_lines [] (opening seed) count
+lines_made seed count = more_lines [] (first_state seed) count
 
 -- a take stands behind a post of its tray
 abbrev pub IsPosted : List Line → Call → Type 0

@@ -1,7 +1,7 @@
 //! The calls of a trace that is made, and what they are made from.
 
 ghost use Rattle.std.specs.Prelude.{◌≡◌, ◌<◌, ◌-◌, ◌%◌, ◌^◌, IfOk};
-ghost use Rattle.trace_maker.specs.Generator.{next_seed, draw, behind_draw, sizes_of, receiver_of, opening, malloc_made, unheld_made, queue_of, post_made, realloc_made, held_made, call_made};
+ghost use Rattle.trace_maker.specs.Generator.{next_seed, draw, behind_draw, sizes_of, receiver_of, first_state, malloc_made, unheld_made, queue_of, post_made, realloc_made, held_made, call_made};
 
 use crate::queue::{Queue, put_tray, queues, take_tray};
 use chunk_tags::NoMemory;
@@ -57,7 +57,7 @@ fn size_count(kind: u64) -> u64
 impl Maker {
     /// Before the first line.
     pub(crate) fn new(alloc: Global, seed: u64) -> Result<Maker, NoMemory>
-        ensures { IfOk result (λ maker. maker ≡ opening seed) }
+        ensures { IfOk result (λ maker. maker ≡ first_state seed) }
     {
         Ok(Maker {
             seed,

@@ -37,7 +37,7 @@ use Rattle.own_blocks.specs.Calls.{opening, Supplied, plain_supply, fresh_supply
 use Rattle.own_blocks.specs.Own.{newest_of_size}
 use Rattle.malloc_calls.specs.Mallocs.{padded_malloc, malloc_call, padded_calloc, calloc_call, is_memalign, aligned_malloc, padded_memalign, posix_memalign_call}
 use Rattle.own_blocks.specs.Frees.{without_name, free_to, free_of_block, free_of_name, free_call}
-use Rattle.malloc_calls.specs.Reallocs.{Resettled, kept_block, got_block, moved_from_arena, moved_from_mapping, after_resize, resize_in_arena, realloc_in_arena, not_remapped, after_remap, realloc_in_mapping, realloc_in, settled, padded_realloc, realloc_of_block, realloc_of_name, realloc_call}
+use Rattle.malloc_calls.specs.Reallocs.{Resettled, kept_block, got_block, moved_from_arena, moved_from_mapping, after_resize, resize_in_arena, realloc_in_arena, not_remapped, after_remap, realloc_in_mapping, realloc_in, resettled, padded_realloc, realloc_of_block, realloc_of_name, realloc_call}
 use Rattle.own_blocks.specs.Exits.{released_past_cache, released_in_turn, cache_in_turn, exit_call}
 use Rattle.chunk_tags.specs.Sizes.{structure_size}
 use Rattle.trace_replay.specs.Naming.{EmptiesName}
@@ -319,7 +319,7 @@ realloc_stays t thread size nb b None cache = in_mapping_stays t thread size nb 
 realloc_stays t thread size nb b (Some a) cache = in_arena_stays t thread size nb a b cache
 
 settled_leaves : (name size : ℕ) (b : Block) (own : Own) (r : Resettled) → block_at own.names name ≡ Some b → (size ≡ 0 → ⊥) → Stays b r →
-    LeavesName name size own.names (settled name own r)
+    LeavesName name size own.names (resettled name own r)
 settled_leaves name size b own r at positive stays = record {
   none = λ e. let no : None ≡ Some b = sym e ∙ at in absurd cc;
   gone = λ z. absurd (positive z);
@@ -330,7 +330,7 @@ padded_leaves : (t : Tunables) (thread name size : ℕ) (o : Option ℕ) (b : Bl
     AllResults (LeavesName name size own.names) (padded_realloc t thread name size o b own)
 padded_leaves t thread name size None b own at positive = record { none = λ e. e; gone = λ z. absurd (positive z); stays = λ why e. refl }
 padded_leaves t thread name size (Some nb) b own at positive =
-    results_then_by (Stays b) (LeavesName name size own.names) (realloc_in t thread size nb b b.arena own.cache) (λ r. Done (settled name own r))
+    results_then_by (Stays b) (LeavesName name size own.names) (realloc_in t thread size nb b b.arena own.cache) (λ r. Done (resettled name own r))
     (realloc_stays t thread size nb b b.arena own.cache) (λ r stays. settled_leaves name size b own r at positive stays)
 
 freed_leaves : (name size : ℕ) (names : NameTable) (to : To) (cache : CacheValue) →

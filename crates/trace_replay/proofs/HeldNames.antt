@@ -25,14 +25,14 @@ use Rattle.trace_text.specs.declared.trace.Call.TheVariants.{Malloc, Calloc, Rea
 use Rattle.trace_text.specs.declared.trace.Line.{Line}
 use Rattle.trace_text.specs.Before.{held_after, is_post}
 use Rattle.trace_replay.specs.Naming.{FitsThread, LeavesBlocks, MakesName, ResizesName, EmptiesName, PostsName, TakesName}
-use Rattle.trace_replay.specs.Tiling.{Wanted, Wishes, bytes_wanted, aligned_wanted, wanted_anew, wanted_taken, wanted_posted, named_next, posted_next, wished_after, IsEnough, IsFit}
+use Rattle.trace_replay.specs.Tiling.{Wanted, Wishes, bytes_wanted, aligned_wanted, wanted_anew, wanted_taken, wanted_posted, named_next, posted_next, wished_after, IsLargeEnough, IsFit}
 use Rattle.trace_replay.proofs.CallResults.{KeepsOthers, LeavesName, Empties}
 use Rattle.trace_replay.proofs.Keeping.{readied}
 
 -- ---- what is enough
 
 -- each number is a multiple of 1
-pub bytes_enough : (size : ℕ) (b : Block) → need_of b.arena (chunk_size_of size) ≤ b.size → IsEnough (bytes_wanted size) b
+pub bytes_enough : (size : ℕ) (b : Block) → need_of b.arena (chunk_size_of size) ≤ b.size → IsLargeEnough (bytes_wanted size) b
 bytes_enough size b le = record { size = le; place = omega arith }
 
 aligned_place : (align : ℕ) (b : Block) → (16 < align → user_address b.addr % align ≡ 0) → user_address b.addr % cond (nat_le align 16) 1 align ≡ 0

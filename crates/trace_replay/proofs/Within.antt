@@ -15,7 +15,7 @@ use Rattle.arena_rules.specs.declared.said.Said.{Said}
 use Rattle.arena_rules.specs.declared.said.Said.TheVariants as told
 use Rattle.arena_growth.specs.FirstHeap.{asked_ways}
 use Rattle.consolidate_trim.specs.Outside as outside
-use Rattle.consolidate_trim.specs.Outside.{Means, Outside, Goes, ways}
+use Rattle.consolidate_trim.specs.Outside.{Means, Outside, AnswerGoes, ways}
 
 pub record StaysWithin {K : Type 0} (before now : Space K) : Type 0 where
   pub thread : now.thread ≡ before.thread
@@ -106,7 +106,7 @@ within_given {K = K} port before now back h = record {
 same_space : {P K : Type 0} (o p : Outside P K) → p.space ≡ o.space → StaysWithin o.space p.space
 same_space o p same = within_same o.space p.space same
 
-goes_within : {P K : Type 0} (m : Means P K) (o p : Outside P K) (n : Need) (s : Said) → Goes m o n s p → StaysWithin o.space p.space
+goes_within : {P K : Type 0} (m : Means P K) (o p : Outside P K) (n : Need) (s : Said) → AnswerGoes m o n s p → StaysWithin o.space p.space
 goes_within {P = P} {K = K} m o p Flagged (told.Flag b) h = same_space o p (ap (λ (x : Outside P K). x.space) h.others)
 goes_within {P = P} {K = K} m o p (Pops bin) (told.Popped at) h = same_space o p (ap (λ (x : Outside P K). x.space) h.others)
 goes_within {P = P} {K = K} m o p (Owns bin) (told.Own at) h = same_space o p (ap (λ (x : Outside P K). x.space) h.others)
@@ -116,7 +116,7 @@ goes_within m o p (Maps len) (told.Asked asked answer) h = within_mapped m.kerne
 goes_within {P = P} {K = K} m o p (Reads which) (told.Dial n) h = same_space o p (ap (λ (x : Outside P K). x.space) h.others)
 goes_within m o p n s h = absurd h
 
-does_within : {P K : Type 0} (m : Means P K) (number : ℕ) (o p : Outside P K) (d : Deed) → outside.Does m number o d p → StaysWithin o.space p.space
+does_within : {P K : Type 0} (m : Means P K) (number : ℕ) (o p : Outside P K) (d : Deed) → outside.DeedGoes m number o d p → StaysWithin o.space p.space
 does_within {P = P} {K = K} m number o p Clears h = same_space o p (ap (λ (x : Outside P K). x.space) h.others)
 does_within {P = P} {K = K} m number o p (Gathers bin) h = same_space o p (ap (λ (x : Outside P K). x.space) h.others)
 does_within {P = P} {K = K} m number o p (Pushes bin at) h = same_space o p (ap (λ (x : Outside P K). x.space) h.others)

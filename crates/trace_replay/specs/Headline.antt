@@ -70,7 +70,7 @@ TellsInput supply (Ok asked) source bytes = TellsTrace supply asked.generated so
 TellsInput supply (Err exit) source bytes = Unit {0}
 
 -- the source tells so, and each port tells
-pub record Told {S K : Type 0} (supply : Supply S) (port : Port K) (asked : Result Asked Exit) (source : S) (kernels : List K) (bytes : List ℕ) : Type 0 where
+pub record AllTold {S K : Type 0} (supply : Supply S) (port : Port K) (asked : Result Asked Exit) (source : S) (kernels : List K) (bytes : List ℕ) : Type 0 where
   pub input : TellsInput supply asked source bytes
   pub ports : AllTell port kernels
 

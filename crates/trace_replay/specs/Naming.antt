@@ -17,7 +17,7 @@ use Rattle.trace_text.specs.declared.trace.Call.TheVariants.{Malloc, Calloc, Ali
 use Rattle.trace_text.specs.declared.trace.Line.{Line}
 use Rattle.trace_text.specs.Before.{held_after, is_held, is_post, was_posted}
 use Rattle.trace_text.specs.Spelling.{IsCall}
-use Rattle.trace_replay.specs.Tiling.{Wanted, Wishes, IsEnough, IsFit, wished_after}
+use Rattle.trace_replay.specs.Tiling.{Wanted, Wishes, IsLargeEnough, IsFit, wished_after}
 use Rattle.trace_replay.specs.World.{World, ThreadWorld}
 
 -- ---- the blocks of a thread and of the trays
@@ -76,7 +76,7 @@ pub record LeavesLine {K : Type 0} (line : Line) (reply : Reply) (before now : W
 -- was asked for
 pub record MakesName (name : ℕ) (wanted : Wanted) (names now : NameTable) : Type 0 where
   pub others : (n : ℕ) → (n ≡ name → ⊥) → block_at now n ≡ block_at names n
-  pub made : (b : Block) → block_at now name ≡ Some b → IsEnough wanted b
+  pub made : (b : Block) → block_at now name ≡ Some b → IsLargeEnough wanted b
 
 -- What realloc to a size leaves: all other names hold what they held. So does the name where it held nothing, and where no
 -- block was answered; to 0 it then holds nothing; else its block is large enough.

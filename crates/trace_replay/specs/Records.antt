@@ -41,10 +41,10 @@ null_of whys.Align = 1
 null_of whys.Refused = 2
 
 -- the hold that left a block where it was; there is none for a mapping
-abbrev pub hold_of : Origin → Option ℕ
-hold_of origins.Cached = None
-hold_of (origins.Arena a hold) = Some hold
-hold_of origins.Mapped = None
+abbrev pub hold_shown : Origin → Option ℕ
+hold_shown origins.Cached = None
+hold_shown (origins.Arena a hold) = Some hold
+hold_shown origins.Mapped = None
 
 -- whether a call is realloc
 abbrev pub is_realloc : Call → Bool
@@ -58,7 +58,7 @@ got_outcome realloc addr size from = if realloc then outcomes.Moved addr size fr
 -- the answer of a reply to a call; a name that holds nothing was skipped
 abbrev pub outcome_of : Call → Reply → Outcome
 outcome_of call (Got addr size from) = got_outcome (is_realloc call) addr size (source_of from)
-outcome_of call (Kept addr size from) = outcomes.Kept addr size (hold_of from)
+outcome_of call (Kept addr size from) = outcomes.Kept addr size (hold_shown from)
 outcome_of call (Null why) = outcomes.Null (null_of why)
 outcome_of call (Freed to) = outcomes.Freed (sink_of to) (is_realloc call)
 outcome_of call NotYours = outcomes.Skip

@@ -114,13 +114,13 @@ wishes_of replies = fold wished_after no_wishes replies
 
 -- a block is what was asked for: it is large enough, where a mapped one needs 8 bytes more, and its user's address is such a
 -- multiple
-pub record IsEnough (w : Wanted) (b : Block) : Type 0 where
+pub record IsLargeEnough (w : Wanted) (b : Block) : Type 0 where
   pub size : need_of b.arena (chunk_size_of w.size) ≤ b.size
   pub place : user_address b.addr % w.align ≡ 0
 
 abbrev pub IsFit : Option Wanted → Block → Type 0
 IsFit None b = ⊥
-IsFit (Some w) b = IsEnough w b
+IsFit (Some w) b = IsLargeEnough w b
 
 -- each block that has a name is what was last asked for under it; one in a tray is what was asked for before it was posted
 pub record FitsWithin {K : Type 0} (wishes : Wishes) (w : World K) : Type 0 where

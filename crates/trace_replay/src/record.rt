@@ -1,7 +1,7 @@
 //! Replies as a report has them.
 
 ghost use Rattle.std.specs.Prelude.{◌≡◌};
-ghost use Rattle.trace_replay.specs.Records.{source_of, sink_of, null_of, hold_of, is_realloc, got_outcome, outcome_of};
+ghost use Rattle.trace_replay.specs.Records.{source_of, sink_of, null_of, hold_shown, is_realloc, got_outcome, outcome_of};
 
 use chunk_tags::{Addr, Size};
 use malloc_calls::{Origin, Reply, To, Why};
@@ -44,7 +44,7 @@ fn null(why: Why) -> u8
 
 /// The hold that left a block where it was; there is none for a mapping.
 fn hold(from: Origin) -> Option<u64>
-    ensures { result ≡ hold_of from }
+    ensures { result ≡ hold_shown from }
 {
     match from {
         Origin::Arena { a: _, hold } => Some(hold),

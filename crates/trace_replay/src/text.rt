@@ -4,7 +4,7 @@ ghost use Rattle.std.specs.Prelude.{◌≡◌, ◌≤◌, ℕ, List, Some, vec_l
 ghost use Rattle.trace_text.specs.Grammar.{reading_of, threads};
 ghost use Rattle.trace_text.specs.Spelling.{Allows};
 ghost use Rattle.trace_replay.specs.Asked.{IsServable};
-ghost use Rattle.trace_replay.specs.Headline.{Told, TellsInput, AllTell, Refuses, AnswersJob, LeavesRead, LeavesSource, IsReadWhole, IsPastWords, IsUnwritten, IsTextRefusal};
+ghost use Rattle.trace_replay.specs.Headline.{AllTold, TellsInput, AllTell, Refuses, AnswersJob, LeavesRead, LeavesSource, IsReadWhole, IsPastWords, IsUnwritten, IsTextRefusal};
 ghost use Rattle.trace_replay.specs.Sheets.{AreLines, IsTrace, Spells};
 ghost use Rattle.trace_replay.specs.Replays.{AnswersAs};
 ghost use Rattle.trace_replay.specs.SerialText.{lines_of, text_over, text_of, job_by, read_job, made_job, job_of, verdict};
@@ -157,12 +157,12 @@ pub(crate) fn text<S: Source, K: Kernel>(
     requires ports { vec_len kernels ≡ threads }
     requires servable { IsServable asked.now }
     ensures told { (bytes : List ℕ) →
-        Told S.supply K.port (Ok asked.now) source.old kernels.items bytes →
+        AllTold S.supply K.port (Ok asked.now) source.old kernels.items bytes →
         MatchResult result
         (λ text. verdict K.port kernels.items (Ok asked.now) bytes ≡ Ok text.items)
         (Refuses (verdict K.port kernels.items (Ok asked.now) bytes)) }
     ensures tiled { (bytes : List ℕ) →
-        Told S.supply K.port (Ok asked.now) source.old kernels.items bytes →
+        AllTold S.supply K.port (Ok asked.now) source.old kernels.items bytes →
         OnOk result (ShowsTiles K.port kernels.items (job_of (Ok asked.now) bytes)) }
     ensures job { (bytes : List ℕ) → TellsInput S.supply (Ok asked.now) source.old bytes →
         MatchResult result (λ _. IsOk (job_of (Ok asked.now) bytes))

@@ -3,7 +3,7 @@
 ghost use Rattle.std.specs.Prelude.{◌≡◌, ℕ, List, vec_len, MatchResult, Ok, IsOk};
 ghost use Rattle.trace_text.specs.Grammar.{threads};
 ghost use Rattle.trace_replay.specs.Asked.{served_of, IsServable};
-ghost use Rattle.trace_replay.specs.Headline.{Told, TellsInput, Answers, AnswersJob, LeavesSource, LeavesSink, IsPastWords, IsFaultless, IsDoneOrShort};
+ghost use Rattle.trace_replay.specs.Headline.{AllTold, TellsInput, Answers, AnswersJob, LeavesSource, LeavesSink, IsPastWords, IsFaultless, IsDoneOrShort};
 ghost use Rattle.trace_replay.specs.Tiling.{ShowsTiles};
 ghost use Rattle.trace_replay.specs.SerialText.{job_of, verdict};
 
@@ -30,14 +30,14 @@ fn serve<S: Source, W: Sink, K: Kernel>(
     ensures source { LeavesSource S.supply asked.now.generated source.old result source.new }
     ensures sink { LeavesSink W.store sink.old result sink.new }
     ensures told { (bytes : List ℕ) →
-        Told S.supply K.port (Ok asked.now) source.old kernels.items bytes →
+        AllTold S.supply K.port (Ok asked.now) source.old kernels.items bytes →
         Answers (verdict K.port kernels.items (Ok asked.now) bytes)
         W.store sink.old result sink.new }
     ensures job { (bytes : List ℕ) → TellsInput S.supply (Ok asked.now) source.old bytes →
         AnswersJob (job_of (Ok asked.now) bytes) result }
     ensures served { IsPastWords result }
     ensures tiled { (bytes : List ℕ) →
-        Told S.supply K.port (Ok asked.now) source.old kernels.items bytes →
+        AllTold S.supply K.port (Ok asked.now) source.old kernels.items bytes →
         result ≡ Exit.Done → ShowsTiles K.port kernels.items (job_of (Ok asked.now) bytes) }
 {
     match text(alloc, asked, source, kernels) {
@@ -80,7 +80,7 @@ pub fn run<S: Source, W: Sink, K: Kernel, G: Gate>(
     // Over ports that tell, and a source that tells where it is read: the answer is that of the
     // rules, and what is written is their text.
     ensures told { (bytes : List ℕ) →
-        Told S.supply K.port (served_of words.now) source.old kernels.items bytes →
+        AllTold S.supply K.port (served_of words.now) source.old kernels.items bytes →
         Answers (verdict K.port kernels.items (served_of words.now) bytes)
         W.store sink.old result sink.new }
 
@@ -99,7 +99,7 @@ pub fn run<S: Source, W: Sink, K: Kernel, G: Gate>(
     // Behind each line of a run whose text was written each arena is sound and fills its ranges,
     // each used chunk stands in one place, and blocks are what was asked for.
     ensures tiled { (bytes : List ℕ) →
-        Told S.supply K.port (served_of words.now) source.old kernels.items bytes →
+        AllTold S.supply K.port (served_of words.now) source.old kernels.items bytes →
         result ≡ Exit.Done → ShowsTiles K.port kernels.items (job_of (served_of words.now) bytes) }
 {
     match served(words) {

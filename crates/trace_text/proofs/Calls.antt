@@ -9,7 +9,7 @@ use Rattle.trace_text.specs.declared.command.Command.{Command}
 use Rattle.trace_text.specs.declared.command.Command.TheVariants as command
 use Rattle.trace_text.specs.declared.trace.Call.{Call}
 use Rattle.trace_text.specs.declared.trace.Call.TheVariants.{Malloc, Calloc, Realloc, Align, Free, Post, Take, Exit}
-use Rattle.trace_text.specs.Grammar.{◌>>=◌, highest_name, command_of, call_of}
+use Rattle.trace_text.specs.Grammar.{◌>>=◌, highest_name, command_of, call_read}
 use Rattle.trace_text.specs.Spelling.{IsName, IsCall}
 use Rattle.trace_text.proofs.Steps.{bind_ok, ok_is, name_again, tray_again, one_again, two_again, three_again, alone_is, size_is, tray_pair_is, sizes_is, end_is}
 
@@ -85,8 +85,8 @@ made version thread k fields read make call e spells =
     let x = bind_ok read (λ x. Ok (make x)) call e in
     subst (λ (c : Call). Spells version thread k fields c) (ok_is (make x.0) call x.2) (spells x.0 x.1)
 
-pub call_is : (version thread : ℕ) (k : Command) (fields : List (List ℕ)) (call : Call) → call_of version thread k fields ≡ Ok call → Spells version thread k fields call
-unfolding call_of
+pub call_is : (version thread : ℕ) (k : Command) (fields : List (List ℕ)) (call : Call) → call_read version thread k fields ≡ Ok call → Spells version thread k fields call
+unfolding call_read
 call_is version thread command.Malloc fields call e = made version thread command.Malloc fields _ _ call e (λ p read. let found = size_is version fields p read in record { command = refl; spelled = found.0; range = (found.1, found.2) })
 call_is version thread command.Calloc fields call e = made version thread command.Calloc fields _ _ call e (λ p read. let found = sizes_is version fields p read in record { command = refl; spelled = found.0; range = (found.1, found.2, found.3) })
 call_is version thread command.Realloc fields call e = made version thread command.Realloc fields _ _ call e (λ p read. let found = size_is version fields p read in record { command = refl; spelled = found.0; range = (found.1, found.2) })
@@ -102,8 +102,8 @@ highest_small version = elim (cases_Bool (eqb version 1)) [ inl first ↦ rw fir
 pub named_small : (version name : ℕ) → IsName version name → name < 2 ^ 64
 named_small version name h = omega (arith, h.1, highest_small version)
 
-pub call_again : (version thread : ℕ) (call : Call) → IsCall version thread call → call_of version thread (command_for call) (map decimal (numbers_of call)) ≡ Ok call
-unfolding call_of
+pub call_again : (version thread : ℕ) (call : Call) → IsCall version thread call → call_read version thread (command_for call) (map decimal (numbers_of call)) ≡ Ok call
+unfolding call_read
 call_again version thread (Malloc name size) r = rw (two_again name size (named_small version name r.0) r.1, name_again version name r.0) refl
 call_again version thread (Calloc name n size) r = rw (three_again name n size (named_small version name r.0) r.1 r.2, name_again version name r.0) refl
 call_again version thread (Realloc name size) r = rw (two_again name size (named_small version name r.0) r.1, name_again version name r.0) refl

@@ -8,7 +8,7 @@ use Rattle.std.proofs.lemmas.Fmt.{length-decimal-le}
 use Rattle.std.proofs.lemmas.List.{take-append-drop, take_all}
 use Rattle.std.proofs.lemmas.List.Sums.{fold-append, fold_more}
 use Rattle.std.proofs.lemmas.List.Folds.{list_all_at}
-use Rattle.trace_text.specs.Numbers.{is_numeral, value_of, number_of}
+use Rattle.trace_text.specs.Numbers.{is_numeral, value_of, numeral_value}
 
 -- a digit's byte is from 48 to 57
 pub digit_bounds : (d : ℕ) → is_ascii_digit d ≡ true → (48 ≤ d) × (d ≤ 57)
@@ -35,21 +35,21 @@ unlike_numeral [] e = absurd cc
 unlike_numeral (d ∷ []) e = elim (and_cases (is_ascii_digit d) true e) [ inl h ↦ h | inr h ↦ absurd cc ]
 unlike_numeral (d ∷ n ∷ ds) e = and_right _ _ e
 
-pub none_by_digit : (field : List ℕ) → list_all is_ascii_digit field ≡ false → number_of field ≡ None
-unfolding number_of
+pub none_by_digit : (field : List ℕ) → list_all is_ascii_digit field ≡ false → numeral_value field ≡ None
+unfolding numeral_value
 none_by_digit field e = rw (unlike_numeral field e) refl
 
-pub none_by_size : (field : List ℕ) → 2 ^ 64 ≤ value_of field → number_of field ≡ None
-unfolding number_of
+pub none_by_size : (field : List ℕ) → 2 ^ 64 ≤ value_of field → numeral_value field ≡ None
+unfolding numeral_value
 none_by_size field h = rw (le-ltb (value_of field) (2 ^ 64) h, and_right (is_numeral field) false refl) refl
 
-pub none_by_length : (field : List ℕ) → length field ≡ 0 → number_of field ≡ None
-unfolding number_of
+pub none_by_length : (field : List ℕ) → length field ≡ 0 → numeral_value field ≡ None
+unfolding numeral_value
 none_by_length [] e = refl
 none_by_length (d ∷ ds) e = absurd (omega arith)
 
-pub none_by_zero : (field : List ℕ) → 1 < length field → get_or field 0 0 ≡ 48 → number_of field ≡ None
-unfolding number_of
+pub none_by_zero : (field : List ℕ) → 1 < length field → get_or field 0 0 ≡ 48 → numeral_value field ≡ None
+unfolding numeral_value
 none_by_zero [] more e = absurd (omega arith)
 none_by_zero (d ∷ []) more e = absurd (omega arith)
 none_by_zero (d ∷ n ∷ ds) more e = rw e refl
@@ -62,17 +62,17 @@ like_numeral (d ∷ n ∷ ds) some free e =
     let ne : d ≡ 48 → ⊥ = free (omega arith) in
     and_from (ltb 48 d) _ (lt-ltb 48 d (omega (arith, first, ne))) e
 
-pub some_by_digits : (field : List ℕ) → 0 < length field → (1 < length field → get_or field 0 0 ≡ 48 → ⊥) → list_all is_ascii_digit field ≡ true → value_of field < 2 ^ 64 → number_of field ≡ Some (value_of field)
-unfolding number_of
+pub some_by_digits : (field : List ℕ) → 0 < length field → (1 < length field → get_or field 0 0 ≡ 48 → ⊥) → list_all is_ascii_digit field ≡ true → value_of field < 2 ^ 64 → numeral_value field ≡ Some (value_of field)
+unfolding numeral_value
 some_by_digits field some free e h = rw (like_numeral field some free e, lt-ltb (value_of field) (2 ^ 64) h) refl
 
 -- where the digits up to one stand for too much, so do all
-pub none_past : (field : List ℕ) (i : ℕ) → i < length field → 2 ^ 64 ≤ value_of (take i field) * 10 + (get_or field i 0 - 48) → number_of field ≡ None
+pub none_past : (field : List ℕ) (i : ℕ) → i < length field → 2 ^ 64 ≤ value_of (take i field) * 10 + (get_or field i 0 - 48) → numeral_value field ≡ None
 none_past field i h past =
     none_by_size field (omega (arith, value_of_more i field h, value_of-take (i + 1) field))
 
 -- the same at the end
-pub some_whole : (field : List ℕ) (i : ℕ) → length field ≤ i → 0 < length field → (1 < length field → get_or field 0 0 ≡ 48 → ⊥) → list_all is_ascii_digit (take i field) ≡ true → value_of (take i field) < 2 ^ 64 → number_of field ≡ Some (value_of (take i field))
+pub some_whole : (field : List ℕ) (i : ℕ) → length field ≤ i → 0 < length field → (1 < length field → get_or field 0 0 ≡ 48 → ⊥) → list_all is_ascii_digit (take i field) ≡ true → value_of (take i field) < 2 ^ 64 → numeral_value field ≡ Some (value_of (take i field))
 some_whole field i end some free digits small =
     let whole : take i field ≡ field = take_all i field end in
     rw whole (some_by_digits field some free (rw whole at digits) (rw whole at small))

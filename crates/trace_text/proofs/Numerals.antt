@@ -7,7 +7,7 @@ use Rattle.std.proofs.lemmas.Bool.{and_parts, ltb-true}
 use Rattle.std.proofs.lemmas.Option.{cond_some}
 use Rattle.std.proofs.lemmas.Str.Parse.{IsNumeralModel, numerals_by_fold}
 use Rattle.std.proofs.lemmas.Fmt.{digits_decimal, digits_value-decimal, decimal-digits_value, decimal_digit, decimal_nonempty, first_decimal}
-use Rattle.trace_text.specs.Numbers.{is_numeral, value_of, number_of}
+use Rattle.trace_text.specs.Numbers.{is_numeral, value_of, numeral_value}
 use Rattle.trace_text.proofs.Digits.{some_by_digits}
 
 abbrev AreDigits : List ℕ → Type 0
@@ -24,7 +24,7 @@ pub are_digits : (n : ℕ) → n < 2 ^ 64 → AreDigits (decimal n)
 are_digits n h = digits_decimal own n h
 
 -- what was written is read
-pub number_again : (n : ℕ) → n < 2 ^ 64 → number_of (decimal n) ≡ Some n
+pub number_again : (n : ℕ) → n < 2 ^ 64 → numeral_value (decimal n) ≡ Some n
 number_again n h =
     let value : value_of (decimal n) ≡ n = digits_value-decimal own n h in
     rw (some_by_digits (decimal n) (decimal_nonempty n h) (one_zero n h) (are_digits n h) (omega (arith, value)), value) refl
@@ -37,8 +37,8 @@ numeral_parts (d ∷ n ∷ ds) e =
     (parts.1, omega arith, λ zero_first. absurd (omega (arith, ltb-true 48 d parts.0, zero_first)))
 
 -- what is read was written so
-pub number_is : (field : List ℕ) (n : ℕ) → number_of field ≡ Some n → (field ≡ decimal n) × (n < 2 ^ 64)
-unfolding number_of
+pub number_is : (field : List ℕ) (n : ℕ) → numeral_value field ≡ Some n → (field ≡ decimal n) × (n < 2 ^ 64)
+unfolding numeral_value
 number_is field n e =
     let found = cond_some (is_numeral field && ltb (value_of field) (2 ^ 64)) (value_of field) n e in
     let tests = and_parts (is_numeral field) (ltb (value_of field) (2 ^ 64)) found.0 in

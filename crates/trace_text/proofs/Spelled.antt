@@ -16,7 +16,7 @@ use Rattle.trace_text.specs.declared.trace.Call.{Call}
 use Rattle.trace_text.specs.declared.trace.Call.TheVariants.{Malloc, Calloc, Realloc, Align, Free, Post, Take, Exit}
 use Rattle.trace_text.specs.declared.trace.Line.{Line}
 use Rattle.trace_text.specs.Before.{has_ended}
-use Rattle.trace_text.specs.Grammar.{is_empty, all_filled, fields_of, fault_if, thread_of, command_of, call_of, fitting, place_after, filled_line, line_of}
+use Rattle.trace_text.specs.Grammar.{is_empty, all_filled, fields_of, fault_if, thread_of, command_of, call_read, fitting, place_after, filled_line, line_of}
 use Rattle.trace_text.specs.Spelling.{call_spelling, spelling_of, IsCall, Fits}
 use Rattle.trace_text.proofs.Numerals.{are_digits}
 use Rattle.trace_text.proofs.Digits.{digit_bounds}
@@ -131,7 +131,7 @@ filled_is version before a b others line e =
     let thread = bind_ok (thread_of a) _ line e in
     let going = bind_ok (fault_if (has_ended thread.0 before) bad.Ended) _ line thread.2 in
     let k = bind_ok (command_of b) _ line going.2 in
-    let call = bind_ok (call_of version thread.0 k.0 others) _ line k.2 in
+    let call = bind_ok (call_read version thread.0 k.0 others) _ line k.2 in
     let suits = bind_ok (fitting before thread.0 call.0) _ line call.2 in
     let first = thread_is a thread.0 thread.1 in
     let spells = call_is version thread.0 k.0 others call.0 call.1 in

@@ -5,8 +5,8 @@ use Rattle.std.specs.Fmt.{decimal}
 use Rattle.std.proofs.lemmas.Bool.{and_parts, leb-true, ltb-true, le-leb, lt-ltb, eqb-false}
 use Rattle.trace_text.specs.declared.fault.BadWhy.{BadWhy}
 use Rattle.trace_text.specs.declared.fault.BadWhy.TheVariants as bad
-use Rattle.trace_text.specs.Numbers.{number_of}
-use Rattle.trace_text.specs.Grammar.{◌>>=◌, highest_name, thread_of, number_at, name_at, tray_at, one_number, two_numbers, three_numbers, fault_if, name_alone, name_and_size, name_and_tray, name_and_sizes, end_of}
+use Rattle.trace_text.specs.Numbers.{numeral_value}
+use Rattle.trace_text.specs.Grammar.{◌>>=◌, highest_name, thread_of, number_at, name_at, tray_read, one_number, two_numbers, three_numbers, fault_if, name_alone, name_and_size, name_and_tray, name_and_sizes, end_of}
 use Rattle.trace_text.specs.Spelling.{IsName}
 use Rattle.trace_text.proofs.Numerals.{number_again, number_is}
 
@@ -39,10 +39,10 @@ some_from_ok (Some m) why n e = cc
 pub thread_is : (field : List ℕ) (n : ℕ) → thread_of field ≡ Ok n → (field ≡ decimal n) × (n ≤ 63)
 unfolding thread_of
 thread_is field n e =
-    let read = bind_ok (ok_or (number_of field) bad.Thread) _ n e in
+    let read = bind_ok (ok_or (numeral_value field) bad.Thread) _ n e in
     let small = guard_ok (ltb read.0 64) bad.Thread (Ok read.0) n read.2 in
     let same = ok_is read.0 n small.1 in
-    let found = number_is field read.0 (some_from_ok (number_of field) bad.Thread read.0 read.1) in
+    let found = number_is field read.0 (some_from_ok (numeral_value field) bad.Thread read.0 read.1) in
     (found.0 ∙ ap decimal same, omega (arith, ltb-true read.0 64 small.0, same))
 
 pub thread_again : (n : ℕ) → n ≤ 63 → thread_of (decimal n) ≡ Ok n
@@ -51,7 +51,7 @@ thread_again n h = rw (number_again n (omega arith), lt-ltb n 64 (omega arith)) 
 
 pub number_at_is : (field : List ℕ) (n : ℕ) → number_at field ≡ Ok n → (field ≡ decimal n) × (n < 2 ^ 64)
 unfolding number_at
-number_at_is field n e = number_is field n (some_from_ok (number_of field) bad.Number n e)
+number_at_is field n e = number_is field n (some_from_ok (numeral_value field) bad.Number n e)
 
 pub number_at_again : (n : ℕ) → n < 2 ^ 64 → number_at (decimal n) ≡ Ok n
 unfolding number_at
@@ -69,15 +69,15 @@ pub name_again : (version name : ℕ) → IsName version name → name_at versio
 unfolding name_at
 name_again version name h = rw (le-leb 1 name h.0, le-leb name (highest_name version) h.1) refl
 
-pub tray_is : (number tray : ℕ) → tray_at number ≡ Ok tray → (number ≡ tray) × (tray ≤ 65535)
-unfolding tray_at
+pub tray_is : (number tray : ℕ) → tray_read number ≡ Ok tray → (number ≡ tray) × (tray ≤ 65535)
+unfolding tray_read
 tray_is number tray e =
     let found = guard_ok (leb number 65535) bad.Tray (Ok number) tray e in
     let same = ok_is number tray found.1 in
     (same, omega (arith, leb-true number 65535 found.0, same))
 
-pub tray_again : (tray : ℕ) → tray ≤ 65535 → tray_at tray ≡ Ok tray
-unfolding tray_at
+pub tray_again : (tray : ℕ) → tray ≤ 65535 → tray_read tray ≡ Ok tray
+unfolding tray_read
 tray_again tray h = rw (le-leb tray 65535 h) refl
 
 -- ---- the numbers of a call
@@ -157,7 +157,7 @@ pub tray_pair_is : (version : ℕ) (fields : List (List ℕ)) (p : ℕ × ℕ) �
 tray_pair_is version fields p e =
     let n = bind_ok (two_numbers fields) _ p e in
     let x = bind_ok (name_at version n.0.0) _ p n.2 in
-    let y = bind_ok (tray_at n.0.1) _ p x.2 in
+    let y = bind_ok (tray_read n.0.1) _ p x.2 in
     let found = two_is fields n.0 n.1 in
     let named = name_is version n.0.0 x.0 x.1 in
     let trayed = tray_is n.0.1 y.0 y.1 in

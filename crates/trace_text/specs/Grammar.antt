@@ -11,7 +11,7 @@ use Rattle.trace_text.specs.declared.command.Command.TheVariants as command
 use Rattle.trace_text.specs.declared.trace.Call.{Call}
 use Rattle.trace_text.specs.declared.trace.Call.TheVariants.{Malloc, Calloc, Realloc, Align, Free, Post, Take, Exit}
 use Rattle.trace_text.specs.declared.trace.Line.{Line}
-use Rattle.trace_text.specs.Numbers.{number_of}
+use Rattle.trace_text.specs.Numbers.{numeral_value}
 use Rattle.trace_text.specs.Before.{is_held, has_ended, was_posted, was_taken}
 
 -- a step behind another; the first fault ends them
@@ -46,7 +46,7 @@ highest_name version = if version == 1 then 65535 else 4294967295
 -- the thread of a field
 unfoldable pub thread_of : List ℕ → Result ℕ BadWhy
 thread_of field = do
-  thread ← ok_or (number_of field) bad.Thread
+  thread ← ok_or (numeral_value field) bad.Thread
   if nat_lt thread threads then Ok thread else Err bad.Thread
 
 -- the command of a field
@@ -64,15 +64,15 @@ command_of field =
 
 -- the number of a field behind the command
 unfoldable pub number_at : List ℕ → Result ℕ BadWhy
-number_at field = ok_or (number_of field) bad.Number
+number_at field = ok_or (numeral_value field) bad.Number
 
 -- a number as a name of a version
 unfoldable pub name_at : ℕ → ℕ → Result ℕ BadWhy
 name_at version number = if nat_le 1 number && nat_le number (highest_name version) then Ok number else Err bad.Name
 
 -- a number as a tray
-unfoldable pub tray_at : ℕ → Result ℕ BadWhy
-tray_at number = if nat_le number 65535 then Ok number else Err bad.Tray
+unfoldable pub tray_read : ℕ → Result ℕ BadWhy
+tray_read number = if nat_le number 65535 then Ok number else Err bad.Tray
 
 -- the numbers of so many fields; that the fields are fewer or more comes before any other fault
 unfoldable pub one_number : List (List ℕ) → Result ℕ BadWhy
@@ -114,7 +114,7 @@ abbrev pub name_and_tray : ℕ → List (List ℕ) → Result (ℕ × ℕ) BadWh
 name_and_tray version fields = do
   numbers ← two_numbers fields
   name ← name_at version numbers.0
-  tray ← tray_at numbers.1
+  tray ← tray_read numbers.1
   Ok (name, tray)
 
 abbrev pub name_and_sizes : ℕ → List (List ℕ) → Result (ℕ × ℕ × ℕ) BadWhy
@@ -129,29 +129,29 @@ end_of thread [] = fault_if (thread == 0) bad.MainExit
 end_of thread _ = Err bad.Fields
 
 -- the call of a thread in a trace of a version, by its command and the fields behind it
-unfoldable pub call_of : ℕ → ℕ → Command → List (List ℕ) → Result Call BadWhy
-call_of version thread command.Malloc fields = do
+unfoldable pub call_read : ℕ → ℕ → Command → List (List ℕ) → Result Call BadWhy
+call_read version thread command.Malloc fields = do
   read ← name_and_size version fields
   Ok (Malloc read.0 read.1)
-call_of version thread command.Calloc fields = do
+call_read version thread command.Calloc fields = do
   read ← name_and_sizes version fields
   Ok (Calloc read.0 read.1 read.2)
-call_of version thread command.Realloc fields = do
+call_read version thread command.Realloc fields = do
   read ← name_and_size version fields
   Ok (Realloc read.0 read.1)
-call_of version thread command.Align fields = do
+call_read version thread command.Align fields = do
   read ← name_and_sizes version fields
   Ok (Align read.0 read.1 read.2)
-call_of version thread command.Free fields = do
+call_read version thread command.Free fields = do
   name ← name_alone version fields
   Ok (Free name)
-call_of version thread command.Post fields = do
+call_read version thread command.Post fields = do
   read ← name_and_tray version fields
   Ok (Post read.0 read.1)
-call_of version thread command.Take fields = do
+call_read version thread command.Take fields = do
   read ← name_and_tray version fields
   Ok (Take read.0 read.1)
-call_of version thread command.Exit fields = do
+call_read version thread command.Exit fields = do
   none ← end_of thread fields
   Ok Exit
 
@@ -187,7 +187,7 @@ filled_line version before first second others = do
   thread ← thread_of first
   goes_on ← fault_if (has_ended thread before) bad.Ended
   command ← command_of second
-  call ← call_of version thread command others
+  call ← call_read version thread command others
   fits ← fitting before thread call
   Ok (record { thread = thread; number = place_after before; call = call })
 

@@ -14,5 +14,5 @@ abbrev pub value_of : List ℕ → ℕ
 value_of digits = fold (λ value digit. value * 10 + (digit - 48)) 0 digits
 
 -- the number that a field stands for
-unfoldable pub number_of : List ℕ → Option ℕ
-number_of field = if is_numeral field && nat_lt (value_of field) (2 ^ 64) then Some (value_of field) else None
+unfoldable pub numeral_value : List ℕ → Option ℕ
+numeral_value field = if is_numeral field && nat_lt (value_of field) (2 ^ 64) then Some (value_of field) else None

@@ -1,7 +1,7 @@
 //! The commands of a trace, and the calls that they ask for.
 
 ghost use Rattle.std.specs.Prelude.{◌≡◌, ◌<◌, IfOk};
-ghost use Rattle.trace_text.specs.Grammar.{threads, thread_of, command_of, number_at, name_at, tray_at, highest_name, one_number, two_numbers, three_numbers, name_alone, name_and_size, name_and_tray, name_and_sizes, end_of, call_of};
+ghost use Rattle.trace_text.specs.Grammar.{threads, thread_of, command_of, number_at, name_at, tray_read, highest_name, one_number, two_numbers, three_numbers, name_alone, name_and_size, name_and_tray, name_and_sizes, end_of, call_read};
 
 use crate::fault::BadWhy;
 use crate::fields::Fields;
@@ -76,9 +76,9 @@ fn name_from(version: u8, number: u64) -> Result<u32, BadWhy>
     Ok(number as u32)
 }
 
-#[tactic(auto, unfolding(crate::specs::Grammar::tray_at))]
+#[tactic(auto, unfolding(crate::specs::Grammar::tray_read))]
 fn tray_from(number: u64) -> Result<u32, BadWhy>
-    ensures { result ≡ tray_at number }
+    ensures { result ≡ tray_read number }
 {
     if number > 65_535 {
         return Err(BadWhy::Tray);
@@ -158,14 +158,14 @@ fn read_end(thread: u8, fields: Fields<'_>) -> Result<(), BadWhy>
 }
 
 /// The call of a thread in a trace of a version, by its command and the fields behind it.
-#[tactic(auto, unfolding(crate::specs::Grammar::call_of))]
+#[tactic(auto, unfolding(crate::specs::Grammar::call_read))]
 pub(crate) fn read_call(
     version: u8,
     thread: u8,
     command: Command,
     fields: Fields<'_>,
 ) -> Result<Call, BadWhy>
-    ensures { result ≡ call_of version thread command fields.entry }
+    ensures { result ≡ call_read version thread command fields.entry }
 {
     match command {
         Command::Malloc => {

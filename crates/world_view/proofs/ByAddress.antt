@@ -10,15 +10,15 @@ use Rattle.std.proofs.lemmas.Bool.{eqb-true}
 use Rattle.std.proofs.lemmas.List.Sums.{sum_by-cons}
 use Rattle.list_laws.specs.Rising.{at}
 use Rattle.stats_text.specs.declared.views.Place.{Place}
-use Rattle.world_view.specs.Places.{Found, put_found, found_by_address}
+use Rattle.world_view.specs.Places.{Placed, put_found, found_by_address}
 
 -- ---- something is there
 
 -- something is at an address
-abbrev pub IsThere : ℕ → List Found → Type 0
+abbrev pub IsThere : ℕ → List Placed → Type 0
 IsThere n es = is_some (at n es) ≡ true
 
-there_first : (n k : ℕ) (v : Place) (es : List Found) → (n ≡ k) ⊎ IsThere n es → IsThere n ((k, v) ∷ es)
+there_first : (n k : ℕ) (v : Place) (es : List Placed) → (n ≡ k) ⊎ IsThere n es → IsThere n ((k, v) ∷ es)
 there_first n k v es either =
     let step : (o : Ordering) → MatchOrdering o (n < k) (n ≡ k) (k < n) → is_some (cond (is_eq o) (Some v) (at n es)) ≡ true = elim [
       | Less ↦ λ lt. elim either [ inl same ↦ let no : ⊥ = omega arith in absurd no | inr there ↦ there ]
@@ -27,14 +27,14 @@ there_first n k v es either =
     ] in
     step (nat_cmp n k) (ranks n k)
 
-there_same : (n : ℕ) (e : Found) (v : Place) (es : List Found) → IsThere n (e ∷ es) → IsThere n ((e.0, v) ∷ es)
+there_same : (n : ℕ) (e : Placed) (v : Place) (es : List Placed) → IsThere n (e ∷ es) → IsThere n ((e.0, v) ∷ es)
 there_same n e v es =
     elim (is_at (nat_cmp n) e.0) as (λ b. is_some (cond b (Some e.1) (at n es)) ≡ true → is_some (cond b (Some v) (at n es)) ≡ true) [ true ↦ λ h. refl | false ↦ λ h. h ]
 
-there_with : (n : ℕ) (es : List Found) (k : ℕ) (v : Place) → (n ≡ k) ⊎ IsThere n es → IsThere n (insert_entry nat_cmp es k v)
+there_with : (n : ℕ) (es : List Placed) (k : ℕ) (v : Place) → (n ≡ k) ⊎ IsThere n es → IsThere n (insert_entry nat_cmp es k v)
 there_with n [] k v either = there_first n k v [] either
 there_with n (e ∷ es) k v either =
-    let later : List Found = insert_entry nat_cmp es k v in
+    let later : List Placed = insert_entry nat_cmp es k v in
     let step : (o : Ordering) → MatchOrdering o (k < e.0) (k ≡ e.0) (e.0 < k) → IsThere n (match_ordering o ((k, v) ∷ e ∷ es) ((e.0, v) ∷ es) (e ∷ later)) = elim [
       | Less ↦ λ lt. there_first n k v (e ∷ es) either
       | Equal ↦ λ eq. elim either [ inl same ↦ there_first n e.0 v es (inl (same ∙ eq)) | inr there ↦ there_same n e v es there ]
@@ -47,13 +47,13 @@ there_with n (e ∷ es) k v either =
     step (nat_cmp k e.0) (ranks k e.0)
 
 -- 1 for what is found at an address, and how much is
-abbrev pub stands_at : ℕ → Found → ℕ
+abbrev pub stands_at : ℕ → Placed → ℕ
 stands_at n f = cond (nat_eq n f.0) 1 0
 
-abbrev pub times_found : ℕ → List Found → ℕ
+abbrev pub times_found : ℕ → List Placed → ℕ
 times_found n fs = sum_by (stands_at n) fs
 
-all_there : (n : ℕ) (es fs : List Found) → IsThere n es ⊎ (0 < times_found n fs) → IsThere n (fold put_found es fs)
+all_there : (n : ℕ) (es fs : List Placed) → IsThere n es ⊎ (0 < times_found n fs) → IsThere n (fold put_found es fs)
 all_there n es [] either = elim either [ inl there ↦ there | inr some ↦ let no : ⊥ = omega arith in absurd no ]
 all_there n es (f ∷ fs) either =
     let cases : (b : Bool) → nat_eq n f.0 ≡ b → IsThere n (fold put_found (put_found es f) fs) = elim [
@@ -65,7 +65,7 @@ all_there n es (f ∷ fs) either =
     ] in
     cases (nat_eq n f.0) refl
 
-pub found_there : (n : ℕ) (fs : List Found) → 0 < times_found n fs → IsThere n (found_by_address fs)
+pub found_there : (n : ℕ) (fs : List Placed) → 0 < times_found n fs → IsThere n (found_by_address fs)
 unfolding found_by_address
 found_there n fs some = all_there n [] fs (inr some)
 

@@ -15,7 +15,7 @@ use Rattle.chunk_tags.specs.declared.tiles.Tile.{Tile}
 use Rattle.chunk_tags.specs.declared.tiles.TileKind.{TileKind}
 use Rattle.chunk_tags.specs.declared.tiles.TileKind.TheVariants.{Used, Free, Top, Fence}
 use Rattle.chunk_tags.specs.Tiles.{is_used, is_free}
-use Rattle.thread_cache.specs.Caches.{blocks_of, structure_of, tile_of}
+use Rattle.thread_cache.specs.Caches.{blocks_of, structure_of, block_tile}
 use Rattle.fast_bins.specs.PlainBins.{FastState, FastBin, listed, chunks_from}
 use Rattle.arena_rules.specs.PlainArena.{Plain, is_chunk, times_listed, times_tiled, times_used}
 use Rattle.arena_rules.proofs.Counts.{weight}
@@ -28,8 +28,8 @@ use Rattle.own_blocks.specs.Own.{in_names, in_own}
 use Rattle.stats_text.specs.declared.views.Place.{Place}
 use Rattle.stats_text.specs.declared.views.Place.TheVariants as places
 use Rattle.world_view.specs.declared.finds.Find.{Find}
-use Rattle.world_view.specs.Places.{named_from, held_find, far_finds, named_finds, cached_find, structure_finds, thread_finds, threads_finds, tray_find, finds_of, fast_lists, ten_lists, fast_of, bins_of, Found, found_in, binned, finds_found, found_by_address, place_in, shown_at, shown_tiles}
-use Rattle.world_view.specs.Scenes.{ArenaScene, Scene, all_binned, all_found, arena_with, shown_arena}
+use Rattle.world_view.specs.Places.{named_from, held_find, far_finds, named_finds, cached_find, structure_finds, thread_finds, threads_finds, tray_find, finds_of, fast_lists, ten_lists, fast_of, bins_of, Placed, placed_in, binned, finds_found, found_by_address, place_in, shown_at, shown_tiles}
+use Rattle.world_view.specs.Scenes.{ArenaScene, Scene, all_binned, all_found, arena_shown, shown_arena}
 use Rattle.world_view.specs.Shows.{in_threads, in_trays, in_scene, times_fast, IsWholeArena, tile_span, view_span}
 use Rattle.world_view.proofs.ByAddress.{IsThere, stands_at, times_found, found_there}
 
@@ -49,7 +49,7 @@ row_found : (m : ℕ) (e : Chunk) (thread name : ℕ) (os : List (Option Block))
 row_found m e thread name [] = omega arith
 row_found m e thread name (None ∷ os) = omega (arith, sum_by-cons (λ o. weight_of o (as_chunk_of m e)) None os, row_found m e thread (name + 1) os)
 row_found m e thread name (Some b ∷ os) =
-    let f : Found = (b.addr, places.Live thread name) in
+    let f : Placed = (b.addr, places.Live thread name) in
     omega (
       arith,
       sum_by-cons (λ o. weight_of o (as_chunk_of m e)) (Some b) os,
@@ -61,17 +61,17 @@ row_found m e thread name (Some b ∷ os) =
 held_found : (m : ℕ) (e : Chunk) (thread name : ℕ) (o : Option Block) → weight_of o (as_chunk_of m e) ≤ times_found e.at (finds_found (held_find thread name o))
 held_found m e thread name None = omega arith
 held_found m e thread name (Some b) =
-    let f : Found = (b.addr, places.Live thread name) in
+    let f : Placed = (b.addr, places.Live thread name) in
     omega (arith, sum_by-cons (stands_at e.at) f [], block_found m e b (places.Live thread name))
 
-cached_found : (m : ℕ) (e : Chunk) (thread : ℕ) (bs : List Block) → sum_by (as_chunk_of m e) bs ≤ times_found e.at (finds_found (map (cached_find thread) (map tile_of bs)))
+cached_found : (m : ℕ) (e : Chunk) (thread : ℕ) (bs : List Block) → sum_by (as_chunk_of m e) bs ≤ times_found e.at (finds_found (map (cached_find thread) (map block_tile bs)))
 cached_found m e thread [] = omega arith
 cached_found m e thread (b ∷ bs) =
-    let f : Found = (b.addr, places.Cache thread) in
+    let f : Placed = (b.addr, places.Cache thread) in
     omega (
       arith,
       sum_by-cons (as_chunk_of m e) b bs,
-      sum_by-cons (stands_at e.at) f (finds_found (map (cached_find thread) (map tile_of bs))),
+      sum_by-cons (stands_at e.at) f (finds_found (map (cached_find thread) (map block_tile bs))),
       cached_found m e thread bs,
       block_found m e b (places.Cache thread),
     )
@@ -79,12 +79,12 @@ cached_found m e thread (b ∷ bs) =
 structure_found : (m : ℕ) (e : Chunk) (thread : ℕ) (o : Option Block) → weight_of o (as_chunk_of m e) ≤ times_found e.at (finds_found (structure_finds thread o))
 structure_found m e thread None = omega arith
 structure_found m e thread (Some b) =
-    let f : Found = (b.addr, places.Structure thread) in
+    let f : Placed = (b.addr, places.Structure thread) in
     omega (arith, sum_by-cons (stands_at e.at) f [], block_found m e b (places.Structure thread))
 
 found_both : (n : ℕ) (some more : List Find) → times_found n (finds_found (some ++ more)) ≡ times_found n (finds_found some) + times_found n (finds_found more)
 found_both n some more =
-    let f : Find → Found = λ x. (x.tile.addr, x.tile.place) in
+    let f : Find → Placed = λ x. (x.tile.addr, x.tile.place) in
     ap (times_found n) (map-append f some more) ∙ sum_by-append (stands_at n) (map f some) (map f more)
 
 far_found : (m : ℕ) (e : Chunk) (thread : ℕ) (es : List (ℕ × Option Block)) →
@@ -113,7 +113,7 @@ thread_found : (m : ℕ) (e : Chunk) (thread : ℕ) (own : Own) → in_own own (
 unfolding thread_finds
 thread_found m e thread own =
     let named : List Find = named_finds thread own.names in
-    let cached : List Find = map (cached_find thread) (map tile_of (blocks_of own.cache)) in
+    let cached : List Find = map (cached_find thread) (map block_tile (blocks_of own.cache)) in
     let structure : List Find = structure_finds thread (structure_of own.cache) in
     let all : in_own own (as_chunk_of m e) ≤ times_found e.at (finds_found (named ++ cached ++ structure)) = omega (
       arith,
@@ -139,7 +139,7 @@ threads_found m e thread (own ∷ owns) =
 trays_found : (m : ℕ) (e : Chunk) (trays : List (ℕ × Block)) → in_trays trays (as_chunk_of m e) ≤ times_found e.at (finds_found (map tray_find trays))
 trays_found m e [] = omega arith
 trays_found m e (t ∷ trays) =
-    let f : Found = (t.1.addr, places.Tray t.0) in
+    let f : Placed = (t.1.addr, places.Tray t.0) in
     omega (
       arith,
       sum_by-cons (λ (x : ℕ × Block). as_chunk_of m e x.1) t trays,
@@ -197,7 +197,7 @@ list_found : {X : Type 0} (e : Chunk) (p : Place) (chunk : X → Chunk) (xs : Li
 list_found e p chunk [] = omega arith
 list_found {X} e p chunk (x ∷ xs) =
     let c : Chunk = chunk x in
-    let f : Found = (c.at, p) in
+    let f : Placed = (c.at, p) in
     omega (
       arith,
       sum_by-cons (λ d. cond {A = ℕ} (same_chunk e d) 1 0) c (map chunk xs),
@@ -207,10 +207,10 @@ list_found {X} e p chunk (x ∷ xs) =
     )
 
 found_lists : (n : ℕ) (place : ℕ → Place) (number : ℕ) (ats : List ℕ) (lists : List (List ℕ)) →
-    times_found n (found_in place (numbered_from number (ats ∷ lists))) ≡ times_found n (map (λ (addr : ℕ). (addr, place number)) ats) + times_found n (found_in place (numbered_from (number + 1) lists))
-found_lists n place number ats lists = sum_by-append (stands_at n) (map (λ (addr : ℕ). (addr, place number)) ats) (found_in place (numbered_from (number + 1) lists))
+    times_found n (placed_in place (numbered_from number (ats ∷ lists))) ≡ times_found n (map (λ (addr : ℕ). (addr, place number)) ats) + times_found n (placed_in place (numbered_from (number + 1) lists))
+found_lists n place number ats lists = sum_by-append (stands_at n) (map (λ (addr : ℕ). (addr, place number)) ats) (placed_in place (numbered_from (number + 1) lists))
 
-bins_found : (e : Chunk) (number : ℕ) (bins : List (List Chunk)) → sum_by (times_in e) bins ≤ times_found e.at (found_in places.Bin (numbered_from number (map places_of bins)))
+bins_found : (e : Chunk) (number : ℕ) (bins : List (List Chunk)) → sum_by (times_in e) bins ≤ times_found e.at (placed_in places.Bin (numbered_from number (map places_of bins)))
 bins_found e number [] = omega arith
 bins_found e number (cs ∷ bins) =
     let same : map (λ (c : Chunk). c) cs ≡ cs = map-id cs in
@@ -223,7 +223,7 @@ bins_found e number (cs ∷ bins) =
       bins_found e (number + 1) bins,
     )
 
-fast_found : (e : Chunk) (number : ℕ) (bins : List FastBin) → times_in e (chunks_from number bins) ≤ times_found e.at (found_in places.Fast (numbered_from number (map listed bins)))
+fast_found : (e : Chunk) (number : ℕ) (bins : List FastBin) → times_in e (chunks_from number bins) ≤ times_found e.at (placed_in places.Fast (numbered_from number (map listed bins)))
 fast_found e number [] = omega arith
 fast_found e number (b ∷ bins) =
     omega (
@@ -242,13 +242,13 @@ binned_here n a = times_found n (binned (fast_of a.fast) (bins_of a.arena))
 arena_found : (e : Chunk) (a : ArenaScene) → length a.fast.bins ≡ 10 → length a.arena.bins ≡ 127 → times_fast a.fast e + times_listed e a.arena ≤ binned_here e.at a
 unfolding binned binned_here
 arena_found e a ten all =
-    let fast : List Found = found_in places.Fast (fast_of a.fast) in
-    let bins : List Found = found_in places.Bin (bins_of a.arena) in
+    let fast : List Placed = placed_in places.Fast (fast_of a.fast) in
+    let bins : List Placed = placed_in places.Bin (bins_of a.arena) in
     let both : times_fast a.fast e + times_listed e a.arena ≤ times_found e.at (fast ++ bins) = omega (
       arith,
       sum_by-append (stands_at e.at) fast bins,
-      ap (λ lists. times_found e.at (found_in places.Fast lists)) (fast_numbered a.fast ten),
-      ap (λ lists. times_found e.at (found_in places.Bin lists)) (bins_numbered a.arena all),
+      ap (λ lists. times_found e.at (placed_in places.Fast lists)) (fast_numbered a.fast ten),
+      ap (λ lists. times_found e.at (placed_in places.Bin lists)) (bins_numbered a.arena all),
       fast_found e 0 a.fast.bins,
       bins_found e 0 a.arena.bins,
     ) in
@@ -269,7 +269,7 @@ arena_among n (b ∷ arenas) (suc i) a is =
 
 -- ---- each tile is shown
 
-place_there : (found : List Found) (t : Tile) → (is_used t ≡ true → IsThere t.addr found) → (is_free t ≡ true → IsThere t.addr found) → is_some (place_in found t) ≡ true
+place_there : (found : List Placed) (t : Tile) → (is_used t ≡ true → IsThere t.addr found) → (is_free t ≡ true → IsThere t.addr found) → is_some (place_in found t) ≡ true
 place_there found t =
     elim t.kind as (λ (k : TileKind).
     (elim k [ Used ↦ true | Free ↦ false | Top ↦ false | Fence ↦ false ] ≡ true → IsThere t.addr found) →
@@ -291,7 +291,7 @@ tile_counts kind t ts a among is =
     let one : weight kind c t ≡ 1 = ap (λ (b : Bool). cond {A = ℕ} b 1 0) (and_from (kind t) (is_chunk c t) is (and_from (nat_eq t.addr t.addr) (nat_eq t.size t.size) (eq-eqb t.addr t.addr refl) (eq-eqb t.size t.size refl))) in
     omega (arith, among kind c, sum_by-cons (weight kind c) t ts, one)
 
-all_shown : (found : List Found) (a : Plain) (ts : List Tile) → ((c : Chunk) → 0 < times_used c a → IsThere c.at found) → ((c : Chunk) → 0 < times_tiled is_free c a → IsThere c.at found) → Among ts a →
+all_shown : (found : List Placed) (a : Plain) (ts : List Tile) → ((c : Chunk) → 0 < times_used c a → IsThere c.at found) → ((c : Chunk) → 0 < times_tiled is_free c a → IsThere c.at found) → Among ts a →
     map view_span (shown_tiles found ts) ≡ map tile_span ts
 all_shown found a [] used free among = refl
 all_shown found a (t ∷ ts) used free among =
@@ -319,9 +319,9 @@ chunk_found s i a e is w =
     )
 
 pub tiles_shown : (s : Scene) (i : ℕ) (a : ArenaScene) → slice_get s.arenas i ≡ Some a → IsWholeArena s a → map view_span (shown_arena s a).tiles ≡ map tile_span a.arena.tiles
-unfolding all_found arena_with
+unfolding all_found arena_shown
 tiles_shown s i a is w =
-    let found : List Found = finds_found (finds_of s.owns s.trays) ++ all_binned s.arenas in
+    let found : List Placed = finds_found (finds_of s.owns s.trays) ++ all_binned s.arenas in
     all_shown (found_by_address found) a.arena a.arena.tiles
     (λ c some. found_there c.at found (omega (arith, chunk_found s i a c is w, some)))
     (λ c some. found_there c.at found (omega (arith, chunk_found s i a c is w, some)))

@@ -9,14 +9,14 @@ use Rattle.std.proofs.lemmas.List.Sums.{sum_by-cons}
 use Rattle.chunk_tags.specs.declared.block.Block.{Block}
 use Rattle.chunk_tags.specs.declared.tiles.Tile.{Tile}
 use Rattle.thread_cache.specs.Caches.{CacheValue, addresses_of}
-use Rattle.thread_cache.specs.Held.{IsSound}
+use Rattle.thread_cache.specs.Held.{IsSoundCache}
 use Rattle.arena_rules.specs.HeapPlaces.{IsHeapLength, IsHeapPlaced}
 use Rattle.arena_rules.specs.MainPlaces.{IsMainPlaced, IsPlaced}
 use Rattle.arena_rules.specs.PlainArena.{Plain, HeapWindows, is_main}
 use Rattle.stats_text.specs.declared.views.Place.{Place}
 use Rattle.stats_text.specs.declared.views.TileView.{TileView}
 use Rattle.stats_text.specs.Totals.{is_idle_place, tile_bytes_of, idle_bytes_of}
-use Rattle.world_view.specs.Places.{Found, tile_at, place_in, shown_at, shown_tiles}
+use Rattle.world_view.specs.Places.{Placed, view_of_tile, place_in, shown_at, shown_tiles}
 
 -- a chunk's bytes, where it is idle
 abbrev idle_of : TileView → ℕ
@@ -41,11 +41,11 @@ idle_most t = elim (is_idle_place t.place) as (λ b. (if b then t.size else 0) �
 shown_most : (t : Tile) (o : Option Place) (rest : List TileView) → idle_bytes_of (shown_at t o ++ rest) ≤ t.size + idle_bytes_of rest
 shown_most t None rest = omega arith
 shown_most t (Some place) rest =
-    let v : TileView = tile_at t.addr t.size 0 place in
+    let v : TileView = view_of_tile t.addr t.size 0 place in
     omega (arith, idle-cons v rest, idle_most v)
 
 -- what is shown of tiles has at most their bytes
-pub idle_tiles : (found : List Found) (ts : List Tile) → idle_bytes_of (shown_tiles found ts) ≤ sum_by (λ t. t.size) ts
+pub idle_tiles : (found : List Placed) (ts : List Tile) → idle_bytes_of (shown_tiles found ts) ≤ sum_by (λ t. t.size) ts
 idle_tiles found [] = omega (arith, idle-nil)
 idle_tiles found (t ∷ ts) =
     omega (arith, sum_by-cons (λ (x : Tile). x.size) t ts, idle_tiles found ts, shown_most t (place_in found t) (shown_tiles found ts))
@@ -59,7 +59,7 @@ filled_cases P a main heaps one other =
     ] in
     cases (is_main a) refl
 
-pub idle_in_arena : (a : Plain) (found : List Found) → IsPlaced a → (is_main a ≡ false → (closed : List ℕ) × IsHeapPlaced a closed) → idle_bytes_of (shown_tiles found a.tiles) ≤ a.system
+pub idle_in_arena : (a : Plain) (found : List Placed) → IsPlaced a → (is_main a ≡ false → (closed : List ℕ) × IsHeapPlaced a closed) → idle_bytes_of (shown_tiles found a.tiles) ≤ a.system
 idle_in_arena a found main heaps =
     filled_cases (idle_bytes_of (shown_tiles found a.tiles) ≤ a.system) a main heaps
     (λ p. omega (arith, idle_tiles found a.tiles, p.tiled))
@@ -76,7 +76,7 @@ system_fits a main heaps =
     (λ closed p. omega (arith, p.system, heaps_fit a.windows closed p.each p.windows.most, p.last.window, p.windows.most, p.windows.heaps, p.count))
 
 -- a cache has at most 64 lists
-pub sixty_four : (v : List (Vec ℕ)) (c : CacheValue) → map (λ list. list.items) v ≡ addresses_of c → IfSome c IsSound → length v ≤ 64
+pub sixty_four : (v : List (Vec ℕ)) (c : CacheValue) → map (λ list. list.items) v ≡ addresses_of c → IfSome c IsSoundCache → length v ≤ 64
 sixty_four v None e s = omega (arith, ap length e, length-map v (λ (list : Vec ℕ). list.items))
 sixty_four v (Some c) e s =
     omega (arith, ap length e, length-map v (λ (list : Vec ℕ). list.items), length-map c.lists (λ (blocks : List Block). map (λ b. b.addr) blocks), s.width)

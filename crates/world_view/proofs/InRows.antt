@@ -6,8 +6,8 @@ use Rattle.fast_bins.specs.PlainBins.{listed}
 use Rattle.arena_rules.specs.PlainArena.{Plain}
 use Rattle.stats_text.specs.Views.{Arena}
 use Rattle.world_view.specs.declared.finds.Find.{Find}
-use Rattle.world_view.specs.Places.{Found, finds_of, fast_lists, fast_of, ten_lists, bins_of, binned, finds_found, found_by_address}
-use Rattle.world_view.specs.Scenes.{ArenaScene, Scene, AreArenas, all_binned, all_found, arena_with, shown_arena}
+use Rattle.world_view.specs.Places.{Placed, finds_of, fast_lists, fast_of, ten_lists, bins_of, binned, finds_found, found_by_address}
+use Rattle.world_view.specs.Scenes.{ArenaScene, Scene, AreArenas, all_binned, all_found, arena_shown, shown_arena}
 use Rattle.world_view.specs.Rows.{fast_at, fast_bin_at, binned_from, arenas_from}
 
 -- functions that agree on a range
@@ -50,23 +50,23 @@ next_length front index s before ten = omega (arith, length-append front (fast_l
 binned_rows : (front : List (List ℕ)) (index : ℕ) (scenes : List ArenaScene) → length front ≡ 10 * index → HaveTen scenes → binned_from (front ++ all_lists scenes) index (plains scenes) ≡ all_binned scenes
 binned_rows front index [] before ten = refl
 binned_rows front index (s ∷ scenes) before ten =
-    let rest : List Found = binned_from (front ++ all_lists (s ∷ scenes)) (index + 1) (plains scenes) in
+    let rest : List Placed = binned_from (front ++ all_lists (s ∷ scenes)) (index + 1) (plains scenes) in
     let later : rest ≡ all_binned scenes =
     ap (λ lists. binned_from lists (index + 1) (plains scenes)) (next_front front s scenes)
     ∙ binned_rows (front ++ fast_lists s.fast) (index + 1) scenes (next_length front index s before ten.0) ten.1 in
     ap (λ fast. binned fast (bins_of s.arena) ++ rest) (first_ten front index s scenes before ten.0)
     ∙ ap (λ found. binned (fast_of s.fast) (bins_of s.arena) ++ found) later
 
-shown_rows : (found : List Found) (list : List ℕ) (front : List (List ℕ)) (index : ℕ) (scenes : List ArenaScene) → length front ≡ 10 * index → HaveTen scenes →
-    arenas_from found list (front ++ all_lists scenes) index (plains scenes) ≡ map (λ s. arena_with found list (fast_of s.fast) s.arena) scenes
+shown_rows : (found : List Placed) (list : List ℕ) (front : List (List ℕ)) (index : ℕ) (scenes : List ArenaScene) → length front ≡ 10 * index → HaveTen scenes →
+    arenas_from found list (front ++ all_lists scenes) index (plains scenes) ≡ map (λ s. arena_shown found list (fast_of s.fast) s.arena) scenes
 shown_rows found list front index [] before ten = refl
 shown_rows found list front index (s ∷ scenes) before ten =
     let rest : List Arena = arenas_from found list (front ++ all_lists (s ∷ scenes)) (index + 1) (plains scenes) in
-    let later : rest ≡ map (λ s. arena_with found list (fast_of s.fast) s.arena) scenes =
+    let later : rest ≡ map (λ s. arena_shown found list (fast_of s.fast) s.arena) scenes =
     ap (λ lists. arenas_from found list lists (index + 1) (plains scenes)) (next_front front s scenes)
     ∙ shown_rows found list (front ++ fast_lists s.fast) (index + 1) scenes (next_length front index s before ten.0) ten.1 in
-    ap (λ fast. arena_with found list fast s.arena ∷ rest) (first_ten front index s scenes before ten.0)
-    ∙ ap (λ arenas. arena_with found list (fast_of s.fast) s.arena ∷ arenas) later
+    ap (λ fast. arena_shown found list fast s.arena ∷ rest) (first_ten front index s scenes before ten.0)
+    ∙ ap (λ arenas. arena_shown found list (fast_of s.fast) s.arena ∷ arenas) later
 
 -- what is in bins, and the arenas as they are shown
 rows_binned : (scenes : List ArenaScene) (arenas : List Plain) (lists : List (List ℕ)) → AreArenas scenes arenas lists → binned_from lists 0 arenas ≡ all_binned scenes
@@ -75,8 +75,8 @@ rows_binned scenes arenas lists are =
     ∙ ap (λ ps. binned_from (all_lists scenes) 0 ps) (sym are.arenas_are)
     ∙ binned_rows [] 0 scenes refl are.ten
 
-rows_shown : (found : List Found) (list : List ℕ) (scenes : List ArenaScene) (arenas : List Plain) (lists : List (List ℕ)) → AreArenas scenes arenas lists →
-    arenas_from found list lists 0 arenas ≡ map (λ s. arena_with found list (fast_of s.fast) s.arena) scenes
+rows_shown : (found : List Placed) (list : List ℕ) (scenes : List ArenaScene) (arenas : List Plain) (lists : List (List ℕ)) → AreArenas scenes arenas lists →
+    arenas_from found list lists 0 arenas ≡ map (λ s. arena_shown found list (fast_of s.fast) s.arena) scenes
 rows_shown found list scenes arenas lists are =
     ap (λ ls. arenas_from found list ls 0 arenas) (sym are.lists_are)
     ∙ ap (λ ps. arenas_from found list (all_lists scenes) 0 ps) (sym are.arenas_are)

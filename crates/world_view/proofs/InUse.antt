@@ -13,7 +13,7 @@ use Rattle.stats_text.specs.declared.views.Place.TheVariants as places
 use Rattle.stats_text.specs.declared.views.TileView.{TileView}
 use Rattle.stats_text.specs.Totals.{is_idle_place, is_in_use_place, tile_bytes_of, idle_bytes_of, in_use_bytes_of, in_use_of}
 use Rattle.stats_text.specs.Views.{Arena}
-use Rattle.world_view.specs.Scenes.{ArenaScene, Scene, arena_with, shown_arena}
+use Rattle.world_view.specs.Scenes.{ArenaScene, Scene, arena_shown, shown_arena}
 use Rattle.world_view.specs.Shows.{IsWholeArena, tile_span, view_span, headers_of}
 
 halves : (p : Place) (size : ℕ) → (if is_idle_place p then size else 0) + (if is_in_use_place p then size else 0) ≡ size
@@ -72,5 +72,5 @@ headers_fill a main heaps =
 
 pub arena_used : (s : Scene) (a : ArenaScene) → IsWholeArena s a → map view_span (shown_arena s a).tiles ≡ map tile_span a.arena.tiles →
     in_use_of (shown_arena s a) ≡ in_use_bytes_of (shown_arena s a).tiles + headers_of a.arena
-unfolding arena_with
+unfolding arena_shown
 arena_used s a w shown = used_shown (shown_arena s a) a.arena.tiles (headers_of a.arena) shown (headers_fill a.arena w.main w.heaps)

@@ -8,7 +8,7 @@ use Rattle.std.proofs.lemmas.List.Sums.{sum_by-cons, sum_by-append}
 use Rattle.list_laws.specs.Rising.{at}
 use Rattle.chunk_tags.specs.declared.block.Block.{Block}
 use Rattle.chunk_tags.specs.declared.tiles.Tile.{Tile}
-use Rattle.thread_cache.specs.Caches.{structure_of, tiles_of}
+use Rattle.thread_cache.specs.Caches.{structure_of, cached_tiles}
 use Rattle.arena_holds.specs.Places.{weight_of, as_mapped_byte}
 use Rattle.own_blocks.specs.declared.own.Own.{Own}
 use Rattle.block_names.specs.Names.{NameTable, block_at, is_name}
@@ -134,14 +134,14 @@ thread_bytes : (n thread : ℕ) (own : Own) → sum_by (view_byte n) (mapped_fin
 unfolding thread_finds
 thread_bytes n thread own =
     let named : List Find = named_finds thread own.names in
-    let cached : List Find = map (cached_find thread) (tiles_of own.cache) in
+    let cached : List Find = map (cached_find thread) (cached_tiles own.cache) in
     let structure : List Find = structure_finds thread (structure_of own.cache) in
     let all : sum_by (view_byte n) (mapped_finds (named ++ cached ++ structure)) ≤ in_own own (as_mapped_byte n) = omega (
       arith,
       both_bytes n (named ++ cached) structure,
       both_bytes n named cached,
       named_bytes n thread own.names,
-      cached_bytes n thread (tiles_of own.cache),
+      cached_bytes n thread (cached_tiles own.cache),
       structure_bytes n thread (structure_of own.cache),
     ) in
     all
@@ -261,7 +261,7 @@ thread_named : (thread name : ℕ) (own : Own) (b : Block) → block_at own.name
 unfolding thread_finds
 thread_named thread name own b e =
     let named : List Find = named_finds thread own.names in
-    let cached : List Find = map (cached_find thread) (tiles_of own.cache) in
+    let cached : List Find = map (cached_find thread) (cached_tiles own.cache) in
     let structure : List Find = structure_finds thread (structure_of own.cache) in
     let first : Has named (places.Live thread name) b = named_in thread name own.names b e in
     has_front (named ++ cached) structure (places.Live thread name) b (has_front named cached (places.Live thread name) b first)
@@ -270,7 +270,7 @@ thread_structure : (thread : ℕ) (own : Own) (b : Block) → structure_of own.c
 unfolding thread_finds
 thread_structure thread own b e =
     let named : List Find = named_finds thread own.names in
-    let cached : List Find = map (cached_find thread) (tiles_of own.cache) in
+    let cached : List Find = map (cached_find thread) (cached_tiles own.cache) in
     has_back (named ++ cached) (structure_finds thread (structure_of own.cache)) (places.Structure thread) b (structure_in thread (structure_of own.cache) b e)
 
 in_threads_of : (place : ℕ → Place) (b : Block) (own : Own) → ((thread : ℕ) → Has (thread_finds thread own) (place thread) b) → (first thread : ℕ) (owns : List Own) → slice_get owns thread ≡ Some own →

@@ -9,7 +9,7 @@ use Rattle.list_laws.specs.Rising.{at}
 use Rattle.chunk_tags.specs.declared.block.Block.{Block}
 use Rattle.chunk_tags.specs.declared.tiles.Tile.{Tile}
 use Rattle.chunk_tags.specs.declared.tiles.TileKind.TheVariants as kinds
-use Rattle.thread_cache.specs.Caches.{tiles_of, structure_of}
+use Rattle.thread_cache.specs.Caches.{cached_tiles, structure_of}
 use Rattle.fast_bins.specs.PlainBins.{FastState, listed}
 use Rattle.arena_rules.specs.PlainArena.{Plain, bin_at}
 use Rattle.own_blocks.specs.declared.own.Own.{Own}
@@ -21,12 +21,12 @@ use Rattle.world_view.specs.declared.finds.Find.{Find}
 
 -- ---- the blocks of threads and trays
 
-abbrev pub tile_at : ℕ → ℕ → ℕ → Place → TileView
-tile_at addr size lead place = record { addr = addr; size = size; lead = lead; place = place }
+abbrev pub view_of_tile : ℕ → ℕ → ℕ → Place → TileView
+view_of_tile addr size lead place = record { addr = addr; size = size; lead = lead; place = place }
 
 -- a block at a place; one that belongs to no arena is mapped
 abbrev pub block_find : Place → Block → Find
-block_find place b = record { tile = tile_at b.addr b.size b.lead place; mapped = not (is_some b.arena) }
+block_find place b = record { tile = view_of_tile b.addr b.size b.lead place; mapped = not (is_some b.arena) }
 
 -- the blocks in a row, the first name being this
 abbrev pub named_from : ℕ → ℕ → List (Option Block) → List Find
@@ -50,7 +50,7 @@ named_finds thread names = named_from thread 0 names.near ++ far_finds thread na
 
 -- a chunk that a thread has in its cache
 abbrev pub cached_find : ℕ → Tile → Find
-cached_find thread t = record { tile = tile_at t.addr t.size 0 (places.Cache thread); mapped = false }
+cached_find thread t = record { tile = view_of_tile t.addr t.size 0 (places.Cache thread); mapped = false }
 
 -- the chunk of an open cache's structure, which may be mapped
 abbrev pub structure_finds : ℕ → Option Block → List Find
@@ -60,7 +60,7 @@ structure_finds thread (Some b) = block_find (places.Structure thread) b ∷ []
 -- all blocks of a thread
 unfoldable pub thread_finds : ℕ → Own → List Find
 thread_finds thread own =
-    named_finds thread own.names ++ map (cached_find thread) (tiles_of own.cache)
+    named_finds thread own.names ++ map (cached_find thread) (cached_tiles own.cache)
     ++ structure_finds thread (structure_of own.cache)
 
 -- those of threads, the first thread having this number
@@ -99,30 +99,30 @@ bins_of a = map (numbered_bin a) (range_with_len 0 127)
 -- ---- what is found where
 
 -- an address, and what is found there
-abbrev pub Found : Type 0
-Found = ℕ × Place
+abbrev pub Placed : Type 0
+Placed = ℕ × Place
 
 -- the chunks of numbered lists
-abbrev pub found_in : (ℕ → Place) → List (ℕ × List ℕ) → List Found
-found_in place lists = flat_map (λ l. map (λ addr. (addr, place l.0)) l.1) lists
+abbrev pub placed_in : (ℕ → Place) → List (ℕ × List ℕ) → List Placed
+placed_in place lists = flat_map (λ l. map (λ addr. (addr, place l.0)) l.1) lists
 
 -- the chunks in the fast bins and the other bins of an arena
-unfoldable pub binned : List (ℕ × List ℕ) → List (ℕ × List ℕ) → List Found
-binned fast bins = found_in places.Fast fast ++ found_in places.Bin bins
+unfoldable pub binned : List (ℕ × List ℕ) → List (ℕ × List ℕ) → List Placed
+binned fast bins = placed_in places.Fast fast ++ placed_in places.Bin bins
 
 -- blocks of threads and trays
-abbrev pub finds_found : List Find → List Found
+abbrev pub finds_found : List Find → List Placed
 finds_found finds = map (λ f. (f.tile.addr, f.tile.place)) finds
 
 -- what is found, by address
-abbrev pub put_found : List Found → Found → List Found
+abbrev pub put_found : List Placed → Placed → List Placed
 put_found found f = insert_entry nat_cmp found f.0 f.1
 
-unfoldable pub found_by_address : List Found → List Found
+unfoldable pub found_by_address : List Placed → List Placed
 found_by_address fs = fold put_found [] fs
 
 -- where a tile of an arena is
-abbrev pub place_in : List Found → Tile → Option Place
+abbrev pub place_in : List Placed → Tile → Option Place
 place_in found t = elim t.kind [
   | kinds.Used ↦ at t.addr found
   | kinds.Free ↦ at t.addr found
@@ -133,12 +133,12 @@ place_in found t = elim t.kind [
 -- it is shown where something is found there
 abbrev pub shown_at : Tile → Option Place → List TileView
 shown_at t None = []
-shown_at t (Some place) = tile_at t.addr t.size 0 place ∷ []
+shown_at t (Some place) = view_of_tile t.addr t.size 0 place ∷ []
 
-abbrev pub shown_tile : List Found → Tile → List TileView
+abbrev pub shown_tile : List Placed → Tile → List TileView
 shown_tile found t = shown_at t (place_in found t)
 
-abbrev pub shown_tiles : List Found → List Tile → List TileView
+abbrev pub shown_tiles : List Placed → List Tile → List TileView
 shown_tiles found tiles = flat_map (shown_tile found) tiles
 
 -- ---- mapped chunks

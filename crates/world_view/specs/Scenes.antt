@@ -11,7 +11,7 @@ use Rattle.own_blocks.specs.declared.own.Own.{Own}
 use Rattle.stats_text.specs.declared.views.TileView.{TileView}
 use Rattle.stats_text.specs.declared.views.DialState.{DialState}
 use Rattle.stats_text.specs.Views.{Arena, CacheList, Shown}
-use Rattle.world_view.specs.Places.{Found, finds_of, fast_lists, fast_of, bins_of, binned, finds_found, found_by_address, shown_tiles, by_address, mapped_finds}
+use Rattle.world_view.specs.Places.{Placed, finds_of, fast_lists, fast_of, bins_of, binned, finds_found, found_by_address, shown_tiles, by_address, mapped_finds}
 
 -- an arena, and the chunks in its fast bins
 pub record ArenaScene : Type 0 where
@@ -37,11 +37,11 @@ pub record AreArenas (scenes : List ArenaScene) (arenas : List Plain) (lists : L
 -- ---- what is found
 
 -- the chunks in the bins of arenas
-abbrev pub all_binned : List ArenaScene → List Found
+abbrev pub all_binned : List ArenaScene → List Placed
 all_binned arenas = flat_map (λ s. binned (fast_of s.fast) (bins_of s.arena)) arenas
 
 -- all that is found, by address: the blocks of threads and trays, and the chunks in bins
-unfoldable pub all_found : Scene → List Found
+unfoldable pub all_found : Scene → List Placed
 all_found s = found_by_address (finds_found (finds_of s.owns s.trays) ++ all_binned s.arenas)
 
 -- ---- the parts of a report
@@ -52,8 +52,8 @@ place_in_list number [] = 0
 place_in_list number (other ∷ others) = if other == number then 0 else place_in_list number others + 1
 
 -- an arena with its fast bins, by what is found, and by the list of arenas
-unfoldable pub arena_with : List Found → List ℕ → List (ℕ × List ℕ) → Plain → Arena
-arena_with found list fast a = record {
+unfoldable pub arena_shown : List Placed → List ℕ → List (ℕ × List ℕ) → Plain → Arena
+arena_shown found list fast a = record {
   number = a.number;
   system = a.system;
   max = a.most;
@@ -65,7 +65,7 @@ arena_with found list fast a = record {
 }
 
 abbrev pub shown_arena : Scene → ArenaScene → Arena
-shown_arena s a = arena_with (all_found s) s.book.list (fast_of a.fast) a.arena
+shown_arena s a = arena_shown (all_found s) s.book.list (fast_of a.fast) a.arena
 
 -- the mapped chunks of threads and trays
 abbrev pub mapped_of : Scene → List TileView

@@ -19,7 +19,7 @@ use Rattle.stats_text.specs.declared.views.Place.{Place}
 use Rattle.stats_text.specs.declared.views.Place.TheVariants.{Live, Structure, Tray}
 use Rattle.stats_text.specs.declared.views.TileView.{TileView}
 use Rattle.stats_text.specs.Totals.{in_use_of, in_use_bytes_of}
-use Rattle.world_view.specs.Places.{tile_at}
+use Rattle.world_view.specs.Places.{view_of_tile}
 use Rattle.world_view.specs.Scenes.{ArenaScene, Scene, shown_arena, mapped_of}
 
 -- ---- a whole scene
@@ -78,7 +78,7 @@ pub record ShowsArena (s : Scene) (a : ArenaScene) : Type 0 where
 
 -- a block is shown with its place, where it is mapped
 abbrev pub ShowsMapped : Scene → Block → Place → Type 0
-ShowsMapped s b place = b.arena ≡ None → Contains (mapped_of s) (tile_at b.addr b.size b.lead place)
+ShowsMapped s b place = b.arena ≡ None → Contains (mapped_of s) (view_of_tile b.addr b.size b.lead place)
 
 -- so are the arenas and all mapped chunks: those with names, the structures of caches, and those in trays
 pub record ShowsAll (s : Scene) : Type 0 where

@@ -4,7 +4,7 @@
 ghost use Rattle.std.specs.Prelude.{◌≡◌, ◌<◌, ◌≤◌, ◌*◌, ◌^◌, ◌++◌, length, map, fold, IfOk, OnOk};
 ghost use Rattle.stats_text.specs.Totals.{AreWithinSystem, idle_bytes_of, system_bytes_of};
 ghost use Rattle.world_view.specs.Places.{binned, bins_of, finds_found, put_found, found_by_address};
-ghost use Rattle.world_view.specs.Scenes.{arena_with, place_in_list};
+ghost use Rattle.world_view.specs.Scenes.{arena_shown, place_in_list};
 ghost use Rattle.world_view.specs.Rows.{fast_at, binned_from, arenas_from, plains_of};
 
 use crate::finds::Find;
@@ -85,7 +85,7 @@ fn all_found(
 }
 
 /// The arena at an index.
-#[tactic(auto, unfolding(crate::specs::Scenes::arena_with))]
+#[tactic(auto, unfolding(crate::specs::Scenes::arena_shown))]
 fn arena_view(
     alloc: Global,
     found: &BTreeMap<u64, Place>,
@@ -96,7 +96,7 @@ fn arena_view(
 ) -> Result<ArenaView, NoMemory>
     requires index { index < 64 }
     requires list { length list.now ≤ 64 }
-    ensures shown { IfOk result (λ a. a ≡ arena_with found.now.entries list.now
+    ensures shown { IfOk result (λ a. a ≡ arena_shown found.now.entries list.now
         (fast_at (map (λ l. l.items) lists.now) index) ground.now.arena) }
     ensures idle { IfOk result (λ a. idle_bytes_of a.tiles ≤ a.system) }
     ensures fits { IfOk result (λ a. a.system ≤ 2 ^ 32) }

@@ -1,9 +1,9 @@
 //! The blocks of threads and trays, each with the place where it is found.
 
 ghost use Rattle.std.specs.Prelude.{◌≡◌, ◌≤◌, ◌++◌, length, map, not, is_some, IfOk, OnOk};
-ghost use Rattle.thread_cache.specs.Caches.{tiles_of, structure_of};
+ghost use Rattle.thread_cache.specs.Caches.{cached_tiles, structure_of};
 ghost use Rattle.malloc_calls.specs.Threads.{own_of, names_of};
-ghost use Rattle.world_view.specs.Places.{tile_at, block_find, named_from, far_finds, cached_find, structure_finds, thread_finds, threads_finds, tray_find, finds_of};
+ghost use Rattle.world_view.specs.Places.{view_of_tile, block_find, named_from, far_finds, cached_find, structure_finds, thread_finds, threads_finds, tray_find, finds_of};
 
 use address_space::Kernel;
 use chunk_tags::{Addr, Block, NoMemory, Size};
@@ -21,7 +21,7 @@ pub struct Find {
 
 /// A chunk at a place.
 pub fn tile(addr: Addr, size: Size, lead: u64, place: Place) -> TileView
-    ensures { result ≡ tile_at addr size lead place }
+    ensures { result ≡ view_of_tile addr size lead place }
 {
     TileView {
         addr,
@@ -90,7 +90,7 @@ fn append_cached<K: Kernel>(
     thread: &Thread<K>,
 ) -> Result<(), NoMemory>
     ensures { OnOk result (finds.new.items
-        ≡ finds.old.items ++ map (cached_find number) (tiles_of (own_of thread.now).cache)) }
+        ≡ finds.old.items ++ map (cached_find number) (cached_tiles (own_of thread.now).cache)) }
 {
     let cached = thread.cache().tiles(alloc)?;
     for chunk in &cached {

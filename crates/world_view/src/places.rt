@@ -3,7 +3,7 @@
 ghost use Rattle.std.specs.Prelude.{◌≡◌, ◌<◌, ◌+◌, ◌*◌, [], map, fold, slice_index_or, IfOk, OnOk};
 ghost use Rattle.stats_text.specs.Views.{lists_of};
 ghost use Rattle.stats_text.specs.declared.views.Place.TheVariants as places;
-ghost use Rattle.world_view.specs.Places.{bins_of, found_in, put_found, place_in, shown_tiles, finds_found};
+ghost use Rattle.world_view.specs.Places.{bins_of, placed_in, put_found, place_in, shown_tiles, finds_found};
 ghost use Rattle.world_view.specs.Rows.{fast_at};
 
 use crate::finds::{Find, tile};
@@ -75,7 +75,7 @@ fn put_list(found: &mut BTreeMap<u64, Place>, addrs: &[Addr], place: Place) -> R
 
 /// Puts the chunks of fast bins.
 pub fn put_fast(found: &mut BTreeMap<u64, Place>, bins: &[(u8, Vec<Addr>)]) -> Result<(), NoMemory>
-    ensures { OnOk result (found.new.entries ≡ fold put_found found.old.entries (found_in places.Fast (lists_of bins.now))) }
+    ensures { OnOk result (found.new.entries ≡ fold put_found found.old.entries (placed_in places.Fast (lists_of bins.now))) }
 {
     for bin in bins {
         put_list(found, bin.1.as_slice(), Place::Fast { bin: bin.0 })?;
@@ -85,7 +85,7 @@ pub fn put_fast(found: &mut BTreeMap<u64, Place>, bins: &[(u8, Vec<Addr>)]) -> R
 
 /// Puts the chunks of other bins.
 pub fn put_bins(found: &mut BTreeMap<u64, Place>, bins: &[(u8, Vec<Addr>)]) -> Result<(), NoMemory>
-    ensures { OnOk result (found.new.entries ≡ fold put_found found.old.entries (found_in places.Bin (lists_of bins.now))) }
+    ensures { OnOk result (found.new.entries ≡ fold put_found found.old.entries (placed_in places.Bin (lists_of bins.now))) }
 {
     for bin in bins {
         put_list(found, bin.1.as_slice(), Place::Bin { bin: bin.0 })?;

@@ -2,7 +2,7 @@ use Rattle.std.proofs.Common.{Some, refl, sym, ap, ◌∙◌, subst}
 use Rattle.std.specs.Option.{IsSome}
 use Rattle.chunk_tags.specs.declared.tiles.Chunk.{Chunk}
 use Rattle.chunk_tags.specs.Tiles.{tile_at}
-use Rattle.arena_ground.specs.Grounds.{chunk_at}
+use Rattle.arena_ground.specs.Grounds.{tile_chunk}
 use Rattle.arena_ground.proofs.Bridges.{chunk_here}
 use Rattle.arena_ground.proofs.Sorting.{chunk_found}
 use Rattle.arena_ground.proofs.steps.best.Goals as goal
@@ -15,5 +15,5 @@ chunk_of-requires c =
 pub returns-in-Some : goal.returns-in-Some
 returns-in-Some c =
     let f = chunk_found _ _ c.in-Some.ensures in
-    ap (λ (d : Chunk). Some d) (c.chunk_of.ensures ∙ (ap (chunk_at c.args.tiles.now.tiles) (sym f.at) ∙ chunk_here c.args.tiles.now.tiles f.chunk (c.requires.free f.chunk f.is)))
+    ap (λ (d : Chunk). Some d) (c.chunk_of.ensures ∙ (ap (tile_chunk c.args.tiles.now.tiles) (sym f.at) ∙ chunk_here c.args.tiles.now.tiles f.chunk (c.requires.free f.chunk f.is)))
     ∙ sym f.is

@@ -1,13 +1,13 @@
 use lib.Count.{ones}
 use Rattle.std.proofs.Common.{refl}
-use Rattle.trace_text.specs.Numbers.{number_of}
+use Rattle.trace_text.specs.Numbers.{numeral_value}
 use Rattle.command_words.specs.Asked.{are_taken}
 use Rattle.command_words.specs.Options.{setting_named}
 use Rattle.command_words.specs.Parts.{parts_from}
 use Rattle.text_tests.proofs.word_examples.words_are_refused.Goals as goal
 
 pub returns : goal.returns
-unfolding ones number_of are_taken setting_named parts_from
+unfolding ones numeral_value are_taken setting_named parts_from
 returns c = record {
   no_option = refl;
   empty = refl;

@@ -1,7 +1,7 @@
 use Rattle.std.proofs.Common.{◌≡◌, map, take}
 use Rattle.std.specs.List.{flat_map}
-use Rattle.thread_cache.specs.Caches.{tile_of}
+use Rattle.thread_cache.specs.Caches.{block_tile}
 use Rattle.thread_cache.proofs.open.OpenCache.tiles.Given as goal
 
 abbrev pub invariant-loop-list : goal.invariant-loop-list
-invariant-loop-list l = l.tiles.items ≡ map tile_of (flat_map (λ blocks. blocks) (map (λ s. s.blocks) (take l.list-index l.list-items)))
+invariant-loop-list l = l.tiles.items ≡ map block_tile (flat_map (λ blocks. blocks) (map (λ s. s.blocks) (take l.list-index l.list-items)))
