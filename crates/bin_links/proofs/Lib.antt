@@ -1,4 +1,5 @@
 pub mod ListLaws
+mod CodeLaws
 mod NodeLinks
 mod Paths
 mod Reading

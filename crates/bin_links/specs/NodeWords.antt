@@ -5,17 +5,27 @@ use Rattle.part_words.specs.Extents.{Extent}
 use Rattle.part_words.specs.Parts.{word_at, extent_of}
 use Rattle.bin_links.specs.Lists.{bin_count, Linked}
 use Rattle.bin_links.specs.Rings.{lists_of, Spells}
+use Rattle.bin_links.specs.Codes.{node_of}
 use Rattle.bin_links.specs.declared.nodes.Links.{Links}
+use Rattle.bin_links.specs.declared.nodes.LinkCodes.{LinkCodes}
 use Rattle.bin_links.specs.declared.nodes.Nodes.{Nodes}
 
 -- links that lead nowhere: what a word is before it is written
-abbrev pub no_links : Links
-no_links = record { fd = 0; bk = 0 }
+abbrev pub no_codes : LinkCodes
+no_codes = record { fd = 0; bk = 0 }
+
+-- the links of a node as they are kept
+unfoldable pub codes_at : Nodes → ℕ → LinkCodes
+codes_at nodes n =
+    if nat_lt n bin_count then slice_index_or nodes.own.items n no_codes else word_at nodes.words no_codes n
+
+-- the node of a code
+abbrev pub node_in : Nodes → ℕ → ℕ
+node_in nodes code = node_of nodes.base nodes.width code
 
 -- the links of a node
-unfoldable pub links_at : Nodes → ℕ → Links
-links_at nodes n =
-    if nat_lt n bin_count then slice_index_or nodes.own.items n no_links else word_at nodes.words no_links n
+abbrev pub links_at : Nodes → ℕ → Links
+links_at nodes n = record { fd = node_in nodes (codes_at nodes n).fd; bk = node_in nodes (codes_at nodes n).bk }
 
 abbrev pub ahead : Nodes → ℕ → ℕ
 ahead nodes n = (links_at nodes n).fd
@@ -28,9 +38,11 @@ abbrev pub extent : Nodes → Extent
 extent nodes = extent_of nodes.words
 
 -- nodes with other links at one node
-pub record Wrote (old new : Nodes) (node : ℕ) (l : Links) : Type 0 where
-  pub here : links_at new node ≡ l
-  pub others : (n : ℕ) → n ≢ node → links_at new n ≡ links_at old n
+pub record Wrote (old new : Nodes) (node : ℕ) (c : LinkCodes) : Type 0 where
+  pub here : codes_at new node ≡ c
+  pub others : (n : ℕ) → n ≢ node → codes_at new n ≡ codes_at old n
+  pub base : new.base ≡ old.base
+  pub width : new.width ≡ old.width
 
 -- each bin's node leads to itself
 pub record IsFresh (nodes : Nodes) : Type 0 where

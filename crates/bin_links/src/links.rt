@@ -144,8 +144,8 @@ impl LinkWords {
         self.nodes.skip(at.0);
     }
 
-    /// Opens the link words of a range. Nothing changes where memory is short, which is so only where there is something
-    /// to open.
+    /// Opens the link words of a range. Nothing changes where memory is short, or where links of 32 bits don't reach the
+    /// range, as they do in each window. Either is so only where there is something to open.
     pub fn open(&mut self, alloc: Global, at: Addr, len: u64) -> Result<(), NoMemory>
         requires { IsWithinPart self.old.extent at len }
         ensures lists { self.new.lists ≡ self.old.lists }

@@ -2,6 +2,8 @@
 //! the address of a chunk.
 
 ghost use Rattle.std.specs.Prelude.{◌≡◌, ℕ, ◌^◌, ◌<◌, ◌≤◌, vec_len};
+ghost use Rattle.part_words.specs.Parts.{extent_of};
+ghost use Rattle.bin_links.specs.Codes.{AreCoded};
 
 use part_words::Words;
 use std::alloc::{AllocError, Global};
@@ -15,24 +17,43 @@ pub struct Links {
     pub bk: u64,
 }
 
+/// Links as they are kept: the codes of two nodes.
+#[derive(Clone, Copy, Debug)]
+pub struct LinkCodes {
+    pub fd: u32,
+    pub bk: u32,
+}
+
 /// How many bins there are, and the first number that isn't a bin's own node.
 pub const BINS: u64 = 127;
 
+/// The first code that counts from where the second part begins, and how many such codes there are.
+const FAR: u64 = 0x8000_0000;
+
+/// How many words from the beginning of the first part on have a code below `FAR`.
+const NEAR_WORDS: u64 = FAR - BINS;
+
 /// The links of each node: those of the bins' own nodes, and those of chunks in words by address (this project's own
-/// layout; glibc keeps the latter in the chunks themselves).
+/// layout; glibc keeps the latter in the chunks themselves). A node is kept as a code of 32 bits, so that a chunk's links
+/// take 8 bytes: a bin's own node is its own code, and another code is the number of a chunk's word, counted from where
+/// the first part begins or, from `FAR` on, from where the second one does.
 #[derive(Debug, Drop)]
 pub struct Nodes {
-    own: Vec<Links>,
-    words: Words<Links>,
+    own: Vec<LinkCodes>,
+    base: u64,
+    /// The words from the beginning of one part to that of the next.
+    width: u64,
+    words: Words<LinkCodes>,
     ghost whole: { vec_len own ≡ 127 },
+    ghost coded: { AreCoded base width (extent_of words) },
 }
 
 impl Nodes {
-    ghost use Rattle.std.specs.Prelude.{◌≢◌, OnOk, OnErr, IfOk};
+    ghost use Rattle.std.specs.Prelude.{◌≢◌, true, false, OnOk, OnErr, IfOk};
     ghost use Rattle.part_words.specs.Extents.{IsWithinPart, extended};
     ghost use Rattle.bin_links.specs.Lists.{bin_count, no_extent};
     ghost use Rattle.bin_links.specs.Rings.{IsNode, Redirects, Skips, Splices};
-    ghost use Rattle.bin_links.specs.NodeWords.{links_at, ahead, back, extent, Wrote, IsFresh};
+    ghost use Rattle.bin_links.specs.NodeWords.{codes_at, links_at, ahead, back, extent, node_in, Wrote, IsFresh};
 
     /// Each bin's node leads to itself.
     pub fn new(alloc: Global, base: u64, stride: u64) -> Result<Nodes, AllocError>
@@ -41,11 +62,13 @@ impl Nodes {
         ensures extent { IfOk result (λ nodes. extent nodes ≡ no_extent base stride) }
     {
         let mut own = Vec::with_capacity(alloc, BINS as usize)?;
-        for bin in 0..BINS {
-            own.push(Links { fd: bin, bk: bin })?;
+        for bin in 0..BINS as u32 {
+            own.push(LinkCodes { fd: bin, bk: bin })?;
         }
         Ok(Nodes {
             own,
+            base,
+            width: stride / 16,
             words: Words::new(alloc, base, stride),
         })
     }
@@ -55,6 +78,18 @@ impl Nodes {
         requires { IsNode (extent self.now) node }
         ensures { result ≡ links_at self.now node }
     {
+        let codes = self.codes(node);
+        Links {
+            fd: self.node_of(codes.fd),
+            bk: self.node_of(codes.bk),
+        }
+    }
+
+    /// The links of a node as they are kept.
+    fn codes(&self, node: u64) -> LinkCodes
+        requires { IsNode (extent self.now) node }
+        ensures { result ≡ codes_at self.now node }
+    {
         if node < BINS {
             self.own[node as usize]
         } else {
@@ -62,39 +97,70 @@ impl Nodes {
         }
     }
 
-    /// Writes the links of a node.
-    fn put(&mut self, node: u64, links: Links)
-        requires { IsNode (extent self.old) node }
-        ensures links { Wrote self.old self.new node links }
-        ensures extent { extent self.new ≡ extent self.old }
+    /// The node of a code.
+    fn node_of(&self, code: u32) -> u64
+        ensures { result ≡ node_in self.now code }
     {
-        if node < BINS {
-            self.own[node as usize] = links;
+        let code = u64::from(code);
+        if code < BINS {
+            code
+        } else if code < FAR {
+            self.base.wrapping_add(16 * (code - BINS))
         } else {
-            self.words.set(node, links);
+            let word = self.width.wrapping_add(code - FAR);
+            self.base.wrapping_add(word.wrapping_mul(16))
         }
     }
 
-    /// Leads from a node forward to another one.
-    fn set_ahead(&mut self, node: u64, to: u64)
+    /// The code of a node.
+    fn code_of(&self, node: u64) -> u32
+        requires { IsNode (extent self.now) node }
+        ensures { node_in self.now result ≡ node }
+    {
+        if node < BINS {
+            return node as u32;
+        }
+        let word = (node - self.base) / 16;
+        if word < NEAR_WORDS {
+            (word + BINS) as u32
+        } else {
+            (word - self.width + FAR) as u32
+        }
+    }
+
+    /// Writes the links of a node.
+    fn put(&mut self, node: u64, codes: LinkCodes)
         requires { IsNode (extent self.old) node }
-        ensures ahead { Redirects (ahead self.old) (ahead self.new) node to }
+        ensures links { Wrote self.old self.new node codes }
+        ensures extent { extent self.new ≡ extent self.old }
+    {
+        if node < BINS {
+            self.own[node as usize] = codes;
+        } else {
+            self.words.set(node, codes);
+        }
+    }
+
+    /// Leads from a node forward to that of a code.
+    fn set_ahead(&mut self, node: u64, to: u32)
+        requires { IsNode (extent self.old) node }
+        ensures ahead { Redirects (ahead self.old) (ahead self.new) node (node_in self.old to) }
         ensures back { (n : ℕ) → back self.new n ≡ back self.old n }
         ensures extent { extent self.new ≡ extent self.old }
     {
-        let bk = self.links(node).bk;
-        self.put(node, Links { fd: to, bk });
+        let bk = self.codes(node).bk;
+        self.put(node, LinkCodes { fd: to, bk });
     }
 
-    /// Leads from a node back to another one.
-    fn set_back(&mut self, node: u64, to: u64)
+    /// Leads from a node back to that of a code.
+    fn set_back(&mut self, node: u64, to: u32)
         requires { IsNode (extent self.old) node }
         ensures ahead { (n : ℕ) → ahead self.new n ≡ ahead self.old n }
-        ensures back { Redirects (back self.old) (back self.new) node to }
+        ensures back { Redirects (back self.old) (back self.new) node (node_in self.old to) }
         ensures extent { extent self.new ≡ extent self.old }
     {
-        let fd = self.links(node).fd;
-        self.put(node, Links { fd, bk: to });
+        let fd = self.codes(node).fd;
+        self.put(node, LinkCodes { fd, bk: to });
     }
 
     /// A node's neighbours lead past it (the end of glibc's `unlink_chunk`).
@@ -106,9 +172,11 @@ impl Nodes {
             (ahead self.new) (back self.new) node }
         ensures extent { extent self.new ≡ extent self.old }
     {
-        let at = self.links(node);
-        self.set_ahead(at.bk, at.fd);
-        self.set_back(at.fd, at.bk);
+        let at = self.codes(node);
+        let before = self.node_of(at.bk);
+        let behind = self.node_of(at.fd);
+        self.set_ahead(before, at.fd);
+        self.set_back(behind, at.bk);
     }
 
     /// A node comes to stand behind another one (the end of an insertion in glibc's `_int_free` and `_int_malloc`).
@@ -123,19 +191,21 @@ impl Nodes {
         ensures fits { node < 2 ^ 64 }
         ensures extent { extent self.new ≡ extent self.old }
     {
-        let behind = self.links(after).fd;
-        self.put(
-            node,
-            Links {
-                fd: behind,
-                bk: after,
-            },
-        );
-        self.set_ahead(after, node);
-        self.set_back(behind, node);
+        let behind = self.codes(after).fd;
+        let behind_node = self.node_of(behind);
+        let own = self.code_of(node);
+        let before = self.code_of(after);
+        let codes = LinkCodes {
+            fd: behind,
+            bk: before,
+        };
+        self.put(node, codes);
+        self.set_ahead(after, own);
+        self.set_back(behind_node, own);
     }
 
-    /// Opens the link words of a range; no link changes. It is refused only where there is something to open.
+    /// Opens the link words of a range; no link changes. It is refused only where there is something to open: where
+    /// memory is short, or where no code is left for a word. No window is longer than the codes reach.
     pub fn open(&mut self, alloc: Global, at: u64, len: u64) -> Result<(), AllocError>
         requires { IsWithinPart (extent self.old) at len }
         ensures links { (n : ℕ) → links_at self.new n ≡ links_at self.old n }
@@ -143,6 +213,28 @@ impl Nodes {
         ensures err { OnErr result (extent self.new ≡ extent self.old) }
         ensures full { OnErr result (extended (extent self.old) at len ≢ extent self.old) }
     {
-        self.words.open(alloc, at, len, Links { fd: 0, bk: 0 })
+        if self.has_codes(at, len) {
+            self.words.open(alloc, at, len, LinkCodes { fd: 0, bk: 0 })
+        } else {
+            Err(AllocError)
+        }
+    }
+
+    /// Whether there are codes for the words of a range's part, up to the end of the range.
+    fn has_codes(&self, at: u64, len: u64) -> bool
+        requires { IsWithinPart (extent self.now) at len }
+        ensures room { result ≡ true
+            → AreCoded self.now.base self.now.width (extended (extent self.now) at len) }
+        ensures none { result ≡ false → extended (extent self.now) at len ≢ extent self.now }
+    {
+        let word = (at - self.base) / 16;
+        let end = word + len / 16;
+        if end <= NEAR_WORDS {
+            return true;
+        }
+        if self.width <= word && end - self.width <= FAR {
+            return true;
+        }
+        len == 0 && word % self.width == 0
     }
 }

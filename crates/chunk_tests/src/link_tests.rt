@@ -20,3 +20,24 @@ fn links_of_two_chunks(rt: HostRuntime) -> Result<(), Fail> {
     assert!(rt; links.is_empty(2));
     Ok(())
 }
+
+/// Where main's two parts begin.
+const BREAK: u64 = 0x5555_5555_9000;
+
+const PIECES: u64 = 0x5a00_0000_0000;
+
+#[test]
+fn links_from_part_to_part(rt: HostRuntime) -> Result<(), Fail> {
+    let mut links = LinkWords::new(rt.alloc(), BREAK, PIECES - BREAK)?;
+    links.open(rt.alloc(), Addr(BREAK), 64)?;
+    links.open(rt.alloc(), Addr(PIECES), 64)?;
+    links.push_front(1, Addr(BREAK + 32));
+    links.push_front(1, Addr(PIECES + 32));
+    assert_eq!(rt; links.first(1), Some(Addr(PIECES + 32)));
+    assert_eq!(rt; links.next(Addr(PIECES + 32)), Some(Addr(BREAK + 32)));
+    assert_eq!(rt; links.before(Addr(BREAK + 32)), Some(Addr(PIECES + 32)));
+    links.unlink(Addr(BREAK + 32));
+    assert!(rt; links.is_only(1));
+    assert_eq!(rt; links.last(1), Some(Addr(PIECES + 32)));
+    Ok(())
+}
