@@ -1,5 +1,3 @@
-pub mod CountLaws
-pub mod Digits
+pub mod ArenaRooms
 pub mod ListOrder
-pub mod Rooms
 pub mod Sums

@@ -1,7 +1,5 @@
-pub mod Appends
+pub use Rattle.record_lines.specs.Appends
 pub mod Views
-pub mod Words
-pub mod Records
 pub mod Report
 pub mod Totals
 pub mod Summary

@@ -4,9 +4,9 @@ use Rattle.std.specs.List.{flat_map}
 use Rattle.stats_text.specs.declared.views.Place.{Place}
 use Rattle.stats_text.specs.declared.views.Place.TheVariants.{Live, Cache, Structure, Tray, Fast, Bin, Top, Fence}
 use Rattle.stats_text.specs.declared.views.TileView.{TileView}
-use Rattle.stats_text.specs.declared.views.DialState.{DialState}
+use Rattle.stats_text.specs.declared.views.DialsView.{DialsView}
 use Rattle.stats_text.specs.Views.{Arena, CacheList, Shown}
-use Rattle.stats_text.specs.Words.{address, addresses, block_text}
+use Rattle.record_lines.specs.Words.{address, addresses, block_text}
 
 -- a number, or a dash where there is none
 unfoldable pub number_or_dash : Option ℕ → List ℕ
@@ -113,7 +113,7 @@ book_line free next limit = codes "book free " ++ numbers_or_dash free
     ++ codes " limit " ++ decimal limit ++ codes "\n"
 
 -- the thresholds, and the mapped chunks with their bytes
-unfoldable pub dials_line : DialState → List ℕ
+unfoldable pub dials_line : DialsView → List ℕ
 dials_line d = codes "dials threshold " ++ decimal d.mmap_threshold
     ++ codes " trim " ++ decimal d.trim_threshold
     ++ codes " mapped " ++ decimal d.mapped

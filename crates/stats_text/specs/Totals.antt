@@ -4,9 +4,9 @@ use Rattle.std.specs.List.{flat_map}
 use Rattle.stats_text.specs.declared.views.Place.{Place}
 use Rattle.stats_text.specs.declared.views.Place.TheVariants.{Live, Cache, Structure, Tray, Fast, Bin, Top, Fence}
 use Rattle.stats_text.specs.declared.views.TileView.{TileView}
-use Rattle.stats_text.specs.declared.views.DialState.{DialState}
+use Rattle.stats_text.specs.declared.views.DialsView.{DialsView}
 use Rattle.stats_text.specs.Views.{Arena, Shown}
-use Rattle.stats_text.specs.Words.{in_ten_places}
+use Rattle.record_lines.specs.Words.{in_ten_places}
 
 -- top, fast and binned chunks aren't in use
 abbrev pub is_idle_place : Place → Bool
@@ -84,12 +84,12 @@ unfoldable pub all_arena_totals : List Arena → List ℕ
 all_arena_totals arenas = flat_map arena_totals arenas
 
 -- the most chunks and bytes that were mapped
-unfoldable pub mapped_maxima : DialState → List ℕ
+unfoldable pub mapped_maxima : DialsView → List ℕ
 mapped_maxima d = total_line (codes "max mmap regions = ") d.max_mapped
     ++ total_line (codes "max mmap bytes   = ") d.max_bytes
 
 -- the totals, and the maxima
-unfoldable pub totals_lines : ℕ → ℕ → DialState → List ℕ
+unfoldable pub totals_lines : ℕ → ℕ → DialsView → List ℕ
 totals_lines system used d = codes "Total (incl. mmap):\n" ++ bytes_lines system used ++ mapped_maxima d
 
 -- the five last lines: all arenas and the mapped chunks together, and the maxima

@@ -2,7 +2,7 @@
 use Rattle.std.specs.Prelude.{ℕ, Option, List, map}
 use Rattle.std.specs.Global.{Vec}
 use Rattle.stats_text.specs.declared.views.TileView.{TileView}
-use Rattle.stats_text.specs.declared.views.DialState.{DialState}
+use Rattle.stats_text.specs.declared.views.DialsView.{DialsView}
 
 -- numbered lists, without where they lie in memory
 abbrev pub lists_of : List (ℕ × Vec ℕ) → List (ℕ × List ℕ)
@@ -34,4 +34,4 @@ pub record Shown : Type 0 where
   pub free : List ℕ
   pub next : Option ℕ
   pub limit : ℕ
-  pub dials : DialState
+  pub dials : DialsView

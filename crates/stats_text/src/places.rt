@@ -3,13 +3,13 @@
 ghost use Rattle.std.specs.Prelude.{◌≡◌, ◌++◌, codes, OnOk, OnErr};
 ghost use Rattle.stats_text.specs.Views.{lists_of};
 ghost use Rattle.stats_text.specs.Report.{address_or_dash, place_text, tile_line, tile_lines, mapped_line, mapped_lines, numbered_list, bin_line, bin_lines, arena_extent, arena_line, arena_section, arena_sections, cache_line, cache_lines};
-ghost use Rattle.stats_text.specs.Appends.{LacksRoom, KeepsText};
+ghost use Rattle.record_lines.specs.Appends.{LacksRoom, KeepsText};
 
 use crate::views::{ArenaView, CacheView, Place, TileView};
-use crate::words::{
+use chunk_tags::{Addr, NoMemory};
+use record_lines::{
     push_address, push_addresses, push_block, push_number, push_numbered, push_text,
 };
-use chunk_tags::{Addr, NoMemory};
 
 /// Appends a chunk's user address, or a dash where there is none.
 #[tactic(auto, unfolding(crate::specs::Report::address_or_dash))]

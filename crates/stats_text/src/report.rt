@@ -2,12 +2,12 @@
 
 ghost use Rattle.std.specs.Prelude.{◌≡◌, ◌++◌, OnOk, OnErr, IfOk};
 ghost use Rattle.stats_text.specs.Report.{number_or_dash, numbers_or_dash, comma_numbers, thread_line, thread_lines, book_line, dials_line, state_lines, places_of};
-ghost use Rattle.stats_text.specs.Appends.{LacksRoom, KeepsText};
+ghost use Rattle.record_lines.specs.Appends.{LacksRoom, KeepsText};
 
 use crate::places::{push_arenas, push_caches, push_mapped_chunks};
-use crate::views::{DialState, Snapshot};
-use crate::words::{push_number, push_numbered, push_text};
+use crate::views::{DialsView, Snapshot};
 use chunk_tags::NoMemory;
+use record_lines::{push_number, push_numbered, push_text};
 use std::alloc::Global;
 
 /// Appends a number, or a dash where there is none.
@@ -95,7 +95,7 @@ fn push_book(out: &mut Vec<u8>, free: &[u8], next: Option<u8>, limit: u32) -> Re
 
 /// Appends the line of the dials.
 #[tactic(auto, unfolding(crate::specs::Report::dials_line))]
-fn push_dials(out: &mut Vec<u8>, dials: &DialState) -> Result<(), NoMemory>
+fn push_dials(out: &mut Vec<u8>, dials: &DialsView) -> Result<(), NoMemory>
     ensures ok { OnOk result (out.new.items ≡ out.old.items ++ dials_line dials.now) }
     ensures full { OnErr result (LacksRoom out.old (dials_line dials.now)) }
     ensures kept { KeepsText out.old out.new }

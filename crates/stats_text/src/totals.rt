@@ -2,11 +2,11 @@
 
 ghost use Rattle.std.specs.Prelude.{◌≡◌, ◌≤◌, ◌<◌, ◌+◌, ◌^◌, ◌++◌, ◌==◌, All, filter, ℕ, IsPermutation, OnOk, OnErr, IfOk};
 ghost use Rattle.stats_text.specs.Totals.{HasTotals, AreWithinSystem, is_idle_place, in_use_of, idle_bytes_of, in_use_bytes_of, tile_bytes_of, system_bytes_of, used_bytes_of, total_line, bytes_lines, arena_totals, all_arena_totals, in_list_order, mapped_maxima, totals_lines, totals_of, statistics_of};
-ghost use Rattle.stats_text.specs.Appends.{LacksRoom, KeepsText};
+ghost use Rattle.record_lines.specs.Appends.{LacksRoom, KeepsText};
 
-use crate::views::{ArenaView, DialState, Place, Snapshot, TileView};
-use crate::words::{push_numbered, push_right, push_text};
+use crate::views::{ArenaView, DialsView, Place, Snapshot, TileView};
 use chunk_tags::NoMemory;
+use record_lines::{push_numbered, push_right, push_text};
 use std::alloc::Global;
 
 /// Whether a chunk's bytes aren't in use: top, fast and binned ones.
@@ -149,7 +149,7 @@ fn push_in_list_order(out: &mut Vec<u8>, arenas: &[ArenaView]) -> Result<(), NoM
 
 /// Appends the lines of the most chunks and bytes that were mapped.
 #[tactic(auto, unfolding(crate::specs::Totals::mapped_maxima))]
-fn push_mapped_maxima(out: &mut Vec<u8>, dials: &DialState) -> Result<(), NoMemory>
+fn push_mapped_maxima(out: &mut Vec<u8>, dials: &DialsView) -> Result<(), NoMemory>
     ensures ok { OnOk result (out.new.items ≡ out.old.items ++ mapped_maxima dials.now) }
     ensures full { OnErr result (LacksRoom out.old (mapped_maxima dials.now)) }
     ensures kept { KeepsText out.old out.new }
@@ -160,7 +160,7 @@ fn push_mapped_maxima(out: &mut Vec<u8>, dials: &DialState) -> Result<(), NoMemo
 
 /// Appends the totals, and the most chunks and bytes that were mapped.
 #[tactic(auto, unfolding(crate::specs::Totals::totals_lines))]
-fn push_totals(out: &mut Vec<u8>, system: u64, used: u64, dials: &DialState) -> Result<(), NoMemory>
+fn push_totals(out: &mut Vec<u8>, system: u64, used: u64, dials: &DialsView) -> Result<(), NoMemory>
     ensures ok { OnOk result (out.new.items ≡ out.old.items ++ totals_lines system used dials.now) }
     ensures full { OnErr result (LacksRoom out.old (totals_lines system used dials.now)) }
     ensures kept { KeepsText out.old out.new }

@@ -96,7 +96,7 @@ impl Model for CacheView {
 
 /// The thresholds, and the counts of mapped chunks.
 #[derive(Clone, Copy, Debug, PartialEq, Eq)]
-pub struct DialState {
+pub struct DialsView {
     /// The size from which a chunk is mapped.
     pub mmap_threshold: u64,
     /// The size of top from which it is trimmed.
@@ -129,7 +129,7 @@ pub struct Snapshot {
     /// The most arenas that there may be; 0 while that isn't settled.
     pub limit: u32,
     /// The thresholds and the counts of mapped chunks.
-    pub dials: DialState,
+    pub dials: DialsView,
 }
 
 impl Model for Snapshot {

@@ -1,7 +1,7 @@
 //! Snapshots made by hand, one for each thing that a report shows.
 
 use chunk_tags::{Addr, NoMemory, Size};
-use stats_text::{ArenaView, CacheView, DialState, Place, Snapshot, TileView};
+use stats_text::{ArenaView, CacheView, DialsView, Place, Snapshot, TileView};
 use std::alloc::Global;
 
 /// The addresses of chunks.
@@ -62,7 +62,7 @@ fn empty(alloc: Global) -> Snapshot {
         free: Vec::new(alloc),
         next: None,
         limit: 0,
-        dials: DialState {
+        dials: DialsView {
             mmap_threshold: 131072,
             trim_threshold: 131072,
             mapped: 0,
@@ -153,7 +153,7 @@ pub fn mapped_chunks(alloc: Global) -> Result<Snapshot, NoMemory> {
         .push(tile(0x600000000000, 135168, 0, Place::Tray { tray: 9 }))?;
     s.mapped
         .push(tile(0x600000021ff0, 200720, 4080, live(0, 3)))?;
-    s.dials = DialState {
+    s.dials = DialsView {
         mmap_threshold: 143360,
         trim_threshold: 286720,
         mapped: 2,
@@ -172,7 +172,7 @@ pub fn mapped_structure(alloc: Global) -> Result<Snapshot, NoMemory> {
     ];
     let mut s = one_arena(alloc, arena(alloc, 0, 135168, 0, &tiles)?)?;
     s.mapped.push(tile(0x600000000000, 4096, 0, Place::Structure { thread: 0 }))?;
-    s.dials = DialState {
+    s.dials = DialsView {
         mmap_threshold: 512,
         trim_threshold: 131072,
         mapped: 1,

@@ -4,12 +4,12 @@ use Rattle.std.specs.List.{AllByRecursion, flat_map}
 use Rattle.chunk_tags.specs.declared.block.Block.{Block}
 use Rattle.thread_cache.specs.Caches.{addresses_of}
 use Rattle.fast_bins.specs.PlainBins.{FastState}
-use Rattle.mapped_chunks.specs.declared.plain.DialState as words
+use Rattle.mapped_chunks.specs.declared.plain.DialState.{DialState}
 use Rattle.arena_rules.specs.PlainArena.{Plain}
 use Rattle.arena_choice.specs.Books.{BookValue, arena_of}
 use Rattle.own_blocks.specs.declared.own.Own.{Own}
 use Rattle.stats_text.specs.declared.views.TileView.{TileView}
-use Rattle.stats_text.specs.declared.views.DialState.{DialState}
+use Rattle.stats_text.specs.declared.views.DialsView.{DialsView}
 use Rattle.stats_text.specs.Views.{Arena, CacheList, Shown}
 use Rattle.world_view.specs.Places.{Placed, finds_of, fast_lists, fast_of, bins_of, binned, finds_found, found_by_address, shown_tiles, by_address, mapped_finds}
 
@@ -25,7 +25,7 @@ pub record Scene : Type 0 where
   pub arenas : List ArenaScene
   pub trays : List (ℕ × Block)
   pub book : BookValue
-  pub dials : words.DialState
+  pub dials : DialState
   pub lines : List ℕ
 
 -- these arenas are such, with these lists of fast chunks, ten an arena and one arena after another
@@ -83,7 +83,7 @@ caches_from thread [] = []
 caches_from thread (own ∷ owns) = cache_lists thread 0 (addresses_of own.cache) ++ caches_from (thread + 1) owns
 
 -- the words beside the arenas
-abbrev pub dials_of : words.DialState → DialState
+abbrev pub dials_of : DialState → DialsView
 dials_of d = record {
   mmap_threshold = d.mmap_threshold;
   trim_threshold = d.trim_threshold;

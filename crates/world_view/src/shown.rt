@@ -15,7 +15,8 @@ use arena_core::Arena;
 use arena_ground::Ground;
 use chunk_tags::{Addr, Block, NoMemory};
 use malloc_calls::Thread;
-use stats_text::{CacheView, DialState, Snapshot, TileView};
+use mapped_chunks::DialState;
+use stats_text::{CacheView, DialsView, Snapshot, TileView};
 use std::alloc::Global;
 use std::collections::BTreeMap;
 
@@ -88,10 +89,10 @@ fn thread_views(alloc: Global, book: &Book, lines: &[u8]) -> Result<Vec<(u8, Opt
 }
 
 /// The words beside the arenas.
-fn dial_view(d: &mapped_chunks::DialState) -> DialState
+fn dial_view(d: &DialState) -> DialsView
     ensures { result ≡ dials_of d.now }
 {
-    DialState {
+    DialsView {
         mmap_threshold: d.mmap_threshold,
         trim_threshold: d.trim_threshold,
         mapped: d.mapped,
@@ -111,7 +112,7 @@ pub fn snapshot<K: Kernel>(
     fast: &[Vec<Addr>],
     trays: &[(u32, Block)],
     book: &Book,
-    dials: &mapped_chunks::DialState,
+    dials: &DialState,
     lines: &[u8],
 ) -> Result<Snapshot, NoMemory>
     requires threads { length threads.now ≤ 64 }

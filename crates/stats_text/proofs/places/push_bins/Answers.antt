@@ -1,5 +1,6 @@
 use Rattle.stats_text.specs.Report.{bin_lines, bin_line}
-use Rattle.stats_text.proofs.Rooms.{when_err, lacks_lists, kept_more}
+use Rattle.record_lines.proofs.Rooms.{when_err, kept_more}
+use Rattle.stats_text.proofs.ArenaRooms.{lacks_lists}
 use Rattle.stats_text.proofs.places.push_bins.Goals as goal
 
 pub returns-in_err-push_bin-clause-full : goal.returns-in_err-push_bin-clause-full

@@ -1,14 +1,14 @@
 use Rattle.std.proofs.Common.{◌≡◌, ℕ, List, map, Option, ap, ◌∙◌}
 use Rattle.malloc_calls.specs.Threads.{own_of}
 use Rattle.stats_text.specs.declared.views.TileView.{TileView}
-use Rattle.stats_text.specs.declared.views.DialState.{DialState}
+use Rattle.stats_text.specs.declared.views.DialsView.{DialsView}
 use Rattle.stats_text.specs.Views.{Arena, CacheList, Shown}
 use Rattle.world_view.specs.Places.{by_address, mapped_finds}
 use Rattle.world_view.specs.Scenes.{Scene, shown_of, shown_arena}
 use Rattle.world_view.proofs.InRows.{arenas_shown}
 use Rattle.world_view.proofs.shown.snapshot.Goals as goal
 
-same_parts : (a b : List Arena) (m n : List TileView) (c d : List CacheList) (t u : List (ℕ × Option ℕ)) (f g : List ℕ) (next last : Option ℕ) (limit most : ℕ) (e h : DialState) →
+same_parts : (a b : List Arena) (m n : List TileView) (c d : List CacheList) (t u : List (ℕ × Option ℕ)) (f g : List ℕ) (next last : Option ℕ) (limit most : ℕ) (e h : DialsView) →
     a ≡ b → m ≡ n → c ≡ d → t ≡ u → f ≡ g → next ≡ last → limit ≡ most → e ≡ h →
     ◌≡◌ {A = Shown} (record { arenas = a; mapped = m; caches = c; threads = t; free = f; next = next; limit = limit; dials = e })
     (record { arenas = b; mapped = n; caches = d; threads = u; free = g; next = last; limit = most; dials = h })

@@ -2,8 +2,8 @@
 
 ghost use Rattle.std.specs.Prelude.{◌≡◌, ◌+◌, ◌-◌, ◌<◌, ◌≤◌, ◌∷◌, ◌++◌, drop, length, codes, OnOk, OnErr, false, decimal};
 ghost use Rattle.std.specs.Fmt.{digit_glyph};
-ghost use Rattle.stats_text.specs.Words.{hex_digits, address, addresses, block_text, blanks, in_ten_places};
-ghost use Rattle.stats_text.specs.Appends.{LacksRoom, KeepsText};
+ghost use Rattle.record_lines.specs.Words.{hex_digits, address, addresses, block_text, blanks, in_ten_places};
+ghost use Rattle.record_lines.specs.Appends.{LacksRoom, KeepsText};
 
 use chunk_tags::{Addr, NoMemory, Size};
 use itoa::{Buffer, write_digits};
@@ -15,7 +15,7 @@ const USER_OFFSET: u64 = 16;
 const BLANKS: &[u8] = b"          ";
 
 /// Appends a text.
-pub(crate) fn push_text(out: &mut Vec<u8>, text: &[u8]) -> Result<(), NoMemory>
+pub fn push_text(out: &mut Vec<u8>, text: &[u8]) -> Result<(), NoMemory>
     ensures ok { OnOk result (out.new.items ≡ out.old.items ++ text.now) }
     ensures full { OnErr result (LacksRoom out.old text.now) }
     ensures kept { KeepsText out.old out.new }
@@ -25,7 +25,7 @@ pub(crate) fn push_text(out: &mut Vec<u8>, text: &[u8]) -> Result<(), NoMemory>
 }
 
 /// Appends a number.
-pub(crate) fn push_number(out: &mut Vec<u8>, n: u64) -> Result<(), NoMemory>
+pub fn push_number(out: &mut Vec<u8>, n: u64) -> Result<(), NoMemory>
     ensures ok { OnOk result (out.new.items ≡ out.old.items ++ decimal n) }
     ensures full { OnErr result (LacksRoom out.old (decimal n)) }
     ensures kept { KeepsText out.old out.new }
@@ -35,7 +35,7 @@ pub(crate) fn push_number(out: &mut Vec<u8>, n: u64) -> Result<(), NoMemory>
 }
 
 /// Appends a word and a number.
-pub(crate) fn push_numbered(out: &mut Vec<u8>, word: &[u8], n: u64) -> Result<(), NoMemory>
+pub fn push_numbered(out: &mut Vec<u8>, word: &[u8], n: u64) -> Result<(), NoMemory>
     ensures ok { OnOk result (out.new.items ≡ out.old.items ++ (word.now ++ decimal n)) }
     ensures full { OnErr result (LacksRoom out.old (word.now ++ decimal n)) }
     ensures kept { KeepsText out.old out.new }
@@ -53,7 +53,7 @@ fn blanks_before(digits: usize) -> &'static [u8]
 
 /// Appends a number at the right of ten places.
 #[tactic(auto, unfolding(crate::specs::Words::in_ten_places))]
-pub(crate) fn push_right(out: &mut Vec<u8>, n: u64) -> Result<(), NoMemory>
+pub fn push_right(out: &mut Vec<u8>, n: u64) -> Result<(), NoMemory>
     ensures ok { OnOk result (out.new.items ≡ out.old.items ++ in_ten_places n) }
     ensures full { OnErr result (LacksRoom out.old (in_ten_places n)) }
     ensures kept { KeepsText out.old out.new }
@@ -151,7 +151,7 @@ pub(crate) fn put_block(text: &mut [u8], end: usize, addr: Addr, size: Size) -> 
 }
 
 /// Appends the user address of the chunk at `at`.
-pub(crate) fn push_address(out: &mut Vec<u8>, at: Addr) -> Result<(), NoMemory>
+pub fn push_address(out: &mut Vec<u8>, at: Addr) -> Result<(), NoMemory>
     ensures ok { OnOk result (out.new.items ≡ out.old.items ++ address at) }
     ensures full { OnErr result (LacksRoom out.old (address at)) }
     ensures kept { KeepsText out.old out.new }
@@ -162,7 +162,7 @@ pub(crate) fn push_address(out: &mut Vec<u8>, at: Addr) -> Result<(), NoMemory>
 }
 
 /// Appends a block: its user address and its size. The bytes are made in a small array and appended at once.
-pub(crate) fn push_block(out: &mut Vec<u8>, addr: Addr, size: Size) -> Result<(), NoMemory>
+pub fn push_block(out: &mut Vec<u8>, addr: Addr, size: Size) -> Result<(), NoMemory>
     ensures ok { OnOk result (out.new.items ≡ out.old.items ++ block_text addr size) }
     ensures full { OnErr result (LacksRoom out.old (block_text addr size)) }
     ensures kept { KeepsText out.old out.new }
@@ -184,7 +184,7 @@ fn push_spaced(out: &mut Vec<u8>, at: Addr) -> Result<(), NoMemory>
 
 /// Appends user addresses, each behind a space.
 #[tactic(auto, unfolding(crate::specs::Words::addresses))]
-pub(crate) fn push_addresses(out: &mut Vec<u8>, ats: &[Addr]) -> Result<(), NoMemory>
+pub fn push_addresses(out: &mut Vec<u8>, ats: &[Addr]) -> Result<(), NoMemory>
     ensures ok { OnOk result (out.new.items ≡ out.old.items ++ addresses ats.now) }
     ensures full { OnErr result (LacksRoom out.old (addresses ats.now)) }
     ensures kept { KeepsText out.old out.new }

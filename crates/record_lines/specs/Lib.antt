@@ -1,0 +1,4 @@
+pub mod Appends
+pub mod Words
+pub mod Records
+pub mod AnswerCounts
