@@ -19,7 +19,7 @@ use Rattle.arena_rules.specs.Growth.{system_asked}
 use Rattle.arena_rules.specs.Release.{consolidated}
 use Rattle.arena_rules.specs.Rules.{Rules, Stop, Need, Flagged, Pops, Owns, Rooms, Deed, Clears, Gathers, Stashes, Draws, behind, asks_flag}
 use Rattle.arena_rules.specs.Search as search
-use Rattle.arena_rules.specs.Search.{looked, rounds, searched}
+use Rattle.arena_rules.specs.Search.{first_steps, looked, rounds, searched}
 use Rattle.arena_rules.specs.Walks.{Walks, here, idled, done, told as walked}
 use Rattle.arena_rules.proofs.Walks.{short_here}
 use Rattle.consolidate_trim.specs.FastHolds.{fast_hold, fast_ways, Empties, FastAnswers, FastDoes}
@@ -28,7 +28,7 @@ use Rattle.consolidate_trim.specs.Outside.{Means, Outside, AreApart}
 use Rattle.search_steps.specs.declared.step.Step.{Step}
 use Rattle.search_steps.specs.declared.step.Step.TheVariants as steps
 use Rattle.search_steps.specs.Ledgers.{Stage, stage, Works, shelf, Near, near_ledger, fast_ledger, full, NearGoes, NearDoes}
-use Rattle.search_steps.specs.Steps.{Steps, step_of, chunks_taken, begun}
+use Rattle.search_steps.specs.Steps.{Steps, step_of, chunks_taken}
 use Rattle.search_steps.proofs.Balance.{works_ok, works_short, loses_from, balances_here}
 use Rattle.search_steps.proofs.Lifting.{works_put, works_empties, shelf_part, fast_part, near_part}
 use Rattle.search_steps.proofs.Looks.{flag_reaches, flag_balances}
@@ -207,23 +207,23 @@ after_begin t nb step = elim step [
   | search.Onward b ↦ rounds 2 t nb b
 ]
 
-pub search_short : {P K : Type 0} (m : Means P K) (t : Tunables) (nb : ℕ) (x y : Stage (Near P)) (space : Space K) (d : NoMemory) (r : Result Found NoMemory) → IsErr r → Steps (near_ledger m.fast) (begun t nb x.arena) x (Err d) y →
+pub search_short : {P K : Type 0} (m : Means P K) (t : Tunables) (nb : ℕ) (x y : Stage (Near P)) (space : Space K) (d : NoMemory) (r : Result Found NoMemory) → IsErr r → Steps (near_ledger m.fast) (first_steps t nb x.arena) x (Err d) y →
     Finds m t (searched t nb x.arena) (stage x.arena (beside_arena x.outside.port x.outside.cache space) x.said) r (stage y.arena (beside_arena y.outside.port y.outside.cache space) y.said)
 search_short m t nb x y space d r is s = short_behind_works (after_begin t nb) d r is (near_full m t space (Err d) s)
 
-pub search_found : {P K : Type 0} (m : Means P K) (t : Tunables) (nb : ℕ) (x y : Stage (Near P)) (space : Space K) (c : Chunk) → Steps (near_ledger m.fast) (begun t nb x.arena) x (Ok (steps.Taken c)) y →
+pub search_found : {P K : Type 0} (m : Means P K) (t : Tunables) (nb : ℕ) (x y : Stage (Near P)) (space : Space K) (c : Chunk) → Steps (near_ledger m.fast) (first_steps t nb x.arena) x (Ok (steps.Taken c)) y →
     Finds m t (searched t nb x.arena) (stage x.arena (beside_arena x.outside.port x.outside.cache space) x.said) (Ok (finds.InArena c)) (stage y.arena (beside_arena y.outside.port y.outside.cache space) y.said)
 search_found m t nb x y space c s =
     let f = passes_behind (after_begin t nb) (steps.Taken c) (near_full m t space (Ok (steps.Taken c)) s) in
     works_ok f.reaches f.balances
 
-search_on : {P K : Type 0} (m : Means P K) (t : Tunables) (nb : ℕ) (x y : Stage (Near P)) (space : Space K) → Steps (near_ledger m.fast) (begun t nb x.arena) x (Ok steps.Onward) y →
+search_on : {P K : Type 0} (m : Means P K) (t : Tunables) (nb : ℕ) (x y : Stage (Near P)) (space : Space K) → Steps (near_ledger m.fast) (first_steps t nb x.arena) x (Ok steps.Onward) y →
     Passes (full m) t (searched t nb x.arena) (stage x.arena (beside_arena x.outside.port x.outside.cache space) x.said) no_chunk (rounds 2 t nb y.arena) (stage y.arena (beside_arena y.outside.port y.outside.cache space) y.said)
 search_on m t nb x y space s = passes_behind (after_begin t nb) steps.Onward (near_full m t space (Ok steps.Onward) s)
 
-pub begin_ready : {P K : Type 0} (m : Means P K) (t : Tunables) (nb : ℕ) (x y : Stage (Near P)) (space : Space K) → IsReady m t (stage x.arena (beside_arena x.outside.port x.outside.cache space) x.said) → Steps (near_ledger m.fast) (begun t nb x.arena) x (Ok steps.Onward) y → IsReady m t (stage y.arena (beside_arena y.outside.port y.outside.cache space) y.said)
+pub begin_ready : {P K : Type 0} (m : Means P K) (t : Tunables) (nb : ℕ) (x y : Stage (Near P)) (space : Space K) → IsReady m t (stage x.arena (beside_arena x.outside.port x.outside.cache space) x.said) → Steps (near_ledger m.fast) (first_steps t nb x.arena) x (Ok steps.Onward) y → IsReady m t (stage y.arena (beside_arena y.outside.port y.outside.cache space) y.said)
 begin_ready m t nb x y space ready s = ready_after t ready (search_on m t nb x y space s)
 
-pub search_goes : {P K : Type 0} (m : Means P K) (t : Tunables) (nb : ℕ) (x y : Stage (Near P)) (space : Space K) (z : Stage (Outside P K)) (r : Result Found NoMemory) → Steps (near_ledger m.fast) (begun t nb x.arena) x (Ok steps.Onward) y →
+pub search_goes : {P K : Type 0} (m : Means P K) (t : Tunables) (nb : ℕ) (x y : Stage (Near P)) (space : Space K) (z : Stage (Outside P K)) (r : Result Found NoMemory) → Steps (near_ledger m.fast) (first_steps t nb x.arena) x (Ok steps.Onward) y →
     Finds m t (rounds 2 t nb y.arena) (stage y.arena (beside_arena y.outside.port y.outside.cache space) y.said) r z → Finds m t (searched t nb x.arena) (stage x.arena (beside_arena x.outside.port x.outside.cache space) x.said) r z
 search_goes m t nb x y space z r s w = works_after r (search_on m t nb x y space s) (λ e. refl) w

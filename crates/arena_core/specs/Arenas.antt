@@ -5,6 +5,7 @@ use Rattle.chunk_tags.specs.declared.tiles.Chunk.{Chunk}
 use Rattle.chunk_tags.specs.declared.tunables.Tunables.{Tunables}
 use Rattle.thread_cache.specs.Caches.{CacheValue}
 use Rattle.address_space.specs.declared.space.Space.{Space}
+use Rattle.mapped_chunks.specs.Mappings.{chunk_of_mapping}
 use Rattle.arena_rules.specs.declared.said.Said.{Said}
 use Rattle.arena_rules.specs.PlainArena.{Plain}
 use Rattle.arena_rules.specs.Rules.{Stop, block_of}
@@ -31,7 +32,7 @@ recorded who act said ended = record { who = who; act = act; said = said; ended 
 
 -- a chunk that is a mapping of its own, in the caller's hand
 abbrev pub mapped_block : Chunk → Block
-mapped_block c = record { addr = c.at; size = c.size; lead = 0; arena = None }
+mapped_block c = chunk_of_mapping c.size c.at
 
 -- what is taken where this was found, in the arena with this number
 abbrev pub take_of : ℕ → Found → Take

@@ -111,7 +111,8 @@ impl<M: Moves> Arena<M> {
             let after = held (M.plain self.new.ground) port.new cache.new space.new
             self.new.journal.items in
             OnErr result
-            (FailsShort (means P.fast P.dials K.port) t.now who (acts.Take nb) before no_chunk after) }
+            (FailsShort (means P.fast P.dials K.port) t.now who
+            (acts.Take nb) before no_chunk after) }
         ensures fits { IfOk result (FitsRequest nb) }
 
         // The journal stays as it was only where it had no room for the entry.

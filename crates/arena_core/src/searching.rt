@@ -41,7 +41,8 @@ fn go_round<M: Moves, K: Kernel, P: FastPort + Dials>(
     requires apart { AreApart P.fast P.dials }
     requires tuned { IsSearchable t.now }
     requires size { IsRequestSize nb }
-    ensures finds { Finds (means P.fast P.dials K.port) t.now (rounds again t.now nb (M.plain g.old))
+    ensures finds { Finds (means P.fast P.dials K.port) t.now
+        (rounds again t.now nb (M.plain g.old))
         (stage (M.plain g.old) (beside_arena port.old cache.old space.old) said.old.items)
         result (stage (M.plain g.new) (beside_arena port.new cache.new space.new) said.new.items) }
     ensures fits { IfOk result (FitsFound nb) }

@@ -4,6 +4,7 @@ ghost use Rattle.std.specs.Prelude.{◌≡◌, ℕ, ◌≤◌, ◌+◌, map, ◌
 ghost use Rattle.chunk_tags.specs.Tunables.{main_limit};
 ghost use Rattle.address_space.specs.Spaces.{main_start, piece_start};
 ghost use Rattle.part_words.specs.Extents.{AreOpen, IsWithinPart};
+ghost use Rattle.bin_links.specs.Lists.{bin_count};
 ghost use Rattle.arena_rules.specs.PlainArena.{bin_at, empty_main, is_main};
 ghost use Rattle.chunk_tags.specs.declared.tiles.Chunk.{Chunk as Piece};
 ghost use Rattle.arena_rules.specs.MainPlaces.{IsPlaced};
@@ -73,7 +74,7 @@ impl Ground {
 
     /// The addresses of the chunks of a bin, its front first.
     pub fn bin(&self, alloc: Global, index: u8) -> Result<Vec<Addr>, NoMemory>
-        requires { index < 127 }
+        requires { index < bin_count }
         ensures { IfOk result (λ v.
             v.items ≡ map (λ (c : Piece). c.at) (bin_at self.now.arena index)) }
     {

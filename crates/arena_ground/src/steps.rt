@@ -89,7 +89,8 @@ pub(crate) fn join(
     requires below { t.now.size + u.now.size < 2 ^ 34 }
     ensures chunk { result ≡ record { at = t.now.addr; size = t.now.size + u.now.size } }
     ensures tiles { tiles.new ≡ record tiles.old {
-      tiles = fused t.now.addr (tile_of TileKind.Used t.now.addr (t.now.size + u.now.size)) tiles.old.tiles;
+      tiles = fused t.now.addr
+          (tile_of TileKind.Used t.now.addr (t.now.size + u.now.size)) tiles.old.tiles;
     } }
     ensures lists { links.new.lists ≡ map (without free) links.old.lists }
     ensures extent { links.new.extent ≡ links.old.extent }
@@ -162,7 +163,8 @@ pub(crate) fn part(tiles: &mut TileWords, c: Chunk, nb: Size) -> Chunk
     ensures rest { result ≡ record { at = c.at + nb; size = c.size - nb } }
     ensures tiles { tiles.new ≡ record tiles.old {
       tiles = swapped c.at
-          (tile_of TileKind.Used c.at nb ∷ tile_of TileKind.Used (c.at + nb) (c.size - nb) ∷ []) tiles.old.tiles;
+          (tile_of TileKind.Used c.at nb ∷ tile_of TileKind.Used (c.at + nb) (c.size - nb) ∷ [])
+          tiles.old.tiles;
     } }
 {
     let t = tiles.tile(c.at);
@@ -181,7 +183,8 @@ pub(crate) fn sort_in(tiles: &TileWords, links: &mut LinkWords, c: Chunk)
     requires high { bin_count ≤ c.at }
     requires listed { 1 ≤ times_listed c.at links.old.lists }
     requires tiles { HaveTiles tiles.now.tiles links.old.lists }
-    requires falling { 1024 ≤ c.size → IsFalling (large_chunks tiles.now.tiles c.size (map (without c.at) links.old.lists)) }
+    requires falling { 1024 ≤ c.size → IsFalling
+        (large_chunks tiles.now.tiles c.size (map (without c.at) links.old.lists)) }
     ensures lists { links.new.lists ≡ sorted_lists tiles.now.tiles c links.old.lists }
     ensures extent { links.new.extent ≡ links.old.extent }
 {
@@ -199,7 +202,8 @@ pub(crate) fn best(tiles: &TileWords, links: &LinkWords, nb: Size) -> Option<Chu
     requires large { 1024 ≤ nb }
     requires tiles { HaveTiles tiles.now.tiles links.now.lists }
     requires falling { IsFalling (large_chunks tiles.now.tiles nb links.now.lists) }
-    requires free { (c : Piece) → best_of nb (large_chunks tiles.now.tiles nb links.now.lists) ≡ Some c
+    requires free { (c : Piece) →
+        best_of nb (large_chunks tiles.now.tiles nb links.now.lists) ≡ Some c
         → tile_at c.at tiles.now.tiles ≡ Some (tile_of TileKind.Free c.at c.size) }
     ensures { result ≡ best_of nb (large_chunks tiles.now.tiles nb links.now.lists) }
 {

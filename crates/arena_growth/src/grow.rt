@@ -68,7 +68,8 @@ fn grow_main<M: Moves, K: Kernel, P: FastPort + Dials>(
     requires tuned { IsSearchable t.now }
     requires size { IsRequestSize nb }
     requires short { has_top_for (M.plain g.old) nb ≡ false }
-    ensures grows { Grows (means P.fast P.dials K.port) t.now (main_grown turns t.now nb (M.plain g.old))
+    ensures grows { Grows (means P.fast P.dials K.port) t.now
+        (main_grown turns t.now nb (M.plain g.old))
         (stage (M.plain g.old) (beside_arena port.old cache.old space.old) said.old.items)
         result (stage (M.plain g.new) (beside_arena port.new cache.new space.new) said.new.items) }
     ensures lacks { let room = word_room M.break_room M.piece_room M.extension_room M.heap_room in

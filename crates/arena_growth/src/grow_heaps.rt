@@ -138,7 +138,8 @@ pub fn grow_other<M: Moves, K: Kernel, P: FastPort + Dials>(
     requires size { IsRequestSize nb }
     requires short { has_top_for (M.plain g.old) nb ≡ false }
     requires allows { tried ≡ false → AllowsMaps P.dials port.old space.old }
-    ensures finds { Finds (means P.fast P.dials K.port) t.now (other_grown t.now nb tried (M.plain g.old))
+    ensures finds { Finds (means P.fast P.dials K.port) t.now
+        (other_grown t.now nb tried (M.plain g.old))
         (stage (M.plain g.old) (beside_arena port.old cache.old space.old) said.old.items)
         result (stage (M.plain g.new) (beside_arena port.new cache.new space.new) said.new.items) }
     ensures fits { IfOk result (FitsFound nb) }

@@ -146,8 +146,8 @@ pub fn ask_piece<M: Moves, K: Kernel>(
     requires some { 0 < len }
     requires pages { len % 4096 ≡ 0 }
     requires sum { len ≤ 2 ^ 63 + 2 ^ 32 }
-    ensures asked { AsksFor K.port (asks.Piece (M.plain g.old).next_piece len) space.old said.old.items
-        result space.new said.new.items }
+    ensures asked { AsksFor K.port (asks.Piece (M.plain g.old).next_piece len)
+        space.old said.old.items result space.new said.new.items }
     ensures room { IfOk result (λ granted. granted ≡ true → M.piece_room g.new len) }
     ensures arena { M.plain g.new ≡ M.plain g.old }
     ensures lacks { OnErr result (IsFull said.new

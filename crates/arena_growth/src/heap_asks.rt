@@ -97,7 +97,8 @@ pub fn ask_extension<M: Moves, K: Kernel>(
     requires pages { growth % 4096 ≡ 0 }
     requires sum { growth ≤ 2 ^ 63 + 2 ^ 32 }
     ensures asked { let a = M.plain g.old in
-        AsksFor K.port (asks.GrowHeap a.number (last_heap a) (last_length a) (last_length a + growth))
+        AsksFor K.port
+        (asks.GrowHeap a.number (last_heap a) (last_length a) (last_length a + growth))
         space.old said.old.items result space.new said.new.items }
     ensures room { IfOk result (λ granted. granted ≡ true → M.extension_room g.new growth) }
     ensures arena { M.plain g.new ≡ M.plain g.old }

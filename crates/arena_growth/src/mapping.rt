@@ -51,7 +51,8 @@ pub fn ask_mapping<K: Kernel, P: FastPort + Dials>(
 /// Reads the size from which a chunk is mapped, and keeps it among the answers.
 fn read_threshold<P: Dials>(port: &mut P, said: &mut Vec<Said>) -> Result<u64, NoMemory>
     ensures told { IfOk result (λ n. said.new.items ≡ said.old.items ++ Said.Dial n ∷ []) }
-    ensures step { IfOk result (λ n. P.dials.step port.old (steps.Reads words.MmapThreshold n) port.new) }
+    ensures step { IfOk result (λ n.
+        P.dials.step port.old (steps.Reads words.MmapThreshold n) port.new) }
     ensures port { OnErr result (port.new ≡ port.old) }
     ensures short { OnErr result (said.new.items ≡ said.old.items) }
     ensures lacks { OnErr result (IsFull said.new) }
@@ -65,7 +66,8 @@ fn read_threshold<P: Dials>(port: &mut P, said: &mut Vec<Said>) -> Result<u64, N
 /// Reads how many mapped chunks there are, and keeps it among the answers.
 fn read_count<P: Dials>(port: &mut P, said: &mut Vec<Said>) -> Result<u64, NoMemory>
     ensures told { IfOk result (λ n. said.new.items ≡ said.old.items ++ Said.Dial n ∷ []) }
-    ensures step { IfOk result (λ n. P.dials.step port.old (steps.Reads words.MappedCount n) port.new) }
+    ensures step { IfOk result (λ n.
+        P.dials.step port.old (steps.Reads words.MappedCount n) port.new) }
     ensures port { OnErr result (port.new ≡ port.old) }
     ensures short { OnErr result (said.new.items ≡ said.old.items) }
     ensures lacks { OnErr result (IsFull said.new) }
@@ -85,7 +87,8 @@ pub fn maps_first<P: FastPort + Dials>(
     said: &mut Vec<Said>,
 ) -> Result<bool, NoMemory>
     requires { AreApart P.fast P.dials }
-    ensures asks { AsksWhether P.fast P.dials t.now nb port.old said.old.items result port.new said.new.items }
+    ensures asks { AsksWhether P.fast P.dials t.now nb port.old said.old.items
+        result port.new said.new.items }
     ensures lacks { OnErr result (IsFull said.new) }
 {
     if nb.0 < read_threshold(port, said)? {

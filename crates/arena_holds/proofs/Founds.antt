@@ -441,8 +441,8 @@ pub resized_back : {H K : Type 0} (m : Means H K) {t : Tunables} {nb : ℕ} {sho
     StopsShort t (ways m k.arena.number) (rules_of t (acts.Resize b.addr b.size nb) k.arena) (beside_arena port cache space) [] k'.arena ss (beside_arena left now later) →
     Spares (full m) (stage k.arena (beside_arena port cache space) []) (one_chunk (chunk_at b.addr b.size)) (chunks_kept (chunk_at b.addr b.size) found) (stage k'.arena (beside_arena left now later) ss) →
     ((d : Chunk) → found ≡ finds.InMapping d → StopsInMapping m t (chunk_at b.addr b.size) nb (stage k.arena (beside_arena port cache space) []) d (stage k'.arena (beside_arena left now later) ss)) →
-    ComesBack shown k.arena.number (chunks_kept (chunk_at b.addr b.size) found) (Some (resizes.block_found k.arena.number b found)) (beside_arena port cache space) (beside_arena left now later)
-    × IsHeld (resizes.block_found k.arena.number b found)
+    ComesBack shown k.arena.number (chunks_kept (chunk_at b.addr b.size) found) (Some (resizes.block_of_resize k.arena.number b found)) (beside_arena port cache space) (beside_arena left now later)
+    × IsHeld (resizes.block_of_resize k.arena.number b found)
 resized_back m {nb = nb} k k' {cache = cache} b (finds.InArena d) shows is_held arena fits stops spares mapped =
     let n : ℕ = k.arena.number in
     let own : 0 < times_used d k'.arena = omega (arith, spares.kept d, fits d, chunk_is n d b arena, cached_is n cache d, once_self d) in

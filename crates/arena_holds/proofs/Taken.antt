@@ -381,7 +381,7 @@ resizes_short {H = H} {K = K} s words {a = a} {nb = nb} {cache = cache} {now = n
           rw r.came record {
             held = stays.1;
             enough = subst (λ (x : Block). (x ≡ b) ⊎ (need_of x.arena nb ≤ x.size)) r.came enough;
-            carries = carries_short s words {act = acts.Resize b.addr b.size nb} k k' (Some b) (Some (resizes.block_found n b r.found)) laws sound well is.number unlocked (handles_resize b nb n own) r.stops stays.0 r.spares;
+            carries = carries_short s words {act = acts.Resize b.addr b.size nb} k k' (Some b) (Some (resizes.block_of_resize n b r.found)) laws sound well is.number unlocked (handles_resize b nb n own) r.stops stays.0 r.spares;
           }
     ]
 

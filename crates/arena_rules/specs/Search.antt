@@ -95,10 +95,13 @@ sorted_in a c =
     then with_front b (small_index_of c.size) c
     else with_bin b (large_index_of c.size) (inserted c (bin_at b (large_index_of c.size)))
 
--- the chunk is the last remainder alone in unsorted, with no others behind it, and large enough for a small size
+-- the chunk is the last remainder, and large enough to be cut for a size
+abbrev pub is_large_remainder : ℕ → Plain → Chunk → Bool
+is_large_remainder nb a c = (elim a.last [ None ↦ false | Some at ↦ nat_eq at c.at ]) && nat_lt (nb + 32) c.size
+
+-- it is, for a small size, and alone in unsorted, with no others behind it
 abbrev pub splits_remainder : ℕ → Plain → Chunk → List Chunk → Bool
-splits_remainder nb a c [] =
-    is_small_size nb && (elim a.last [ None ↦ false | Some at ↦ nat_eq at c.at ]) && nat_lt (nb + 32) c.size
+splits_remainder nb a c [] = is_small_size nb && is_large_remainder nb a c
 splits_remainder nb a c (d ∷ ds) = false
 
 -- the scan ends behind so many chunks that went to bins (MAX_ITERS)
@@ -169,11 +172,18 @@ rounds (suc n) t nb a = behind (looked nb a) (λ (step : Step). elim step [
       if flag then behind (consolidated b) (rounds n t nb) else system_asked t nb b)
 ])
 
+-- The first steps of a search: a fast size is taken from its fast bin; else a small one from its bin, and for a large one
+-- the fast bins are consolidated.
+abbrev pub small_or_consolidated : ℕ → Plain → Rules Step
+small_or_consolidated nb a = next_step (small_taken nb a) (consolidated_first nb)
+
+abbrev pub first_steps : Tunables → ℕ → Plain → Rules Step
+first_steps t nb a = next_step (fast_taken t nb a) (small_or_consolidated nb)
+
 -- The search.
 abbrev pub searched : Tunables → ℕ → Plain → Rules Took
 searched t nb a =
-    behind (next_step (fast_taken t nb a) (λ b. next_step (small_taken nb b) (consolidated_first nb))) (λ (step : Step).
-    elim step [
+    behind (first_steps t nb a) (λ (step : Step). elim step [
       | Taken c b ↦ Stop (record { found = InArena c; arena = b })
       | Onward b ↦ rounds 2 t nb b
     ])

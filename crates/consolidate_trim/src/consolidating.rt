@@ -2,6 +2,7 @@
 
 ghost use Rattle.std.specs.Prelude.{◌≡◌, ◌<◌, length, suc, OnErr};
 ghost use Rattle.chunk_tags.specs.BinOrder.{fast_chunk};
+ghost use Rattle.fast_bins.specs.FastPorts.{fast_bin_count};
 ghost use Rattle.arena_rules.specs.Release.{merging_bin, consolidated};
 ghost use Rattle.consolidate_trim.specs.FastHolds.{Empties, fast_hold};
 ghost use Rattle.consolidate_trim.specs.Holds.{IsBacked, no_chunk};
@@ -18,7 +19,7 @@ const FAST_BINS: u8 = 10;
 
 /// The chunk of a fast bin that begins at this address.
 fn fast_chunk_at(bin: u8, at: Addr) -> Chunk
-    requires { bin < 10 }
+    requires { bin < fast_bin_count }
     ensures { result ≡ fast_chunk bin at }
 {
     Chunk {
@@ -34,7 +35,7 @@ fn merge_bin<M: Moves, P: FastPort>(
     port: &mut P,
     said: &mut Vec<Said>,
 ) -> Result<(), NoMemory>
-    requires bin { bin < 10 }
+    requires bin { bin < fast_bin_count }
     requires backed { IsBacked P.fast (M.plain g.old) port.old no_chunk }
     ensures empties { let before = fast_hold (M.plain g.old) port.old said.old.items in
         let after = fast_hold (M.plain g.new) port.new said.new.items in

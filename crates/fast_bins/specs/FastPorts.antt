@@ -66,6 +66,10 @@ pub record Idles {P : Type 0} (fast : Fast P) (old new : P) : Type 0 where
   pub stock : (e : Chunk) → fast.stock new e ≡ fast.stock old e
   pub room : (k : ℕ) → IsTrue (fast.room old k) → IsTrue (fast.room new k)
 
--- each of the ten bins has room for one more
+-- how many fast bins there are (NFASTBINS)
+abbrev pub fast_bin_count : ℕ
+fast_bin_count = 10
+
+-- each of them has room for one more
 abbrev pub HasRoom : {P : Type 0} → Fast P → P → Type 0
-HasRoom fast p = (k : ℕ) → k < 10 → IsTrue (fast.room p k)
+HasRoom fast p = (k : ℕ) → k < fast_bin_count → IsTrue (fast.room p k)

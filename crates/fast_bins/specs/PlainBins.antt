@@ -3,7 +3,7 @@
 use Rattle.std.specs.Prelude.{◌≡◌, ℕ, ◌+◌, ◌<◌, Bool, false, true, nat_lt, List, [], ◌∷◌, ◌++◌, map, drop, length, replicate, IsTrue, Option, slice_get, slice_index_or, slice_set}
 use Rattle.chunk_tags.specs.BinOrder.{times_in, fast_chunk}
 use Rattle.chunk_tags.specs.declared.tiles.Chunk.{Chunk}
-use Rattle.fast_bins.specs.FastPorts.{FastStep, Flags, Clears, Pushes, Pops, Gathers, Owns, Fast}
+use Rattle.fast_bins.specs.FastPorts.{FastStep, Flags, Clears, Pushes, Pops, Gathers, Owns, Fast, fast_bin_count}
 
 -- a bin: its chain, and behind it its private list, addresses of chunks and front first
 pub record FastBin : Type 0 where
@@ -20,7 +20,7 @@ empty_bin = record { chain = []; own = [] }
 
 -- ten empty bins and an unset flag
 unfoldable pub empty_state : FastState
-empty_state = record { flag = false; bins = replicate 10 empty_bin }
+empty_state = record { flag = false; bins = replicate fast_bin_count empty_bin }
 
 -- the addresses of a bin, front first
 abbrev pub listed : FastBin → List ℕ
@@ -110,13 +110,13 @@ HaveRoom n bins = (k : ℕ) → k < n → IsTrue (has_room (slice_index_or bins 
 
 -- the ten bins that are meant where none is there yet
 abbrev pub ten_bins : List RoomyBin → List RoomyBin
-ten_bins [] = replicate 10 no_bin
+ten_bins [] = replicate fast_bin_count no_bin
 ten_bins (b ∷ bins) = b ∷ bins
 
 -- there are ten, and where they are said to be roomy each has room for one more
 pub record AreTen (is_roomy : Bool) (bins : List RoomyBin) : Type 0 where
-  pub count : length bins ≡ 10
-  pub room : IsTrue is_roomy → HaveRoom 10 bins
+  pub count : length bins ≡ fast_bin_count
+  pub room : IsTrue is_roomy → HaveRoom fast_bin_count bins
 
 -- What these bins are as a port: they tell each answer and what they are after each step, and their stock is all that
 -- is in them.

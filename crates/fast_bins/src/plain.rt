@@ -1,6 +1,7 @@
 //! The fast bins for one order of calls.
 
 ghost use Rattle.std.specs.Prelude.{◌≡◌, [], length, map, replicate, IfOk, OnOk, OnErr};
+ghost use Rattle.fast_bins.specs.FastPorts.{fast_bin_count};
 ghost use Rattle.fast_bins.specs.PlainBins.{empty_bin, empty_state, state_of, listed, plain_fast, ten_bins, Roomier, HaveRoom};
 
 use crate::port::FastPort;
@@ -34,7 +35,7 @@ impl Model for PlainFast {
 
 /// Ten empty bins.
 fn empty_bins(alloc: Global) -> Result<Vec<BinStack>, NoMemory>
-    ensures { IfOk result (λ v. map (λ b. b.bin) v.items ≡ replicate 10 empty_bin) }
+    ensures { IfOk result (λ v. map (λ b. b.bin) v.items ≡ replicate fast_bin_count empty_bin) }
 {
     let mut bins = Vec::with_capacity(alloc, BINS)?;
     for _ in 0..BINS {
@@ -58,9 +59,9 @@ fn reserve_each(bins: &mut [BinStack]) -> Result<(), NoMemory>
 
 /// Makes ten bins where there are none.
 fn make_bins(bins: &mut Vec<BinStack>, alloc: Global) -> Result<(), NoMemory>
-    requires { length (ten_bins bins.old.items) ≡ 10 }
+    requires { length (ten_bins bins.old.items) ≡ fast_bin_count }
     ensures roomier { Roomier (ten_bins bins.old.items) (ten_bins bins.new.items) }
-    ensures ten { OnOk result (length bins.new.items ≡ 10) }
+    ensures ten { OnOk result (length bins.new.items ≡ fast_bin_count) }
     ensures none { OnErr result (bins.old.items ≡ []) }
     ensures still { OnErr result (bins.new.items ≡ []) }
 {
@@ -73,11 +74,11 @@ fn make_bins(bins: &mut Vec<BinStack>, alloc: Global) -> Result<(), NoMemory>
 
 /// Makes room for one more chunk in each bin, and the bins where there are none.
 fn make_room_in(bins: &mut Vec<BinStack>, alloc: Global) -> Result<(), NoMemory>
-    requires { length (ten_bins bins.old.items) ≡ 10 }
+    requires { length (ten_bins bins.old.items) ≡ fast_bin_count }
     ensures roomier { Roomier (ten_bins bins.old.items) (ten_bins bins.new.items) }
-    ensures room { OnOk result (HaveRoom 10 (ten_bins bins.new.items)) }
-    ensures full { OnErr result (HaveRoom 10 (ten_bins bins.old.items) → ⊥) }
-    ensures still { OnErr result (HaveRoom 10 (ten_bins bins.new.items) → ⊥) }
+    ensures room { OnOk result (HaveRoom fast_bin_count (ten_bins bins.new.items)) }
+    ensures full { OnErr result (HaveRoom fast_bin_count (ten_bins bins.old.items) → ⊥) }
+    ensures still { OnErr result (HaveRoom fast_bin_count (ten_bins bins.new.items) → ⊥) }
 {
     make_bins(bins, alloc)?;
     reserve_each(bins)
@@ -111,7 +112,7 @@ impl PlainFast {
     pub fn lists(&self, alloc: Global) -> Result<Vec<Vec<Addr>>, NoMemory>
         ensures lists { IfOk result (λ v.
             map (λ l. l.items) v.items ≡ map listed (state_of self.now).bins) }
-        ensures ten { IfOk result (λ v. length v.items ≡ 10) }
+        ensures ten { IfOk result (λ v. length v.items ≡ fast_bin_count) }
     {
         if self.bins.is_empty() {
             return lists_of(alloc, &empty_bins(alloc)?);
@@ -121,7 +122,7 @@ impl PlainFast {
 
     /// A law; the call does nothing. There are ten bins.
     pub fn laws(&self)
-        ensures { length self.now.bins ≡ 10 }
+        ensures { length self.now.bins ≡ fast_bin_count }
     {
         let _ = &self.bins;
     }

@@ -1,7 +1,7 @@
 //! A port to the fast bins of an arena.
 
 ghost use Rattle.std.specs.Prelude.{◌≡◌, ◌<◌, IsTrue, OnOk, OnErr};
-ghost use Rattle.fast_bins.specs.FastPorts.{Fast, Flags, Clears, Pushes, Pops, Gathers, Owns, Did, Idles, HasRoom};
+ghost use Rattle.fast_bins.specs.FastPorts.{Fast, Flags, Clears, Pushes, Pops, Gathers, Owns, Did, Idles, HasRoom, fast_bin_count};
 
 use chunk_tags::{Addr, NoMemory};
 
@@ -28,22 +28,22 @@ pub trait FastPort {
 
     /// Pushes a chunk of a bin's size, and sets the flag. No memory is asked for.
     fn push(&mut self, bin: u8, at: Addr)
-        requires bin { bin < 10 }
+        requires bin { bin < fast_bin_count }
         requires room { IsTrue (fast.room self.old bin) }
         ensures { Did fast self.old (Pushes bin at) self.new };
 
     /// The front of a bin, which leaves it. `None` exactly where chain and list were empty.
     fn pop(&mut self, bin: u8) -> Option<Addr>
-        requires { bin < 10 }
+        requires { bin < fast_bin_count }
         ensures { Did fast self.old (Pops bin result) self.new };
 
     /// Puts a bin's whole chain before the holder's list.
     fn take_all(&mut self, bin: u8)
-        requires { bin < 10 }
+        requires { bin < fast_bin_count }
         ensures { Did fast self.old (Gathers bin) self.new };
 
     /// The front of the holder's list of a bin, which leaves it. `None` exactly where that list was empty.
     fn pop_own(&mut self, bin: u8) -> Option<Addr>
-        requires { bin < 10 }
+        requires { bin < fast_bin_count }
         ensures { Did fast self.old (Owns bin result) self.new };
 }

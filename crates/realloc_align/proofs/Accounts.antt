@@ -1,5 +1,5 @@
 -- Laws of accounts with a chunk in hand, for this crate and those above it.
-use Rattle.std.proofs.Common.{◌≡◌, ℕ, ◌+◌, ◌≤◌, List, Result, Ok, Err, refl, sym, ap, ◌∙◌, subst, arith}
+use Rattle.std.proofs.Common.{◌≡◌, ℕ, ◌+◌, ◌≤◌, Result, Ok, Err, refl, sym, ap, ◌∙◌, subst, arith}
 use Rattle.std.specs.Prelude.{Some}
 use Rattle.std.specs.Result.{IsErr}
 use Rattle.chunk_tags.specs.BinOrder.{once}
@@ -7,7 +7,6 @@ use Rattle.chunk_tags.specs.declared.refusals.NoMemory.{NoMemory}
 use Rattle.chunk_tags.specs.declared.tiles.Chunk.{Chunk}
 use Rattle.chunk_tags.specs.declared.tunables.Tunables.{Tunables}
 use Rattle.fast_bins.specs.FastPorts.{Fast}
-use Rattle.arena_rules.specs.declared.said.Said.{Said}
 use Rattle.arena_rules.specs.PlainArena.{Plain, IsSound, times_used, beside}
 use Rattle.arena_rules.specs.Rules.{Rules, Stop, behind}
 use Rattle.arena_rules.specs.Release.{released}
@@ -15,7 +14,7 @@ use Rattle.arena_rules.specs.Walks.{Reaches, StopsShort}
 use Rattle.arena_rules.proofs.MainPlaces.{placed_still}
 use Rattle.arena_rules.proofs.Moved.{Moved, nothing}
 use Rattle.arena_rules.proofs.Walks.{reaches_here, reaches_then, reaches_behind, short_then, short_behind}
-use Rattle.consolidate_trim.specs.Holds.{Chunks, no_chunk, IsBacked, times_cached}
+use Rattle.consolidate_trim.specs.Holds.{Chunks, IsBacked, times_cached}
 use Rattle.consolidate_trim.specs.Outside.{Means, Outside}
 use Rattle.search_steps.specs.Ledgers.{Ledger, Stage, stage, Balances, Loses, Works, elsewhere, full}
 use Rattle.search_steps.proofs.Balance.{balances_then, balances_as, loses_then, works_short}

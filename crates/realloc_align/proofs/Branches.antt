@@ -1,16 +1,16 @@
 -- How a chunk is reshaped, branch by branch.
-use Rattle.std.proofs.Common.{◌≡◌, ℕ, ◌+◌, ◌-◌, ◌<◌, ◌≤◌, Bool, true, false, List, Option, Some, None, IsTrue, Result, Ok, Err, refl, sym, ap, ◌∙◌, subst, arith}
+use Rattle.std.proofs.Common.{◌≡◌, ℕ, ◌+◌, ◌-◌, ◌<◌, ◌≤◌, Bool, true, false, Option, Some, None, IsTrue, Result, Ok, Err, refl, sym, ap, ◌∙◌, subst, arith}
 use Rattle.std.specs.Prelude.{cond, nat_le, nat_lt}
 use Rattle.std.specs.Result.{IsErr}
 use Rattle.std.proofs.lemmas.Bool.{cond-true, cond-false, le-leb, lt-leb}
 use Rattle.chunk_tags.specs.BinOrder.{once}
-use Rattle.chunk_tags.specs.Sizes.{IsChunkSize, IsRequestSize}
+use Rattle.chunk_tags.specs.Sizes.{IsChunkSize}
 use Rattle.chunk_tags.specs.declared.refusals.NoMemory.{NoMemory}
 use Rattle.chunk_tags.specs.declared.tiles.Chunk.{Chunk}
 use Rattle.chunk_tags.specs.declared.tunables.Tunables.{Tunables}
-use Rattle.arena_rules.specs.PlainArena.{Plain, IsSound, times_used, is_own, beside}
+use Rattle.arena_rules.specs.PlainArena.{Plain, IsSound, is_own, beside}
 use Rattle.arena_rules.specs.Moves.{Hand, hand, joined_behind}
-use Rattle.arena_rules.specs.Rules.{Rules, Stop, behind}
+use Rattle.arena_rules.specs.Rules.{Rules, Stop}
 use Rattle.arena_rules.specs.Growth.{Took}
 use Rattle.arena_rules.specs.Search.{searched}
 use Rattle.arena_rules.specs.Resize.{cut_to, took_in, front_of, back_of, is_next_to, fits_with_top, fits_with_free, grown_into_top, resize_with, resize_by_search, resize_of}
@@ -22,14 +22,13 @@ use Rattle.arena_rules.proofs.Bins.{once_self}
 use Rattle.arena_rules.proofs.Walks.{short_behind}
 use Rattle.consolidate_trim.specs.Holds.{no_chunk, one_chunk, IsBacked}
 use Rattle.consolidate_trim.specs.Outside.{Means, Outside}
-use Rattle.consolidate_trim.proofs.HoldSteps.{hand_own}
 use Rattle.search_steps.specs.Ledgers.{Stage, stage, Balances, full}
 use Rattle.search_steps.proofs.Balance.{balances_then, balances_as}
 use Rattle.arena_growth.specs.declared.found.Found.{Found}
 use Rattle.arena_growth.specs.declared.found.Found.TheVariants.{InArena, InMapping, Nowhere}
 use Rattle.arena_growth.specs.Asking.{Finds, took, chunks_found}
 use Rattle.realloc_align.specs.declared.cutting.Reshaped.{Reshaped}
-use Rattle.realloc_align.specs.Resizes.{Comes, Spares, Reshapes, whole_of, cut_of, arena_cut, placed_of, arena_placed, rest_released, chunks_reshaped}
+use Rattle.realloc_align.specs.Resizes.{Comes, Reshapes, whole_of, cut_of, arena_cut, placed_of, arena_placed, rest_released, chunks_reshaped}
 use Rattle.realloc_align.proofs.Accounts.{balances_move, balances_still, backed_with, backed_less, spares_then, comes_as, comes_then, comes_behind}
 use Rattle.realloc_align.proofs.Cuts.{IsUsed, used_in, cut_rules, cut_balances, cut_kept, placed_rules, placed_balances}
 

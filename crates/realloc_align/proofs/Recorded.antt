@@ -1,5 +1,5 @@
 -- What a resize and an aligned search did, recorded.
-use Rattle.std.proofs.Common.{◌≡◌, ℕ, ◌+◌, List, [], ◌∷◌, ◌++◌, Result, Ok, Err, refl, sym, subst, inl, inr, arith}
+use Rattle.std.proofs.Common.{◌≡◌, ℕ, ◌+◌, List, [], ◌∷◌, ◌++◌, Result, Ok, Err, refl, sym, subst, inr, arith}
 use Rattle.chunk_tags.specs.declared.block.Block.{Block}
 use Rattle.chunk_tags.specs.declared.refusals.NoMemory.{NoMemory}
 use Rattle.chunk_tags.specs.declared.tiles.Chunk.{Chunk}
@@ -9,29 +9,26 @@ use Rattle.thread_cache.specs.Caches.{CacheValue}
 use Rattle.arena_rules.specs.declared.said.Said.{Said}
 use Rattle.arena_rules.specs.Align.{align_of}
 use Rattle.arena_rules.specs.PlainArena.{Plain}
-use Rattle.arena_rules.specs.Resize.{is_kept, is_moved}
 use Rattle.consolidate_trim.specs.Holds.{no_chunk, one_chunk}
-use Rattle.consolidate_trim.specs.Outside.{Means, Outside}
-use Rattle.search_steps.specs.Ledgers.{stage, full}
-use Rattle.search_steps.specs.Steps.{IsEnough}
+use Rattle.consolidate_trim.specs.Outside.{Means}
+use Rattle.search_steps.specs.Ledgers.{stage}
 use Rattle.search_steps.proofs.Balance.{balances_as}
 use Rattle.arena_growth.specs.declared.found.Found.{Found}
 use Rattle.arena_growth.specs.declared.found.Found.TheVariants as finds
-use Rattle.arena_growth.specs.Asking.{Finds, FitsFound, beside_arena, found_of}
+use Rattle.arena_growth.specs.Asking.{Finds, beside_arena, found_of}
 use Rattle.arena_core.specs.declared.journal.Act.TheVariants as acts
 use Rattle.arena_core.specs.declared.journal.Ended.TheVariants.{Short}
 use Rattle.arena_core.specs.declared.journal.Who.{Who}
 use Rattle.arena_core.specs.declared.take.Take.{Take}
-use Rattle.arena_core.specs.Arenas.{Held, Records, RecordsShort, chunks_got, held, need_of, recorded}
+use Rattle.arena_core.specs.Arenas.{Held, RecordsShort, chunks_got, held, recorded}
 use Rattle.arena_core.specs.Journal.{Recorded}
 use Rattle.arena_core.specs.Replay.{IsReplay, chunk_at, ended_found, ended_aligned}
 use Rattle.arena_core.proofs.Recording.{CanAct, short_replay}
 use Rattle.realloc_align.specs.declared.resizing.Stranded.{Stranded}
 use Rattle.realloc_align.specs.declared.to_size.Resized.{Resized}
-use Rattle.realloc_align.specs.declared.to_size.Resized.TheVariants.{Kept, Moved, Refused}
 use Rattle.realloc_align.specs.Aligns.{FitsAligned}
-use Rattle.realloc_align.specs.Calls.{ResizesBlock, ResizesShort, FailsResize, FitsResize, AlignsBlock, FitsTake, resize_to, block_found, aligned_take}
-use Rattle.realloc_align.specs.Resizes.{Resizes, Spares, chunks_kept}
+use Rattle.realloc_align.specs.Calls.{ResizesBlock, ResizesShort, AlignsBlock, FitsTake, resize_to, block_of_resize, aligned_take}
+use Rattle.realloc_align.specs.Resizes.{Resizes, chunks_kept}
 
 -- ---- a resize
 
@@ -51,7 +48,7 @@ resize_recorded m t who b nb x y p q cache cache' space space' said old new foun
 }
 
 pub resize_short : {P K : Type 0} (m : Means P K) (t : Tunables) (who : Who) (b : Block) (nb : ℕ) (x y : Plain) (p q : P) (cache cache' : CacheValue) (space space' : Space K) (said : List Said) (old new : List Recorded) (s : Stranded) (back : Block) → let err : Result Found Stranded = Err s in
-    Resizes m t (chunk_at b.addr b.size) nb (stage x (beside_arena p cache space) []) err (stage y (beside_arena q cache' space') said) → new ≡ old ++ recorded who (acts.Resize b.addr b.size nb) said Short ∷ [] → back ≡ block_found x.number b s.found →
+    Resizes m t (chunk_at b.addr b.size) nb (stage x (beside_arena p cache space) []) err (stage y (beside_arena q cache' space') said) → new ≡ old ++ recorded who (acts.Resize b.addr b.size nb) said Short ∷ [] → back ≡ block_of_resize x.number b s.found →
     ResizesShort m t who b nb (held x p cache space old) back (held y q cache' space' new)
 resize_short m t who b nb x y p q cache cache' space space' said old new s back w added came =
     record { said = said; found = s.found; came = came; added = added; stops = w.walk.short; spares = w.spares; strands = w.strands; mapped = w.mapped }

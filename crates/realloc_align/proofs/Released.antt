@@ -1,11 +1,11 @@
 -- What is left of a reshaped chunk is released.
-use Rattle.std.proofs.Common.{◌≡◌, ℕ, ◌+◌, ◌≤◌, List, Option, Some, None, Result, Ok, Err, refl, sym, subst, ap, ◌∙◌, arith}
+use Rattle.std.proofs.Common.{◌≡◌, ℕ, List, Option, Some, None, Ok, Err, refl, sym, subst, ap, ◌∙◌, arith}
 use Rattle.chunk_tags.specs.declared.refusals.NoMemory.{NoMemory}
 use Rattle.chunk_tags.specs.declared.tiles.Chunk.{Chunk}
 use Rattle.chunk_tags.specs.declared.tunables.Tunables.{Tunables}
 use Rattle.address_space.specs.Ports.{Rose}
 use Rattle.arena_rules.specs.declared.said.Said.{Said}
-use Rattle.arena_rules.specs.PlainArena.{Plain, once_of}
+use Rattle.arena_rules.specs.PlainArena.{Plain}
 use Rattle.arena_rules.specs.Growth.{Took, closing}
 use Rattle.arena_rules.specs.Walks.{StopsShort}
 use Rattle.arena_rules.specs.Rules.{Rules, Stop}
@@ -17,7 +17,7 @@ use Rattle.search_steps.proofs.Balance.{balances_then, balances_as}
 use Rattle.search_steps.proofs.Parts.{renumbered, renumbered_short}
 use Rattle.arena_growth.specs.declared.found.Found.{Found}
 use Rattle.arena_growth.specs.declared.found.Found.TheVariants.{InArena, InMapping, Nowhere}
-use Rattle.arena_growth.specs.Asking.{IsReady, Closes, took, chunks_in}
+use Rattle.arena_growth.specs.Asking.{Closes, took, chunks_in}
 use Rattle.arena_growth.proofs.Refusals.{refusals_of, reached_refusals, rose_on}
 use Rattle.realloc_align.specs.declared.cutting.Reshaped.{Reshaped}
 use Rattle.realloc_align.specs.declared.resizing.Stranded.{Stranded}

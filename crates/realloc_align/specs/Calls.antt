@@ -28,17 +28,17 @@ use Rattle.realloc_align.specs.Aligns.{FitsAt}
 use Rattle.realloc_align.specs.Resizes.{Spares, StopsInMapping, Strands, chunks_kept}
 
 -- where a block is whose resize found this, in the arena with this number: as it was where nothing was found
-abbrev pub block_found : ℕ → Block → Found → Block
-block_found number b (finds.InArena c) = block_of number c
-block_found number b (finds.InMapping c) = mapped_block c
-block_found number b finds.Nowhere = b
+abbrev pub block_of_resize : ℕ → Block → Found → Block
+block_of_resize number b (finds.InArena c) = block_of number c
+block_of_resize number b (finds.InMapping c) = mapped_block c
+block_of_resize number b finds.Nowhere = b
 
 -- what became of a block whose resize found this
 abbrev pub resize_to : ℕ → Block → Found → Resized
 resize_to number b found =
     let c = chunk_at b.addr b.size in
-    if is_kept c (found_of found) then Kept (block_found number b found)
-    else (if is_moved c (found_of found) then Moved (block_found number b found) else Refused b)
+    if is_kept c (found_of found) then Kept (block_of_resize number b found)
+    else (if is_moved c (found_of found) then Moved (block_of_resize number b found) else Refused b)
 
 -- A block got another size, or that was refused: the entry, and what it says.
 pub record ResizesBlock {P K : Type 0} (m : Means P K) (t : Tunables) (who : Who) (b : Block) (nb : ℕ) (before : Held P K) (result : Resized) (after : Held P K) : Type 0 where
@@ -52,7 +52,7 @@ pub record ResizesBlock {P K : Type 0} (m : Means P K) (t : Tunables) (who : Who
 pub record ResizesShort {P K : Type 0} (m : Means P K) (t : Tunables) (who : Who) (b : Block) (nb : ℕ) (before : Held P K) (back : Block) (after : Held P K) : Type 0 where
   pub said : List Said
   pub found : Found
-  pub came : back ≡ block_found before.arena.number b found
+  pub came : back ≡ block_of_resize before.arena.number b found
   pub added : after.journal ≡ before.journal ++ recorded who (acts.Resize b.addr b.size nb) said Short ∷ []
   pub stops : StopsShort t (ways m before.arena.number) (rules_of t (acts.Resize b.addr b.size nb) before.arena) before.outside [] after.arena said after.outside
   pub spares : Spares (full m) (stage before.arena before.outside []) (one_chunk (chunk_at b.addr b.size)) (chunks_kept (chunk_at b.addr b.size) found) (stage after.arena after.outside said)

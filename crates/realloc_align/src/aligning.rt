@@ -1,6 +1,6 @@
 //! A chunk is searched for whose user address is a multiple, and what is before and behind it is released.
 
-ghost use Rattle.std.specs.Prelude.{◌≡◌, ◌+◌, ◌-◌, ◌^◌, ◌<◌, ◌≤◌, IsTrue, IfOk, nat_lt, OnErr};
+ghost use Rattle.std.specs.Prelude.{◌≡◌, ◌+◌, ◌-◌, ◌^◌, ◌<◌, ◌≤◌, IfOk, nat_lt, OnErr};
 ghost use Rattle.chunk_tags.specs.Sizes.{IsChunkSize, IsRequestSize};
 ghost use Rattle.address_space.specs.Ports.{Rose};
 ghost use Rattle.address_space.specs.Spaces.{space_refusals};
@@ -183,7 +183,8 @@ pub fn align_in_arena<M: Moves, K: Kernel, P: FastPort + Dials>(
     requires size { IsRequestSize nb }
     requires align { IsAlignment align }
     requires most { nb + align + 32 ≤ 2 ^ 63 - 1 }
-    ensures finds { Finds (means P.fast P.dials K.port) t.now (align_of t.now align nb (M.plain g.old))
+    ensures finds { Finds (means P.fast P.dials K.port) t.now
+        (align_of t.now align nb (M.plain g.old))
         (stage (M.plain g.old) (beside_arena port.old cache.old space.old) said.old.items)
         result (stage (M.plain g.new) (beside_arena port.new cache.new space.new) said.new.items) }
     ensures fits { IfOk result (FitsAligned align nb) }

@@ -1,6 +1,6 @@
 //! A used chunk is cut to size.
 
-ghost use Rattle.std.specs.Prelude.{◌≡◌, ◌-◌, ◌≤◌, IsTrue, nat_lt};
+ghost use Rattle.std.specs.Prelude.{◌≡◌, ◌-◌, ◌≤◌, IsTrue};
 ghost use Rattle.chunk_tags.specs.Sizes.{IsChunkSize};
 ghost use Rattle.arena_rules.specs.PlainArena.{IsSound, is_own};
 ghost use Rattle.arena_rules.specs.Resize.{front_of};

@@ -1,6 +1,6 @@
 //! A used chunk becomes larger or smaller, or another is found for it, before anything is released.
 
-ghost use Rattle.std.specs.Prelude.{◌≡◌, ◌+◌, ◌<◌, ◌≤◌, IsTrue, IfOk, IfErr, nat_le, OnErr};
+ghost use Rattle.std.specs.Prelude.{◌≡◌, ◌+◌, ◌<◌, ◌≤◌, IsTrue, IfOk, nat_le, OnErr};
 ghost use Rattle.chunk_tags.specs.Sizes.{IsChunkSize, IsRequestSize};
 ghost use Rattle.address_space.specs.Ports.{Rose};
 ghost use Rattle.address_space.specs.Spaces.{space_refusals};

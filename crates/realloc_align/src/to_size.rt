@@ -8,10 +8,10 @@ ghost use Rattle.arena_rules.specs.PlainArena.{Plain};
 ghost use Rattle.consolidate_trim.specs.Holds.{IsBacked, one_chunk};
 ghost use Rattle.consolidate_trim.specs.Outside.{AreApart, means};
 ghost use Rattle.search_steps.specs.Ledgers.{stage};
-ghost use Rattle.arena_growth.specs.Asking.{IsSearchable, IsReady, AllowsMaps, FitsFound, beside_arena};
+ghost use Rattle.arena_growth.specs.Asking.{IsSearchable, IsReady, AllowsMaps, beside_arena};
 ghost use Rattle.arena_core.specs.Arenas.{held};
 ghost use Rattle.arena_core.specs.Replay.{IsReplay, chunk_at};
-ghost use Rattle.realloc_align.specs.Calls.{ResizesBlock, FailsResize, FitsResize, FitsBack, block_found, resize_to};
+ghost use Rattle.realloc_align.specs.Calls.{ResizesBlock, FailsResize, FitsResize, FitsBack, block_of_resize, resize_to};
 
 use crate::resizing::{Stranded, resize_in};
 use address_space::{Kernel, Space};
@@ -38,7 +38,7 @@ pub enum Resized {
 
 /// Where a block is whose resize found this, in the arena with this number.
 fn block_found(number: u8, b: Block, found: &Found) -> Block
-    ensures { result ≡ block_found number b found.now }
+    ensures { result ≡ block_of_resize number b found.now }
 {
     match found {
         Found::InArena(c) => Block {

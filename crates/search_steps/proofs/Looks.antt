@@ -15,14 +15,14 @@ use Rattle.arena_rules.specs.Release.{consolidated, consolidated_if}
 use Rattle.arena_rules.specs.Rules.{Rules, Stop, Flagged, asks_flag, behind, flag_of}
 use Rattle.arena_rules.specs.Walks.{Ways, Reaches, StopsShort}
 use Rattle.arena_rules.specs.Search as search
-use Rattle.arena_rules.specs.Search.{next_step, scanned_all, looked, best_taken, larger_taken, top_taken, small_taken, fast_taken, consolidated_first}
+use Rattle.arena_rules.specs.Search.{next_step, scanned_all, looked, best_taken, larger_taken, top_taken, small_taken, fast_taken, consolidated_first, small_or_consolidated, first_steps}
 use Rattle.arena_rules.proofs.Walks.{reaches_here, reaches_told, short_here}
 use Rattle.consolidate_trim.specs.FastHolds.{fast_hold, Empties}
 use Rattle.consolidate_trim.specs.Holds.{no_chunk, IsBacked}
 use Rattle.search_steps.specs.declared.step.Step as step_type
 use Rattle.search_steps.specs.declared.step.Step.TheVariants as steps
 use Rattle.search_steps.specs.Ledgers.{Ledger, Stage, stage, Works, Balances, shelf, Near, near, near_ledger, fast_ledger}
-use Rattle.search_steps.specs.Steps.{Steps, Sweeps, step_of, chunks_taken, taken_behind_scan, begun, begun_small}
+use Rattle.search_steps.specs.Steps.{Steps, Sweeps, step_of, chunks_taken, taken_behind_scan}
 use Rattle.search_steps.proofs.Balance.{balances_here, balances_then, balances_as, loses_from, works_ok, works_short}
 use Rattle.search_steps.proofs.BinnedLaws.{binned_is, binned_balances}
 use Rattle.search_steps.proofs.Lifting.{works_put, works_empties, shelf_part, fast_part}
@@ -129,15 +129,15 @@ lifted_step : {P : Type 0} {rules : Rules search.Step} {x y : Stage CacheValue} 
 lifted_step fast port t r s = works_put r (shelf_part fast port) (s.works t)
 
 pub small_ends : {P : Type 0} (fast : Fast P) (port : P) (nb : ℕ) (x y : Stage CacheValue) (c : Chunk) → Steps shelf (small_taken nb x.arena) x (Ok (steps.Taken c)) y →
-    Steps (near_ledger fast) (begun_small nb x.arena) (stage x.arena (near port x.outside) x.said) (Ok (steps.Taken c)) (stage y.arena (near port y.outside) y.said)
+    Steps (near_ledger fast) (small_or_consolidated nb x.arena) (stage x.arena (near port x.outside) x.said) (Ok (steps.Taken c)) (stage y.arena (near port y.outside) y.said)
 small_ends fast port nb x y c s = record { works = λ t. step_ends (consolidated_first nb) c (lifted_step fast port t (Ok (steps.Taken c)) s) }
 
 pub small_fails : {P : Type 0} (fast : Fast P) (port : P) (nb : ℕ) (x y : Stage CacheValue) (e : NoMemory) (r : Result step_type.Step NoMemory) → IsErr r → Steps shelf (small_taken nb x.arena) x (Err e) y →
-    Steps (near_ledger fast) (begun_small nb x.arena) (stage x.arena (near port x.outside) x.said) r (stage y.arena (near port y.outside) y.said)
+    Steps (near_ledger fast) (small_or_consolidated nb x.arena) (stage x.arena (near port x.outside) x.said) r (stage y.arena (near port y.outside) y.said)
 small_fails fast port nb x y e r is s = record { works = λ t. short_behind_works (after_small nb) e r is (lifted_step fast port t (Err e) s) }
 
 pub small_sweeps : {P : Type 0} (fast : Fast P) (nb : ℕ) (x y : Stage CacheValue) (b : Plain) (p q : P) (said : List Said) → Steps shelf (small_taken nb x.arena) x (Ok steps.Onward) y → Sweeps fast (consolidated_first nb y.arena) (stage y.arena p y.said) (Ok tt) (stage b q said) →
-    Steps (near_ledger fast) (begun_small nb x.arena) (stage x.arena (near p x.outside) x.said) (Ok steps.Onward) (stage b (near q y.outside) said)
+    Steps (near_ledger fast) (small_or_consolidated nb x.arena) (stage x.arena (near p x.outside) x.said) (Ok steps.Onward) (stage b (near q y.outside) said)
 small_sweeps fast nb x y b p q said s w = record {
   works = λ t.
       let first = step_goes (consolidated_first nb) (lifted_step fast p t (Ok steps.Onward) s) in
@@ -148,7 +148,7 @@ small_sweeps fast nb x y b p q said s w = record {
 }
 
 pub small_sweep_fails : {P : Type 0} (fast : Fast P) (nb : ℕ) (x y : Stage CacheValue) (b : Plain) (p q : P) (said : List Said) (d : NoMemory) (r : Result step_type.Step NoMemory) → IsErr r → Steps shelf (small_taken nb x.arena) x (Ok steps.Onward) y → Sweeps fast (consolidated_first nb y.arena) (stage y.arena p y.said) (Err d) (stage b q said) →
-    Steps (near_ledger fast) (begun_small nb x.arena) (stage x.arena (near p x.outside) x.said) r (stage b (near q y.outside) said)
+    Steps (near_ledger fast) (small_or_consolidated nb x.arena) (stage x.arena (near p x.outside) x.said) r (stage b (near q y.outside) said)
 small_sweep_fails fast nb x y b p q said d r is s w = record {
   works = λ t.
       let first = step_goes (consolidated_first nb) (lifted_step fast p t (Ok steps.Onward) s) in
@@ -156,14 +156,14 @@ small_sweep_fails fast nb x y b p q said d r is s w = record {
       works_after r first (λ e. refl) (works_short r is swept.walk.short swept.spares);
 }
 
-pub begin_ends : {P : Type 0} (fast : Fast P) (t : Tunables) (nb : ℕ) (x y : Stage (Near P)) (c : Chunk) → Steps (near_ledger fast) (fast_taken t nb x.arena) x (Ok (steps.Taken c)) y → Steps (near_ledger fast) (begun t nb x.arena) x (Ok (steps.Taken c)) y
-begin_ends fast t nb x y c s = record { works = λ u. step_ends (begun_small nb) c (s.works u) }
+pub begin_ends : {P : Type 0} (fast : Fast P) (t : Tunables) (nb : ℕ) (x y : Stage (Near P)) (c : Chunk) → Steps (near_ledger fast) (fast_taken t nb x.arena) x (Ok (steps.Taken c)) y → Steps (near_ledger fast) (first_steps t nb x.arena) x (Ok (steps.Taken c)) y
+begin_ends fast t nb x y c s = record { works = λ u. step_ends (small_or_consolidated nb) c (s.works u) }
 
-pub begin_fails : {P : Type 0} (fast : Fast P) (t : Tunables) (nb : ℕ) (x y : Stage (Near P)) (e : NoMemory) (r : Result step_type.Step NoMemory) → IsErr r → Steps (near_ledger fast) (fast_taken t nb x.arena) x (Err e) y → Steps (near_ledger fast) (begun t nb x.arena) x r y
-begin_fails fast t nb x y e r is s = record { works = λ u. short_behind_works (λ (step : search.Step). elim step [ search.Taken c a ↦ Stop (search.Taken c a) | search.Onward a ↦ begun_small nb a ]) e r is (s.works u) }
+pub begin_fails : {P : Type 0} (fast : Fast P) (t : Tunables) (nb : ℕ) (x y : Stage (Near P)) (e : NoMemory) (r : Result step_type.Step NoMemory) → IsErr r → Steps (near_ledger fast) (fast_taken t nb x.arena) x (Err e) y → Steps (near_ledger fast) (first_steps t nb x.arena) x r y
+begin_fails fast t nb x y e r is s = record { works = λ u. short_behind_works (λ (step : search.Step). elim step [ search.Taken c a ↦ Stop (search.Taken c a) | search.Onward a ↦ small_or_consolidated nb a ]) e r is (s.works u) }
 
-pub begin_goes : {P : Type 0} (fast : Fast P) (t : Tunables) (nb : ℕ) (x y z : Stage (Near P)) (r : Result step_type.Step NoMemory) → Steps (near_ledger fast) (fast_taken t nb x.arena) x (Ok steps.Onward) y → Steps (near_ledger fast) (begun_small nb y.arena) y r z → Steps (near_ledger fast) (begun t nb x.arena) x r z
-begin_goes fast t nb x y z r s w = record { works = λ u. works_after r (step_goes (begun_small nb) (s.works u)) (λ e. refl) (w.works u) }
+pub begin_goes : {P : Type 0} (fast : Fast P) (t : Tunables) (nb : ℕ) (x y z : Stage (Near P)) (r : Result step_type.Step NoMemory) → Steps (near_ledger fast) (fast_taken t nb x.arena) x (Ok steps.Onward) y → Steps (near_ledger fast) (small_or_consolidated nb y.arena) y r z → Steps (near_ledger fast) (first_steps t nb x.arena) x r z
+begin_goes fast t nb x y z r s w = record { works = λ u. works_after r (step_goes (small_or_consolidated nb) (s.works u)) (λ e. refl) (w.works u) }
 
 -- the chunks of the port are backed behind such a step
 pub backed_step : {P : Type 0} {fast : Fast P} {rules : Rules search.Step} {x y : Stage (Near P)} (t : Tunables) → IsBacked fast x.arena x.outside.port no_chunk → Steps (near_ledger fast) rules x (Ok steps.Onward) y → IsBacked fast y.arena y.outside.port no_chunk

@@ -17,7 +17,7 @@ use Rattle.arena_rules.specs.PlainArena.{Plain, IsSound, times_listed, unsorted_
 use Rattle.arena_rules.specs.Moves.{claimed}
 use Rattle.arena_rules.specs.Rules.{Rules, Stop, Does, Stashes, asks_room, block_of}
 use Rattle.arena_rules.specs.Walks.{Reaches}
-use Rattle.arena_rules.specs.Search.{Step, Taken, carved, carved_chunk, with_remainder, sorted_in, splits_remainder, scan_end, scanned, scanned_all}
+use Rattle.arena_rules.specs.Search.{Step, Taken, carved, carved_chunk, with_remainder, sorted_in, is_large_remainder, splits_remainder, scan_end, scanned, scanned_all}
 use Rattle.arena_rules.proofs.Beside.{beside_sorted}
 use Rattle.arena_rules.proofs.ChunkMoves.{IsClaimed, claimed_moved}
 use Rattle.arena_rules.proofs.Moved.{none}
@@ -65,7 +65,9 @@ fewer_unsorted a c b o same =
 
 -- a remainder that is split has more than is asked for
 pub remainder_fits : (nb : ℕ) (a : Plain) (c : Chunk) → is_remainder nb a c ≡ true → nb ≤ c.size
-remainder_fits nb a c is = omega (arith, ltb-true (nb + 32) c.size (and_parts (is_small_size nb && nat_eq (length (unsorted_of a)) 1 && (elim a.last [ None ↦ false | Some at ↦ nat_eq at c.at ])) (nat_lt (nb + 32) c.size) is).1)
+remainder_fits nb a c is =
+    let large : is_large_remainder nb a c ≡ true = (and_parts (is_small_size nb && nat_eq (length (unsorted_of a)) 1) (is_large_remainder nb a c) is).1 in
+    omega (arith, ltb-true (nb + 32) c.size (and_parts (elim a.last [ None ↦ false | Some at ↦ nat_eq at c.at ]) (nat_lt (nb + 32) c.size) large).1)
 
 -- ---- the tree at the oldest chunk
 

@@ -1,5 +1,5 @@
 -- What a step of the search promises (this project's own).
-use Rattle.std.specs.Prelude.{ℕ, ◌+◌, ◌≤◌, Bool, false, ◌&&◌, nat_eq, nat_lt, length, Result, Option, Some, None, drop, if◌then◌else◌}
+use Rattle.std.specs.Prelude.{ℕ, ◌+◌, ◌≤◌, Bool, ◌&&◌, nat_eq, length, Result, Option, Some, None, drop, if◌then◌else◌}
 use Rattle.chunk_tags.specs.BinOrder.{best_of, once}
 use Rattle.chunk_tags.specs.Sizes.{IsChunkSize, is_small_size, large_index_of, bin_of, cache_index_of, fast_index_of}
 use Rattle.chunk_tags.specs.declared.refusals.NoMemory.{NoMemory}
@@ -9,7 +9,7 @@ use Rattle.arena_rules.specs.PlainArena.{Plain, bin_at, unsorted_of}
 use Rattle.arena_rules.specs.Rules.{Rules}
 use Rattle.arena_rules.specs.Growth.{cut_or}
 use Rattle.arena_rules.specs.Search as search
-use Rattle.arena_rules.specs.Search.{taken_from, first_oldest, next_step, fast_taken, small_taken, consolidated_first, stashing_fast, stashing_small, most_stashed}
+use Rattle.arena_rules.specs.Search.{taken_from, first_oldest, stashing_fast, stashing_small, most_stashed, is_large_remainder}
 use Rattle.fast_bins.specs.FastPorts.{Fast}
 use Rattle.thread_cache.specs.Caches.{CacheValue, without_newest}
 use Rattle.consolidate_trim.specs.Holds.{Chunks, no_chunk}
@@ -61,10 +61,9 @@ pub record StashesSmall (nb : ℕ) (before : Stage CacheValue) (result : Result 
   pub works : (t : Tunables) (first : Chunk) →
       Works shelf t (stashing_small most_stashed nb first before.arena) no_chunk before (λ _. search.Taken first after.arena) (λ _. no_chunk) result after
 
--- the chunk is the last remainder, alone in unsorted, and large enough for a small size
+-- the chunk is the last remainder, large enough for a small size, and alone in unsorted
 abbrev pub is_remainder : ℕ → Plain → Chunk → Bool
-is_remainder nb a c =
-    is_small_size nb && nat_eq (length (unsorted_of a)) 1 && (elim a.last [ None ↦ false | Some at ↦ nat_eq at c.at ]) && nat_lt (nb + 32) c.size
+is_remainder nb a c = is_small_size nb && nat_eq (length (unsorted_of a)) 1 && is_large_remainder nb a c
 
 -- where chunks were put into the cache in a scan, the last of them is drawn out of it again, and is taken
 abbrev pub drawn : Option Chunk → Step
@@ -79,13 +78,6 @@ cache_drawn (Some c) nb cache = without_newest cache (cache_index_of nb)
 pub record StashesFast {P : Type 0} (fast : Fast P) (nb : ℕ) (before : Stage (Near P)) (result : Result (Unit {0}) NoMemory) (after : Stage (Near P)) : Type 0 where
   pub works : (t : Tunables) (first : Chunk) →
       Works (near_ledger fast) t (stashing_fast most_stashed (fast_index_of nb) nb first before.arena) no_chunk before (λ _. search.Taken first after.arena) (λ _. no_chunk) result after
-
--- the first steps of a search
-abbrev pub begun_small : ℕ → Plain → Rules search.Step
-begun_small nb a = next_step (small_taken nb a) (consolidated_first nb)
-
-abbrev pub begun : Tunables → ℕ → Plain → Rules search.Step
-begun t nb a = next_step (fast_taken t nb a) (begun_small nb)
 
 -- A step that only consolidates: it goes on with the arena, whatever the tunables.
 pub record Sweeps {P : Type 0} (fast : Fast P) (rules : Rules search.Step) (before : Stage P) (result : Result (Unit {0}) NoMemory) (after : Stage P) : Type 0 where

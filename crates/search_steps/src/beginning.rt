@@ -3,11 +3,11 @@
 ghost use Rattle.std.specs.Prelude.{◌≡◌, ◌≤◌, [], ◌∷◌, ◌++◌, IfOk, OnErr};
 ghost use Rattle.chunk_tags.specs.Sizes.{IsChunkSize};
 ghost use Rattle.fast_bins.specs.FastPorts as fasts;
-ghost use Rattle.arena_rules.specs.Search.{consolidated_first};
+ghost use Rattle.arena_rules.specs.Search.{consolidated_first, small_or_consolidated, first_steps};
 ghost use Rattle.consolidate_trim.specs.Holds.{IsBacked, no_chunk};
 ghost use Rattle.consolidate_trim.specs.Lacks.{IsFull};
 ghost use Rattle.search_steps.specs.Ledgers.{near_ledger, near, stage};
-ghost use Rattle.search_steps.specs.Steps.{Steps, Sweeps, FitsStep, begun, begun_small};
+ghost use Rattle.search_steps.specs.Steps.{Steps, Sweeps, FitsStep};
 
 use crate::fast::take_fast;
 use crate::small::take_small;
@@ -40,7 +40,8 @@ fn consolidate_first<M: Moves, P: FastPort>(
     said: &mut Vec<Said>,
 ) -> Result<(), NoMemory>
     requires { IsBacked P.fast (M.plain g.old) port.old no_chunk }
-    ensures sweeps { Sweeps P.fast (consolidated_first nb (M.plain g.old)) (stage (M.plain g.old) port.old said.old.items)
+    ensures sweeps { Sweeps P.fast (consolidated_first nb (M.plain g.old))
+        (stage (M.plain g.old) port.old said.old.items)
         result (stage (M.plain g.new) port.new said.new.items) }
     ensures lacks { OnErr result (IsFull said.new) }
 {
@@ -63,7 +64,7 @@ fn begin_small<M: Moves, P: FastPort>(
 ) -> Result<Step, NoMemory>
     requires backed { IsBacked P.fast (M.plain g.old) port.old no_chunk }
     requires chunk { IsChunkSize nb }
-    ensures steps { Steps (near_ledger P.fast) (begun_small nb (M.plain g.old))
+    ensures steps { Steps (near_ledger P.fast) (small_or_consolidated nb (M.plain g.old))
         (stage (M.plain g.old) (near port.old cache.old) said.old.items)
         result (stage (M.plain g.new) (near port.new cache.new) said.new.items) }
     ensures fits { IfOk result (FitsStep nb) }
@@ -91,7 +92,7 @@ pub fn begin<M: Moves, P: FastPort>(
     requires backed { IsBacked P.fast (M.plain g.old) port.old no_chunk }
     requires chunk { IsChunkSize nb }
     requires fast { t.now.max_fast ≤ 160 }
-    ensures steps { Steps (near_ledger P.fast) (begun t.now nb (M.plain g.old))
+    ensures steps { Steps (near_ledger P.fast) (first_steps t.now nb (M.plain g.old))
         (stage (M.plain g.old) (near port.old cache.old) said.old.items)
         result (stage (M.plain g.new) (near port.new cache.new) said.new.items) }
     ensures fits { IfOk result (FitsStep nb) }

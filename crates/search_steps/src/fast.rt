@@ -3,6 +3,7 @@
 ghost use Rattle.std.specs.Prelude.{◌≡◌, ◌<◌, ◌≤◌, [], ◌∷◌, ◌++◌, IfOk, OnErr};
 ghost use Rattle.chunk_tags.specs.Sizes.{IsChunkSize};
 ghost use Rattle.fast_bins.specs.FastPorts as fasts;
+ghost use Rattle.fast_bins.specs.FastPorts.{fast_bin_count};
 ghost use Rattle.arena_rules.specs.Search.{fast_taken};
 ghost use Rattle.consolidate_trim.specs.Holds.{IsBacked, no_chunk};
 ghost use Rattle.consolidate_trim.specs.Lacks.{IsFull};
@@ -19,7 +20,7 @@ use thread_cache::Cache;
 
 /// Pops the front of a fast bin, and keeps the answer. Where there is no memory for it nothing is popped.
 fn pop<P: FastPort>(port: &mut P, bin: u8, said: &mut Vec<Said>) -> Result<Option<Addr>, NoMemory>
-    requires { bin < 10 }
+    requires { bin < fast_bin_count }
     ensures told { IfOk result (λ o. said.new.items ≡ said.old.items ++ Said.Popped o ∷ []) }
     ensures popped { IfOk result (λ o. fasts.Did P.fast port.old (fasts.Pops bin o) port.new) }
     ensures port { OnErr result (port.new ≡ port.old) }
@@ -43,7 +44,8 @@ fn stash_fast<M: Moves, P: FastPort>(
     requires backed { IsBacked P.fast (M.plain g.now) port.old no_chunk }
     requires chunk { IsChunkSize nb }
     requires fast { nb ≤ 160 }
-    ensures stashes { StashesFast P.fast nb (stage (M.plain g.now) (near port.old cache.old) said.old.items)
+    ensures stashes { StashesFast P.fast nb
+        (stage (M.plain g.now) (near port.old cache.old) said.old.items)
         result (stage (M.plain g.now) (near port.new cache.new) said.new.items) }
     ensures lacks { OnErr result (IsFull said.new) }
 {

@@ -46,7 +46,8 @@ pub fn take_small<M: Moves>(
 ) -> Result<Step, NoMemory>
     requires sound { IsSound (M.plain g.old) }
     requires chunk { IsChunkSize nb }
-    ensures steps { Steps shelf (small_taken nb (M.plain g.old)) (stage (M.plain g.old) cache.old said.old.items)
+    ensures steps { Steps shelf (small_taken nb (M.plain g.old))
+        (stage (M.plain g.old) cache.old said.old.items)
         result (stage (M.plain g.new) cache.new said.new.items) }
     ensures fits { IfOk result (FitsStep nb) }
     ensures lacks { OnErr result (IsFull said.new) }

@@ -1,4 +1,4 @@
-use Rattle.std.proofs.Common.{◌≡◌, arith}
+use Rattle.std.proofs.Common.{arith}
 use Rattle.realloc_align.proofs.Tails.{has_lead, lead_goes, lead_short, part_backed, fits_at}
 use Rattle.realloc_align.proofs.aligning.align_in.Goals as goal
 

@@ -1,5 +1,5 @@
 use Rattle.std.proofs.Common.{refl}
-use Rattle.realloc_align.proofs.Released.{rest_backed, resizes_released, resizes_stranded, resizes_short, rose_released}
+use Rattle.realloc_align.proofs.Released.{rest_backed, resizes_released, resizes_stranded, rose_released}
 use Rattle.realloc_align.proofs.resizing.resize_in.Goals as goal
 
 pub release_rest-requires-clause-backed : goal.release_rest-requires-clause-backed

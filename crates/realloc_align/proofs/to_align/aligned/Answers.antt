@@ -1,4 +1,4 @@
-use Rattle.std.proofs.Common.{inr, inl, refl, rules}
+use Rattle.std.proofs.Common.{inr}
 use Rattle.arena_core.proofs.Recording.{can_align, records_replay, short_replay}
 use Rattle.realloc_align.proofs.Recorded.{align_recorded, align_short, take_fits}
 use Rattle.realloc_align.proofs.to_align.aligned.Goals as goal
