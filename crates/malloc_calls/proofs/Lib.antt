@@ -1,3 +1,2 @@
 pub mod Namings
-pub mod Resettlings
 pub mod Handovers

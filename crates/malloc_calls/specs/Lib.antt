@@ -5,9 +5,8 @@ pub use Rattle.own_blocks.specs.Calls
 pub use Rattle.own_blocks.specs.Frees
 pub use Rattle.own_blocks.specs.Exits
 pub use Rattle.own_blocks.specs.LeftCalls
+pub use Rattle.realloc_calls.specs.Reallocs
 pub mod Threads
 pub mod Mallocs
-pub mod Reallocs
 pub mod Trays
-pub mod Resettling
 pub mod Examples

@@ -1,6 +1,6 @@
 -- The calls that give a name a block: glibc 2.31 malloc/malloc.c, __libc_malloc, __libc_calloc and __posix_memalign. That a
 -- refused size or alignment changes nothing, not even the cache, is this project's own.
-use Rattle.std.specs.Prelude.{◌≡◌, ℕ, ◌+◌, ◌*◌, ◌%◌, Bool, ◌&&◌, nat_eq, nat_le, List, Option, Some, None, if◌then◌else◌}
+use Rattle.std.specs.Prelude.{◌≡◌, ℕ, ◌+◌, ◌*◌, ◌%◌, Bool, ◌&&◌, nat_eq, nat_le, Option, Some, None, if◌then◌else◌}
 use Rattle.std.specs.Int.{is_power_of_two}
 use Rattle.chunk_tags.specs.Pages.{user_address}
 use Rattle.chunk_tags.specs.Sizes.{padded_request}

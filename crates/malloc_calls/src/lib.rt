@@ -7,7 +7,6 @@
 mod examples;
 mod handing;
 mod malloc;
-mod realloc;
 mod thread;
 
 pub use block_names::{FarNames, Names};

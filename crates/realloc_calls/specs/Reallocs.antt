@@ -13,10 +13,9 @@ use Rattle.arena_holds.specs.Calls.{Call, Done, Unmaps, Remaps, then_call, hold_
 use Rattle.arena_holds.specs.Holding.{resized_to}
 use Rattle.own_blocks.specs.Calls.{origin_of, opening, plain_supply, Supplied, releasing, own_with}
 use Rattle.own_blocks.specs.Frees.{free_of_block}
-use Rattle.malloc_calls.specs.Mallocs.{refuse}
 use Rattle.block_names.specs.Names.{block_at}
 use Rattle.own_blocks.specs.declared.own.Own.{Own}
-use Rattle.malloc_calls.specs.declared.realloc.Reallocated.{Reallocated}
+use Rattle.realloc_calls.specs.declared.reallocated.Reallocated.{Reallocated}
 use Rattle.own_blocks.specs.declared.reply.Reply.{Reply}
 use Rattle.own_blocks.specs.declared.reply.Reply.TheVariants.{Got, Kept, Null, NotYours}
 use Rattle.own_blocks.specs.declared.reply.Origin.{Origin}
@@ -101,7 +100,7 @@ abbrev pub resettled : ℕ → Own → Resettled → Reply × Own
 resettled name own r = (r.0.reply, own_with name r.0.block r.1 own)
 
 abbrev pub padded_realloc : Tunables → ℕ → ℕ → ℕ → Option ℕ → Block → Own → Call (Reply × Own)
-padded_realloc t thread name size None b own = refuse whys.Big own
+padded_realloc t thread name size None b own = Done (Null whys.Big, own)
 padded_realloc t thread name size (Some nb) b own =
     then_call (realloc_in t thread size nb b b.arena own.cache) (λ r. Done (resettled name own r))
 
