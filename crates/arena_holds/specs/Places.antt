@@ -37,6 +37,10 @@ kept_of plain a = with_journal (plain a.ground) a.journal.items
 abbrev pub new_arena : Tunables → ℕ → Plain
 new_arena t a = if nat_eq a 0 then empty_main else closed_arena t a
 
+-- how many trays there are
+abbrev pub tray_count : ℕ
+tray_count = 65536
+
 -- ---- blocks in somebody's hands
 
 -- by what they weigh: for a weight of each block, the sum

@@ -3,7 +3,7 @@
 ghost use Rattle.std.specs.Prelude.{◌≡◌, ℕ, ◌<◌, ◌≤◌, false, Some, IsTrue, IsSome, OnOk, OnErr, IfErr, option_map};
 ghost use Rattle.chunk_tags.specs.Sizes.{IsChunkSize};
 ghost use Rattle.chunk_tags.specs.declared.block.Block.{Block};
-ghost use Rattle.arena_holds.specs.Places.{PlaceWays, PlaceLaws, Hands, both_of, kept_of};
+ghost use Rattle.arena_holds.specs.Places.{PlaceWays, PlaceLaws, Hands, both_of, kept_of, tray_count};
 ghost use Rattle.arena_holds.specs.Returning.{IsReturn, Unlocks, AreReturn, ReturnsWords, IsUnseen, IsBooked, IsChosen, IsNew, IsAdded, IsPosted, IsTaken, seen_full, found_in_tray};
 ghost use Rattle.block_names.specs.Blocks.{IsHeld};
 ghost use Rattle.arena_holds.specs.BookChanges.{Undoes, Reuses, Leaves};
@@ -114,7 +114,7 @@ pub trait Places {
 
     /// Posts a block to a tray. Where it isn't empty the block comes back.
     fn post(&mut self, tray: u32, b: Block) -> Result<(), Full>
-        requires tray { tray < 65536 }
+        requires tray { tray < tray_count }
         requires held { IsHeld b }
         requires served { ways.serves false self.old (λ weigh. weigh b) }
         ensures posted { IsPosted ways tray self.old b (seen_full result) self.new }
@@ -122,7 +122,7 @@ pub trait Places {
 
     /// Takes a tray's block, where there is one.
     fn take(&mut self, tray: u32) -> Result<Block, Empty>
-        requires tray { tray < 65536 }
+        requires tray { tray < tray_count }
         ensures { IsTaken ways tray self.old (found_in_tray result) self.new };
 
     ghost laws: { PlaceLaws ways Self.Hold.fast Self.Hold.dials Self.Dial.dials };

@@ -86,7 +86,8 @@ impl Source for SureSource {
         ensures fetches { Fetches ⟦<SureSource as Source>⟧.supply
             self.old into.new result self.new }
         ensures got { result ≡ fetched_of (length into.old) (length self.old) }
-        ensures behind { let n = min (length into.old) (length self.old) in drop n into.new ≡ drop n into.old }
+        ensures behind { let n = min (length into.old) (length self.old) in
+            drop n into.new ≡ drop n into.old }
     {
         let count = into.len().min(self.bytes.len() - self.at);
         if count == 0 {

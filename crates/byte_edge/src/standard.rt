@@ -40,8 +40,10 @@ impl<R: Read + Drop> Source for StdSource<R> {
 
     fn read(&mut self, into: &mut [u8]) -> Fetch
         requires { 0 < length into.old }
-        ensures fetches { Fetches ⟦<StdSource<R> as Source>⟧.supply self.old into.new result self.new }
-        ensures reads { ReadsFrom (R.remaining self.old.inner) into.new result (R.remaining self.new.inner) }
+        ensures fetches { Fetches ⟦<StdSource<R> as Source>⟧.supply
+            self.old into.new result self.new }
+        ensures reads { ReadsFrom (R.remaining self.old.inner) into.new
+            result (R.remaining self.new.inner) }
     {
         match self.reader.read(into) {
             Ok(0) => Fetch::End,
@@ -92,7 +94,8 @@ impl<W: Write + Drop> Sink for StdSink<W> {
     fn write(&mut self, from: &[u8]) -> Put
         requires { 0 < length from.now }
         ensures writes { Writes ⟦<StdSink<W> as Sink>⟧.store self.old from.now result self.new }
-        ensures gave { WritesTo (W.contents self.old.inner) from.now result (W.contents self.new.inner) }
+        ensures gave { WritesTo (W.contents self.old.inner) from.now
+            result (W.contents self.new.inner) }
     {
         match self.writer.write(from) {
             Ok(count) if count > 0 => Put::Took(count),

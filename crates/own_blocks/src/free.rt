@@ -1,6 +1,6 @@
 //! free.
 
-ghost use Rattle.std.specs.Prelude.{◌≡◌, ℕ, ◌<◌, true, nat_le, Some, None, Ok, IsSome, IfSome, IfOk, OnOk, OnErr, is_ok, length, ◌⊎◌, IsTrue};
+ghost use Rattle.std.specs.Prelude.{◌≡◌, ℕ, ◌<◌, true, nat_le, Some, None, Ok, IsSome, IfSome, IfOk, OnOk, OnErr, is_ok, IsTrue};
 ghost use Rattle.chunk_tags.specs.Tunables.{IsTuned};
 ghost use Rattle.consolidate_trim.specs.Outside.{means};
 ghost use Rattle.block_names.specs.Blocks.{IsHeld};

@@ -1,6 +1,6 @@
 //! What a thread has of its own.
 
-ghost use Rattle.std.specs.Prelude.{◌≡◌, ◌<◌, None, IsSome, IfSome, IfNone, length, IsTrue};
+ghost use Rattle.std.specs.Prelude.{◌≡◌, ◌<◌, None, IsSome, IfSome, IfNone, IsTrue};
 ghost use Rattle.std.specs.Option.{option_map};
 ghost use Rattle.chunk_tags.specs.Sizes.{IsChunkSize, chunk_size_of};
 ghost use Rattle.own_blocks.specs.Calls.{FitsName};

@@ -24,7 +24,7 @@ use Rattle.serial_places.specs.declared.slot.Slot.{Slot}
 use Rattle.serial_places.specs.declared.tray.Tray.{Tray}
 use Rattle.serial_places.specs.Trays.{tray_at, trays_taken, found_by_take, full_trays}
 use Rattle.serial_places.specs.SerialWays.{SerialState, KeptSlot, IsSerial, IsKeptIn, HasSlotRoom, Serves, LentSlot, GaveSlot, IdleSlot, PushedSlot, EndsAs, those_in, fast_lists, slot_in, put_in, taken_out, slot_with, kept_slot, kept_ground, kept_lent, is_there, state_at, state_ways}
-use Rattle.serial_places.specs.SerialPlaces.{serves_same, known}
+use Rattle.serial_places.specs.LawsOfPlaces.{serves_same, known}
 use Rattle.serial_places.proofs.Slots.{slot_within, some_within, slot-map, there-map, put_here}
 use Rattle.serial_places.proofs.SerialBooks.{chooses}
 use Rattle.serial_places.proofs.SerialKeeps.{slots_put, slots_out, kept_at, kept_back, serial_out, serial_put, serial_added, serial_book}

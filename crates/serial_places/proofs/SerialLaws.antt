@@ -32,7 +32,7 @@ use Rattle.serial_places.specs.Trays.{in_tray, in_trays, tray_at, trays_posted, 
 use Rattle.serial_places.specs.declared.tray.Tray.{Tray}
 use Rattle.serial_places.specs.declared.tray.Tray.TheVariants.{Empty, Full, Taken}
 use Rattle.serial_places.specs.SerialWays.{SerialState, KeptSlot, IsSerial, IsWhole, IsOwed, IsKeptIn, HasSlotRoom, LentSlot, GaveSlot, DialsOut, slot_in, put_in, slot_with, stock_in, used_in, state_ways}
-use Rattle.serial_places.specs.SerialPlaces.{covers_same, chunk_in}
+use Rattle.serial_places.specs.LawsOfPlaces.{covers_same, chunk_in}
 use Rattle.serial_places.proofs.Slots.{some_within, put_here, put_other, put_there}
 use Rattle.serial_places.proofs.SerialBooks.{KeepsList, allowed, listed_was, new_out}
 

@@ -2,4 +2,4 @@ pub mod Joined
 pub mod Playing
 pub mod Trays
 pub mod SerialWays
-pub mod SerialPlaces
+pub mod LawsOfPlaces

@@ -42,7 +42,7 @@ use Rattle.arena_choice.specs.Choices.{CanAttach, attached_book, undone_book}
 use Rattle.thread_cache.specs.Caches.{CacheValue}
 use Rattle.arena_holds.specs.BookChanges.{BookChange, book_after}
 use Rattle.arena_holds.specs.Calls.{Call, Done, Holds, HoldsFree, Opens, Books, Maps, Pushes, Frees, Unmaps, Remaps, Posts, Takes, HoldEnd, hold_end}
-use Rattle.arena_holds.specs.Places.{KeptArena, with_journal, kept_of, new_arena, Hands, as_chunk_of, as_mapped, as_mapped_bytes, Covers, PlaceWays, Setting, setting}
+use Rattle.arena_holds.specs.Places.{KeptArena, with_journal, kept_of, new_arena, tray_count, Hands, as_chunk_of, as_mapped, as_mapped_bytes, Covers, PlaceWays, Setting, setting}
 use Rattle.serial_places.specs.Playing.{HoldWorld, PlainPort, plain_means, PlayedHold, played_hold}
 use Rattle.serial_places.specs.Trays.{in_trays, tray_at, trays_posted, trays_taken, seen_by_post, found_by_take, empty_trays, IsHeldTray, full_trays}
 use Rattle.serial_places.specs.declared.boxed.BoxedGround.{BoxedGround}
@@ -128,7 +128,7 @@ pub record IsSerial (st : SerialState) : Type 0 where
   pub kept : (n : ℕ) → IfSome (slot_in st.slots n) (IsKeptIn st.tunables st.book.list n)
   pub sound : books.IsSound st.book
   pub records : st.book.records ≡ st.tunables.records
-  pub trays : length st.trays ≡ 65536
+  pub trays : length st.trays ≡ tray_count
   pub held : (n : ℕ) → IsHeldTray (tray_at st.trays n)
 
 -- ---- the beginning and the end

@@ -3,7 +3,7 @@
 use Rattle.std.specs.Prelude.{ℕ, ◌+◌, ◌-◌, List, [], ◌∷◌, ◌++◌, length, Option, Some, None, Result, Ok, Err, replicate, slice_index_or, slice_set, sum_by}
 use Rattle.chunk_tags.specs.declared.block.Block.{Block}
 use Rattle.block_names.specs.Blocks.{IsHeld}
-use Rattle.arena_holds.specs.Places.{Hands}
+use Rattle.arena_holds.specs.Places.{Hands, tray_count}
 use Rattle.serial_places.specs.declared.tray.Tray.{Tray}
 use Rattle.serial_places.specs.declared.tray.Tray.TheVariants.{Empty, Full, Taken}
 
@@ -63,11 +63,11 @@ trays_taken n trays = slice_set trays n (taken_tray (tray_at trays n))
 
 -- all trays, as they begin
 unfoldable pub empty_trays : List Tray
-empty_trays = replicate 65536 Empty
+empty_trays = replicate tray_count Empty
 
 -- all trays, where these are the first of them and the others are empty
 unfoldable pub all_trays : List Tray → List Tray
-all_trays first = first ++ replicate (65536 - length first) Empty
+all_trays first = first ++ replicate (tray_count - length first) Empty
 
 -- a block before others, with the number of its tray
 abbrev pub full_before : ℕ → Tray → List (ℕ × Block) → List (ℕ × Block)

@@ -1,6 +1,8 @@
 //! What places have at the end of a run.
 
 ghost use Rattle.std.specs.Prelude.{◌≡◌, ◌*◌, ◌++◌, ◌≤◌, length, map, flat_map, option_map, IfOk, OnOk};
+ghost use Rattle.fast_bins.specs.FastPorts.{fast_bin_count};
+ghost use Rattle.arena_holds.specs.Places.{tray_count};
 ghost use Rattle.serial_places.specs.SerialWays.{kept_ground, kept_lent, kept_slot, fast_lists, those_in};
 ghost use Rattle.serial_places.specs.Trays.{full_trays};
 
@@ -59,7 +61,7 @@ pub fn split_slots(
         ≡ map (λ s. s.kept) (those_in (map (option_map kept_slot) slots.items))) }
     ensures fast { IfOk result (λ r. map (λ l. l.items) r.1.items
         ≡ flat_map fast_lists (those_in (map (option_map kept_slot) slots.items))) }
-    ensures ten { IfOk result (λ r. length r.1.items ≡ 10 * length r.0.items) }
+    ensures ten { IfOk result (λ r. length r.1.items ≡ fast_bin_count * length r.0.items) }
 {
     let mut arenas = Vec::new(alloc);
     let mut fast = Vec::new(alloc);
@@ -74,7 +76,7 @@ pub fn split_slots(
 
 /// The blocks in trays, by the numbers of these.
 pub fn blocks_in(alloc: Global, trays: Vec<Tray>) -> Result<Vec<(u32, Block)>, NoMemory>
-    requires { length trays.items ≤ 65536 }
+    requires { length trays.items ≤ tray_count }
     ensures { IfOk result (λ blocks. blocks.items ≡ full_trays 0 trays.items) }
 {
     let mut blocks = Vec::new(alloc);

@@ -1,6 +1,7 @@
 //! The places of one order of calls.
 
 ghost use Rattle.std.specs.Prelude.{◌≡◌, ℕ, ◌*◌, ◌≤◌, false, List, ◌∷◌, length, map, replicate, option_map, Some, None, IfSome, IfOk, IsTrue};
+ghost use Rattle.fast_bins.specs.FastPorts.{fast_bin_count};
 ghost use Rattle.arena_rules.specs.HeapPlaces.{IsHeapPlaced};
 ghost use Rattle.arena_rules.specs.PlainArena.{empty_main, is_main};
 ghost use Rattle.serial_places.specs.SerialWays.{IsFirst, IsSerial, EndsAs, is_there, slot_in};
@@ -110,7 +111,8 @@ impl Serial {
     /// bins; and the tiles of one that isn't main fill its heaps, of which some are closed.
     pub fn laws(&self)
         ensures kept { IsSerial self.now }
-        ensures ten { (n : ℕ) → IfSome (slot_in self.now.slots n) (λ s. length s.bins.bins ≡ 10) }
+        ensures ten { (n : ℕ) → IfSome (slot_in self.now.slots n) (λ s.
+            length s.bins.bins ≡ fast_bin_count) }
         ensures heaps { (n : ℕ) → IfSome (slot_in self.now.slots n) (λ s.
             is_main s.kept.arena ≡ false → (closed : List ℕ) × IsHeapPlaced s.kept.arena closed) }
     {
@@ -136,7 +138,8 @@ impl Serial {
     pub fn end(self, alloc: Global) -> Result<SerialEnd, NoMemory>
         ensures ends { IfOk result (λ e. EndsAs self e.arenas.items
             (map (λ l. l.items) e.fast.items) e.book e.trays.items e.dials) }
-        ensures ten { IfOk result (λ e. length e.fast.items ≡ 10 * length e.arenas.items) }
+        ensures ten { IfOk result (λ e.
+            length e.fast.items ≡ fast_bin_count * length e.arenas.items) }
     {
         let Serial {
             arenas,
@@ -168,7 +171,7 @@ impl Places for Serial {
     ghost use Rattle.fast_bins.specs.PlainBins.{plain_fast};
     ghost use Rattle.serial_places.specs.Joined.{joined_fast};
     ghost use Rattle.arena_holds.specs.Returning.{IsReturn, Unlocks, IsNew, IsAdded};
-    ghost use Rattle.serial_places.specs.SerialPlaces.{serial_laws};
+    ghost use Rattle.serial_places.specs.LawsOfPlaces.{serial_laws};
     ghost use Rattle.serial_places.specs.SerialWays.{kept_lent, state_ways};
 
     ghost ways = { state_ways };

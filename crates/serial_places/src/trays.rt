@@ -1,6 +1,7 @@
 //! The trays of a run.
 
 ghost use Rattle.std.specs.Prelude.{◌≡◌, ◌+◌, ◌-◌, ◌<◌, ◌≤◌, ◌++◌, length, replicate, vec_capacity, IfOk, IfErr};
+ghost use Rattle.arena_holds.specs.Places.{tray_count};
 ghost use Rattle.arena_holds.specs.Returning.{seen_full, found_in_tray};
 ghost use Rattle.serial_places.specs.Trays.{seen_by_post, found_by_take, tray_at, trays_posted, trays_taken, empty_trays, full_trays};
 
@@ -28,20 +29,22 @@ impl Model for Trays {
     ghost Value = { List Tray };
 
     ghost use Rattle.std.specs.Prelude.{◌≤◌, length, vec_capacity};
+    ghost use Rattle.arena_holds.specs.Places.{tray_count};
     ghost use Rattle.serial_places.specs.Trays.{all_trays};
 
     ghost view = { λ t. all_trays t.reached.items };
 
-    ghost invariant = { λ t. (length t.reached.items ≤ 65536) × (65536 ≤ vec_capacity t.reached) };
+    ghost invariant = { λ t.
+        (length t.reached.items ≤ tray_count) × (tray_count ≤ vec_capacity t.reached) };
 }
 
 /// Writes the trays up to the one with a number that aren't written. Room is reserved, so no memory is asked for.
 fn reach(reached: &mut Vec<Tray>, number: usize)
-    requires number { number < 65536 }
-    requires room { 65536 ≤ vec_capacity reached.old }
+    requires number { number < tray_count }
+    requires room { tray_count ≤ vec_capacity reached.old }
     ensures items { reached.new.items ≡ reached.old.items
         ++ replicate (number + 1 - length reached.old.items) Tray.Empty }
-    ensures room { 65536 ≤ vec_capacity reached.new }
+    ensures room { tray_count ≤ vec_capacity reached.new }
 {
     let missing = (number + 1).saturating_sub(reached.len());
     for _ in 0..missing {
@@ -61,7 +64,7 @@ impl Trays {
 
     /// Puts a block into a tray. Where it isn't empty the block comes back.
     pub fn post(&mut self, number: u32, b: Block) -> Result<(), Full>
-        requires { number < 65536 }
+        requires { number < tray_count }
         ensures told { seen_full result ≡ seen_by_post (tray_at self.old number) }
         ensures trays { self.new ≡ trays_posted number b self.old }
         ensures back { IfErr result (λ full. full.block ≡ b) }

@@ -13,15 +13,15 @@ abbrev pub is_marked : List Bool → ℕ → ℕ → Bool
 is_marked marks thread name = slice_index_or marks (place_of thread name) false
 
 -- the name of a call; 0 where it has none
-abbrev pub name_of : Call → ℕ
-name_of (Malloc name size) = name
-name_of (Calloc name n size) = name
-name_of (Realloc name size) = name
-name_of (Align name align size) = name
-name_of (Free name) = name
-name_of (Post name tray) = name
-name_of (Take name tray) = name
-name_of Exit = 0
+abbrev pub name_or_zero : Call → ℕ
+name_or_zero (Malloc name size) = name
+name_or_zero (Calloc name n size) = name
+name_or_zero (Realloc name size) = name
+name_or_zero (Align name align size) = name
+name_or_zero (Free name) = name
+name_or_zero (Post name tray) = name
+name_or_zero (Take name tray) = name
+name_or_zero Exit = 0
 
 -- a thread and a name as they are drawn
 pub record IsDrawn (thread name : ℕ) : Type 0 where

@@ -2,7 +2,7 @@
 
 ghost use Rattle.std.specs.Prelude.{◌≡◌, ◌*◌, vec_len, IfOk, replicate, false};
 ghost use Rattle.trace_text.specs.Before.{held_after};
-ghost use Rattle.trace_maker.specs.HeldMarks.{name_of};
+ghost use Rattle.trace_maker.specs.HeldMarks.{name_or_zero};
 
 use chunk_tags::NoMemory;
 use std::alloc::Global;
@@ -59,7 +59,7 @@ fn unmarked(alloc: Global, count: usize) -> Result<Vec<bool>, NoMemory>
 
 /// Whether a call leaves its name held.
 pub(crate) fn is_held_after(call: &Call, was: bool) -> bool
-    ensures { result ≡ held_after (name_of call.now) was call.now }
+    ensures { result ≡ held_after (name_or_zero call.now) was call.now }
 {
     match *call {
         Call::Malloc { .. } | Call::Calloc { .. } | Call::Align { .. } | Call::Take { .. } => true,

@@ -18,7 +18,7 @@ use Rattle.own_blocks.specs.Own.{in_own}
 use Rattle.malloc_calls.specs.Threads.{new_thread, own_of}
 use Rattle.arena_holds.specs.Places.{as_mapped_byte, weight_of}
 use Rattle.serial_places.specs.SerialWays.{SerialState, IsFirst, first_slots}
-use Rattle.serial_places.specs.SerialPlaces.{serial_laws}
+use Rattle.serial_places.specs.LawsOfPlaces.{serial_laws}
 use Rattle.serial_places.specs.Trays.{in_trays, tray_at, empty_trays}
 use Rattle.serial_places.specs.declared.tray.Tray.TheVariants.{Empty, Full}
 use Rattle.serial_places.proofs.SerialFirst.{first_serves, first_whole, none_in_trays}

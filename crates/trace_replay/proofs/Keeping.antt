@@ -12,7 +12,7 @@ use Rattle.malloc_calls.specs.Threads.{own_of, names_of, space_of, number_of, wi
 use Rattle.arena_holds.specs.Places.{Hands, weight_of, both_of, as_mapped_byte, given_byte, standing, Carries}
 use Rattle.arena_holds.specs.Returning.{IsUnseen}
 use Rattle.serial_places.specs.SerialWays.{SerialState, Serves, state_ways}
-use Rattle.serial_places.specs.SerialPlaces.{serial_laws}
+use Rattle.serial_places.specs.LawsOfPlaces.{serial_laws}
 use Rattle.serial_places.specs.Trays.{in_trays}
 use Rattle.trace_replay.specs.Processes.{IsReady, IsServedBy, KeepsOn}
 use Rattle.trace_replay.specs.World.{own_with_place}

@@ -10,7 +10,7 @@ use Rattle.own_blocks.specs.Own.{in_own}
 use Rattle.malloc_calls.specs.Threads.{own_of, with_own, with_names, names_of}
 use Rattle.arena_holds.specs.Places.{weight_of, both_of, as_mapped_byte}
 use Rattle.serial_places.specs.SerialWays.{SerialState}
-use Rattle.serial_places.specs.SerialPlaces.{serial_laws}
+use Rattle.serial_places.specs.LawsOfPlaces.{serial_laws}
 use Rattle.serial_places.specs.declared.tray.Tray.{Tray}
 use Rattle.trace_text.specs.declared.trace.Call.{Call}
 use Rattle.trace_text.specs.declared.trace.Line.{Line}

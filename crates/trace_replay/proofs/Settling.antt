@@ -13,7 +13,7 @@ use Rattle.own_blocks.specs.Own.{in_own}
 use Rattle.malloc_calls.specs.Threads.{own_of, names_of, space_of}
 use Rattle.arena_holds.specs.Places.{Hands, both_of, as_mapped_byte, given_byte}
 use Rattle.serial_places.specs.SerialWays.{SerialState, Serves, Notes}
-use Rattle.serial_places.specs.SerialPlaces.{serial_laws}
+use Rattle.serial_places.specs.LawsOfPlaces.{serial_laws}
 use Rattle.trace_replay.specs.Processes.{in_threads, bytes_given, IsReady, AreBetweenCalls, IsServedBy, KeepsOn}
 use Rattle.trace_replay.proofs.Sums.{sum_changed, part_of_sum, either_at}
 

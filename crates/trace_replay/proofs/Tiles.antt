@@ -24,7 +24,7 @@ use Rattle.own_blocks.specs.Own.{in_names, in_own}
 use Rattle.malloc_calls.specs.Threads.{own_of, names_of, space_of}
 use Rattle.block_names.specs.Blocks.{IsHeld}
 use Rattle.arena_holds.specs.Places.{weight_of, as_chunk_of, as_mapped, as_mapped_bytes, as_mapped_byte, given_byte}
-use Rattle.serial_places.specs.SerialPlaces.{chunk_in, own_chunk}
+use Rattle.serial_places.specs.LawsOfPlaces.{chunk_in, own_chunk}
 use Rattle.serial_places.specs.SerialWays.{SerialState, KeptSlot, IsSerial, IsKept, slot_in, those_in, seen_slot, seen_slots, stock_in, used_in}
 use Rattle.serial_places.specs.Trays.{tray_at, in_tray, in_trays, full_trays, IsHeldTray}
 use Rattle.serial_places.specs.declared.tray.Tray.{Tray}

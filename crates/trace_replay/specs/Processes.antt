@@ -13,7 +13,7 @@ use Rattle.own_blocks.specs.Own.{in_own}
 use Rattle.malloc_calls.specs.Threads.{new_thread, own_of, with_own, names_of, space_of, number_of, who_of, IsSpaceOf}
 use Rattle.arena_holds.specs.Calls.{Call}
 use Rattle.arena_holds.specs.Going.{Does}
-use Rattle.arena_holds.specs.Places.{Hands, both_of, as_mapped_byte, given_byte, IsServed, standing}
+use Rattle.arena_holds.specs.Places.{tray_count, Hands, both_of, as_mapped_byte, given_byte, IsServed, standing}
 use Rattle.serial_places.specs.SerialWays.{SerialState, Serves, Notes, IsWhole, seen_slots, state_ways, serial_setting}
 use Rattle.serial_places.specs.Trays.{in_trays}
 use Rattle.trace_text.specs.declared.trace.Line.{Line}
@@ -88,7 +88,7 @@ pub record AreBetweenCalls {K : Type 0} (t : Tunables) (threads : List (Thread K
   pub ready : (number : ℕ) (th : Thread K) → slice_get threads number ≡ Some th → IsReady t number th
   pub exact : Serves true st (in_threads threads)
   pub whole : IsWhole st
-  pub trays : length st.trays ≡ 65536
+  pub trays : length st.trays ≡ tray_count
   pub tunables : st.tunables ≡ t
   pub noted : st.dials.state.mapped ≤ bytes_given threads
   pub noted_bytes : st.dials.state.bytes ≤ bytes_given threads

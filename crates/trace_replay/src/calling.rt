@@ -3,6 +3,7 @@
 ghost use Rattle.std.specs.Prelude.{◌≡◌, ◌≤◌, ◌*◌, ℕ, None, IfOk, OnErr, length};
 ghost use Rattle.chunk_tags.specs.Tunables.{IsTuned};
 ghost use Rattle.block_names.specs.Names.{block_at, IsTable};
+ghost use Rattle.arena_holds.specs.Places.{tray_count};
 ghost use Rattle.malloc_calls.specs.Threads.{names_of, number_of, own_of, with_own, who_of};
 ghost use Rattle.serial_places.specs.Trays.{tray_at};
 ghost use Rattle.serial_places.specs.declared.tray.Tray.TheVariants.{Empty};
@@ -34,7 +35,8 @@ fn malloc<K: Kernel>(
     requires tuned { IsTuned t.now }
     requires served { IsServedBy t.now thread.old serial.old }
     ensures does { IfOk result (λ reply.
-        DoesAt K.port t.now line (call_of t.now (number_of thread.old) (Malloc name size) (own_of thread.old))
+        DoesAt K.port t.now line
+        (call_of t.now (number_of thread.old) (Malloc name size) (own_of thread.old))
         thread.old serial.old reply thread.new serial.new) }
     ensures keeps { IfOk result (λ _. KeepsOn thread.old serial.old thread.new serial.new) }
     ensures names { IfOk result (λ _.
@@ -62,7 +64,8 @@ fn calloc<K: Kernel>(
     requires tuned { IsTuned t.now }
     requires served { IsServedBy t.now thread.old serial.old }
     ensures does { IfOk result (λ reply.
-        DoesAt K.port t.now line (call_of t.now (number_of thread.old) (Calloc name n size) (own_of thread.old))
+        DoesAt K.port t.now line
+        (call_of t.now (number_of thread.old) (Calloc name n size) (own_of thread.old))
         thread.old serial.old reply thread.new serial.new) }
     ensures keeps { IfOk result (λ _. KeepsOn thread.old serial.old thread.new serial.new) }
     ensures names { IfOk result (λ _.
@@ -90,7 +93,8 @@ fn posix_memalign<K: Kernel>(
     requires tuned { IsTuned t.now }
     requires served { IsServedBy t.now thread.old serial.old }
     ensures does { IfOk result (λ reply.
-        DoesAt K.port t.now line (call_of t.now (number_of thread.old) (Align name align size) (own_of thread.old))
+        DoesAt K.port t.now line
+        (call_of t.now (number_of thread.old) (Align name align size) (own_of thread.old))
         thread.old serial.old reply thread.new serial.new) }
     ensures keeps { IfOk result (λ _. KeepsOn thread.old serial.old thread.new serial.new) }
     ensures names { IfOk result (λ _.
@@ -116,7 +120,8 @@ fn realloc<K: Kernel>(
     requires tuned { IsTuned t.now }
     requires served { IsServedBy t.now thread.old serial.old }
     ensures does { IfOk result (λ reply.
-        DoesAt K.port t.now line (call_of t.now (number_of thread.old) (Realloc name size) (own_of thread.old))
+        DoesAt K.port t.now line
+        (call_of t.now (number_of thread.old) (Realloc name size) (own_of thread.old))
         thread.old serial.old reply thread.new serial.new) }
     ensures keeps { IfOk result (λ _. KeepsOn thread.old serial.old thread.new serial.new) }
     ensures names { IfOk result (λ reply.
@@ -141,7 +146,8 @@ fn free<K: Kernel>(
     requires tuned { IsTuned t.now }
     requires served { IsServedBy t.now thread.old serial.old }
     ensures does { IfOk result (λ reply.
-        DoesAt K.port t.now line (call_of t.now (number_of thread.old) (Free name) (own_of thread.old))
+        DoesAt K.port t.now line
+        (call_of t.now (number_of thread.old) (Free name) (own_of thread.old))
         thread.old serial.old reply thread.new serial.new) }
     ensures keeps { IfOk result (λ _. KeepsOn thread.old serial.old thread.new serial.new) }
     ensures names { IfOk result (λ _.
@@ -185,11 +191,12 @@ fn post<K: Kernel>(
     t: &Tunables,
 ) -> Result<Reply, NoMemory>
     requires tray { tray ≤ 65535 }
-    requires trays { length serial.old.trays ≡ 65536 }
+    requires trays { length serial.old.trays ≡ tray_count }
     requires empty { tray_at serial.old.trays tray ≡ Empty }
     requires served { IsServedBy t.now thread.old serial.old }
     ensures does { (line : ℕ) → IfOk result (λ reply.
-        DoesAt K.port t.now line (call_of t.now (number_of thread.old) (Post name tray) (own_of thread.old))
+        DoesAt K.port t.now line
+        (call_of t.now (number_of thread.old) (Post name tray) (own_of thread.old))
         thread.old serial.old reply thread.new serial.new) }
     ensures keeps { IfOk result (λ _. KeepsOn thread.old serial.old thread.new serial.new) }
     ensures names { IfOk result (λ reply. PostsName name tray reply
@@ -211,10 +218,11 @@ fn take<K: Kernel>(
 ) -> Result<Reply, NoMemory>
     requires free { block_at (names_of thread.old) name ≡ None }
     requires tray { tray ≤ 65535 }
-    requires trays { length serial.old.trays ≡ 65536 }
+    requires trays { length serial.old.trays ≡ tray_count }
     requires served { IsServedBy t.now thread.old serial.old }
     ensures does { (line : ℕ) → IfOk result (λ reply.
-        DoesAt K.port t.now line (call_of t.now (number_of thread.old) (Take name tray) (own_of thread.old))
+        DoesAt K.port t.now line
+        (call_of t.now (number_of thread.old) (Take name tray) (own_of thread.old))
         thread.old serial.old reply thread.new serial.new) }
     ensures keeps { IfOk result (λ _. KeepsOn thread.old serial.old thread.new serial.new) }
     ensures names { IfOk result (λ reply. TakesName name tray reply
@@ -237,7 +245,7 @@ pub fn call<K: Kernel>(
 ) -> Result<Reply, NoMemory>
     requires thread { number_of thread.old ≡ line.now.thread }
     requires may { MayCall line.now (names_of thread.old) serial.old.trays }
-    requires trays { length serial.old.trays ≡ 65536 }
+    requires trays { length serial.old.trays ≡ tray_count }
     requires tuned { IsTuned t.now }
     requires served { IsServedBy t.now thread.old serial.old }
     ensures done { IfOk result (λ reply.
@@ -280,7 +288,8 @@ fn name_of(call: &Call) -> Option<u32>
 
 /// The end of a line: the place of its name goes, where that is one of its own and empty.
 pub fn tidy<K: Kernel>(thread: &mut Thread<K>, line: &Line)
-    ensures { thread.new ≡ with_own (own_tidied (name_in line.now.call) (own_of thread.old)) thread.old }
+    ensures { thread.new
+        ≡ with_own (own_tidied (name_in line.now.call) (own_of thread.old)) thread.old }
 {
     if let Some(name) = name_of(&line.call) {
         thread.tidy(name);

@@ -68,7 +68,8 @@ impl<K: Kernel> Process<K> {
         requires may { MayRun line.now (world_of self.old) }
         requires settled { IsBetweenCalls self.old }
         ensures told { Tells K.port self.old →
-            IfOk result (λ reply. step_in K.port line.now self.old ≡ Some (reply, world_of self.new)) }
+            IfOk result (λ reply.
+            step_in K.port line.now self.old ≡ Some (reply, world_of self.new)) }
         ensures telling { Tells K.port self.old → OnOk result (Tells K.port self.new) }
         ensures blocks { IfOk result (λ reply.
             LeavesLine line.now reply (world_of self.old) (world_of self.new)) }

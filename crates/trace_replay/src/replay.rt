@@ -56,7 +56,8 @@ pub fn replay<K: Kernel>(
     requires allowed { AreLines lines.now }
     requires awaits { Awaits sheet.old lines.now }
     ensures told { Tells K.port process.old → OnOk result
-        (NotesRun sheet.old sheet.new (run_in K.port lines.now process.old) (world_of process.new)) }
+        (NotesRun sheet.old sheet.new
+        (run_in K.port lines.now process.old) (world_of process.new)) }
     ensures settled { OnOk result (IsBetweenCalls process.new) }
     ensures tiled { Tells K.port process.old → OnOk result ((count : ℕ) →
         TilesAfter K.port process.old.t (take count lines.now) (world_of process.old)) }

@@ -10,6 +10,7 @@ use Rattle.chunk_tags.specs.declared.block.Block.{Block}
 use Rattle.chunk_tags.specs.declared.tiles.Tile.{Tile}
 use Rattle.chunk_tags.specs.declared.tiles.TileKind.TheVariants as kinds
 use Rattle.thread_cache.specs.Caches.{cached_tiles, structure_of}
+use Rattle.fast_bins.specs.FastPorts.{fast_bin_count}
 use Rattle.fast_bins.specs.PlainBins.{FastState, listed}
 use Rattle.arena_rules.specs.PlainArena.{Plain, bin_at}
 use Rattle.own_blocks.specs.declared.own.Own.{Own}
@@ -84,7 +85,7 @@ fast_lists s = map listed s.bins
 
 -- ten lists by number; behind the last one there is none
 unfoldable pub ten_lists : List (List ℕ) → List (ℕ × List ℕ)
-ten_lists lists = map (λ number. (number, slice_index_or lists number [])) (range_with_len 0 10)
+ten_lists lists = map (λ number. (number, slice_index_or lists number [])) (range_with_len 0 fast_bin_count)
 
 abbrev pub fast_of : FastState → List (ℕ × List ℕ)
 fast_of s = ten_lists (fast_lists s)

@@ -1,6 +1,7 @@
 -- Arenas one after another, as the code goes over them (this project's own). No public clause cites this file.
 use Rattle.std.specs.Prelude.{ℕ, ◌+◌, ◌*◌, List, [], ◌∷◌, ◌++◌, map, slice_index_or}
 use Rattle.std.specs.List.{range_with_len}
+use Rattle.fast_bins.specs.FastPorts.{fast_bin_count}
 use Rattle.arena_rules.specs.PlainArena.{Plain}
 use Rattle.arena_ground.specs.Grounds.{GroundView}
 use Rattle.arena_core.specs.declared.arena.Arena as held
@@ -10,10 +11,10 @@ use Rattle.world_view.specs.Scenes.{arena_shown}
 
 -- the lists of the fast chunks of the arena at an index, where there are ten lists an arena
 abbrev pub fast_bin_at : List (List ℕ) → ℕ → ℕ → ℕ × List ℕ
-fast_bin_at lists index number = (number, slice_index_or lists (10 * index + number) [])
+fast_bin_at lists index number = (number, slice_index_or lists (fast_bin_count * index + number) [])
 
 unfoldable pub fast_at : List (List ℕ) → ℕ → List (ℕ × List ℕ)
-fast_at lists index = map (fast_bin_at lists index) (range_with_len 0 10)
+fast_at lists index = map (fast_bin_at lists index) (range_with_len 0 fast_bin_count)
 
 -- the arenas without their journals
 abbrev pub plains_of : List (held.Arena GroundView) → List Plain

@@ -3,6 +3,7 @@ use Rattle.std.specs.Prelude.{◌≡◌, ℕ, ◌+◌, ◌==◌, List, [], ◌�
 use Rattle.std.specs.List.{AllByRecursion, flat_map}
 use Rattle.chunk_tags.specs.declared.block.Block.{Block}
 use Rattle.thread_cache.specs.Caches.{addresses_of}
+use Rattle.fast_bins.specs.FastPorts.{fast_bin_count}
 use Rattle.fast_bins.specs.PlainBins.{FastState}
 use Rattle.mapped_chunks.specs.declared.plain.DialState.{DialState}
 use Rattle.arena_rules.specs.PlainArena.{Plain}
@@ -32,7 +33,7 @@ pub record Scene : Type 0 where
 pub record AreArenas (scenes : List ArenaScene) (arenas : List Plain) (lists : List (List ℕ)) : Type 0 where
   pub arenas_are : map (λ s. s.arena) scenes ≡ arenas
   pub lists_are : flat_map (λ s. fast_lists s.fast) scenes ≡ lists
-  pub ten : AllByRecursion (λ s. length s.fast.bins ≡ 10) scenes
+  pub ten : AllByRecursion (λ s. length s.fast.bins ≡ fast_bin_count) scenes
 
 -- ---- what is found
 

@@ -6,6 +6,7 @@ use Rattle.chunk_tags.specs.declared.block.Block.{Block}
 use Rattle.chunk_tags.specs.declared.tiles.Chunk.{Chunk}
 use Rattle.chunk_tags.specs.declared.tiles.Tile.{Tile}
 use Rattle.thread_cache.specs.Caches.{structure_of}
+use Rattle.fast_bins.specs.FastPorts.{fast_bin_count}
 use Rattle.fast_bins.specs.PlainBins.{FastState, chunks_of}
 use Rattle.arena_rules.specs.PlainArena.{Plain, IsSound, is_main, times_used}
 use Rattle.arena_rules.specs.MainPlaces.{IsPlaced, times_covered}
@@ -48,7 +49,7 @@ pub record IsWholeArena (s : Scene) (a : ArenaScene) : Type 0 where
   pub sound : IsSound a.arena
   pub main : IsPlaced a.arena
   pub heaps : is_main a.arena ≡ false → (closed : List ℕ) × IsHeapPlaced a.arena closed
-  pub ten : length a.fast.bins ≡ 10
+  pub ten : length a.fast.bins ≡ fast_bin_count
   pub once : (e : Chunk) → times_used e a.arena ≤ 1
   pub each : (e : Chunk) → in_scene s (as_chunk_of a.arena.number e) + times_fast a.fast e ≡ times_used e a.arena
 

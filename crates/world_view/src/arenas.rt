@@ -76,7 +76,8 @@ fn all_found(
 ) -> Result<BTreeMap<u64, Place>, NoMemory>
     requires { length arenas.now ≤ 64 }
     ensures { IfOk result (λ m. m.entries ≡ found_by_address
-        (finds_found finds.now ++ binned_from (map (λ l. l.items) lists.now) 0 (plains_of arenas.now))) }
+        (finds_found finds.now
+        ++ binned_from (map (λ l. l.items) lists.now) 0 (plains_of arenas.now))) }
 {
     let mut found = BTreeMap::new(alloc);
     put_finds(&mut found, finds)?;
@@ -149,7 +150,8 @@ pub fn arena_views(
     requires arenas { length arenas.now ≤ 64 }
     requires list { length list.now ≤ 64 }
     ensures shown { IfOk result (λ v. v.items ≡ arenas_from (found_by_address
-        (finds_found finds.now ++ binned_from (map (λ l. l.items) lists.now) 0 (plains_of arenas.now)))
+        (finds_found finds.now
+        ++ binned_from (map (λ l. l.items) lists.now) 0 (plains_of arenas.now)))
         list.now (map (λ l. l.items) lists.now) 0 (plains_of arenas.now)) }
     ensures idle { IfOk result (λ v. AreWithinSystem v.items) }
     ensures fits { IfOk result (λ v. system_bytes_of v.items ≤ 2 ^ 38) }

@@ -47,7 +47,8 @@ fn append_row<K: Kernel>(
     number: u8,
     thread: &Thread<K>,
 ) -> Result<(), NoMemory>
-    ensures { OnOk result (finds.new.items ≡ finds.old.items ++ named_from number 0 (names_of thread.now).near) }
+    ensures { OnOk result (finds.new.items
+        ≡ finds.old.items ++ named_from number 0 (names_of thread.now).near) }
 {
     for name in 0..thread.row() {
         if let Some(block) = thread.in_row(name) {
@@ -68,7 +69,8 @@ fn append_far<K: Kernel>(
     number: u8,
     thread: &Thread<K>,
 ) -> Result<(), NoMemory>
-    ensures { OnOk result (finds.new.items ≡ finds.old.items ++ far_finds number (names_of thread.now).far) }
+    ensures { OnOk result (finds.new.items
+        ≡ finds.old.items ++ far_finds number (names_of thread.now).far) }
 {
     for name in thread.far().names() {
         if let Some(block) = thread.far().get(*name) {
@@ -127,7 +129,8 @@ fn append_thread<K: Kernel>(
     number: u8,
     thread: &Thread<K>,
 ) -> Result<(), NoMemory>
-    ensures { OnOk result (finds.new.items ≡ finds.old.items ++ thread_finds number (own_of thread.now)) }
+    ensures { OnOk result (finds.new.items
+        ≡ finds.old.items ++ thread_finds number (own_of thread.now)) }
 {
     append_row(finds, number, thread)?;
     append_far(finds, number, thread)?;
@@ -142,7 +145,8 @@ fn append_threads<K: Kernel>(
     threads: &[Thread<K>],
 ) -> Result<(), NoMemory>
     requires { length threads.now ≤ 64 }
-    ensures { OnOk result (finds.new.items ≡ finds.old.items ++ threads_finds 0 (map own_of threads.now)) }
+    ensures { OnOk result (finds.new.items
+        ≡ finds.old.items ++ threads_finds 0 (map own_of threads.now)) }
 {
     for (number, thread) in threads.iter().enumerate() {
         append_thread(alloc, finds, number as u8, thread)?;

@@ -13,6 +13,11 @@ use stats_text::{Place, TileView};
 use std::alloc::Global;
 use std::collections::BTreeMap;
 
+/// How many fast bins an arena has, and how many other bins, with the one that isn't used.
+const FAST_BINS: usize = 10;
+
+const BINS: u8 = 127;
+
 /// The list at an index; there is none behind the last one.
 fn list(alloc: Global, lists: &[Vec<Addr>], index: usize) -> Result<Vec<Addr>, NoMemory>
     ensures { IfOk result (λ v. v.items ≡ slice_index_or (map (λ l. l.items) lists.now) index []) }
@@ -34,8 +39,8 @@ pub fn fast_bins(
     ensures { IfOk result (λ v. lists_of v.items ≡ fast_at (map (λ l. l.items) lists.now) index) }
 {
     let mut bins = Vec::new(alloc);
-    for number in 0..10_u8 {
-        let list = list(alloc, lists, 10 * index + usize::from(number))?;
+    for number in 0..FAST_BINS as u8 {
+        let list = list(alloc, lists, FAST_BINS * index + usize::from(number))?;
         bins.push((number, list))?;
     }
     Ok(bins)
@@ -47,7 +52,7 @@ pub fn bins(alloc: Global, ground: &Ground) -> Result<Vec<(u8, Vec<Addr>)>, NoMe
     ensures { IfOk result (λ v. lists_of v.items ≡ bins_of ground.now.arena) }
 {
     let mut bins = Vec::new(alloc);
-    for number in 0..127_u8 {
+    for number in 0..BINS {
         bins.push((number, ground.bin(alloc, number)?))?;
     }
     Ok(bins)
@@ -55,7 +60,8 @@ pub fn bins(alloc: Global, ground: &Ground) -> Result<Vec<(u8, Vec<Addr>)>, NoMe
 
 /// Puts the blocks of threads and trays in their places by address.
 pub fn put_finds(found: &mut BTreeMap<u64, Place>, finds: &[Find]) -> Result<(), NoMemory>
-    ensures { OnOk result (found.new.entries ≡ fold put_found found.old.entries (finds_found finds.now)) }
+    ensures { OnOk result (found.new.entries
+        ≡ fold put_found found.old.entries (finds_found finds.now)) }
 {
     for find in finds {
         found.insert(find.tile.addr.0, find.tile.place)?;
@@ -65,7 +71,8 @@ pub fn put_finds(found: &mut BTreeMap<u64, Place>, finds: &[Find]) -> Result<(),
 
 /// Puts the chunks of a list at a place.
 fn put_list(found: &mut BTreeMap<u64, Place>, addrs: &[Addr], place: Place) -> Result<(), NoMemory>
-    ensures { OnOk result (found.new.entries ≡ fold put_found found.old.entries (map (λ addr. (addr, place)) addrs.now)) }
+    ensures { OnOk result (found.new.entries
+        ≡ fold put_found found.old.entries (map (λ addr. (addr, place)) addrs.now)) }
 {
     for addr in addrs {
         found.insert(addr.0, place)?;
@@ -75,7 +82,8 @@ fn put_list(found: &mut BTreeMap<u64, Place>, addrs: &[Addr], place: Place) -> R
 
 /// Puts the chunks of fast bins.
 pub fn put_fast(found: &mut BTreeMap<u64, Place>, bins: &[(u8, Vec<Addr>)]) -> Result<(), NoMemory>
-    ensures { OnOk result (found.new.entries ≡ fold put_found found.old.entries (placed_in places.Fast (lists_of bins.now))) }
+    ensures { OnOk result (found.new.entries
+        ≡ fold put_found found.old.entries (placed_in places.Fast (lists_of bins.now))) }
 {
     for bin in bins {
         put_list(found, bin.1.as_slice(), Place::Fast { bin: bin.0 })?;
@@ -85,7 +93,8 @@ pub fn put_fast(found: &mut BTreeMap<u64, Place>, bins: &[(u8, Vec<Addr>)]) -> R
 
 /// Puts the chunks of other bins.
 pub fn put_bins(found: &mut BTreeMap<u64, Place>, bins: &[(u8, Vec<Addr>)]) -> Result<(), NoMemory>
-    ensures { OnOk result (found.new.entries ≡ fold put_found found.old.entries (placed_in places.Bin (lists_of bins.now))) }
+    ensures { OnOk result (found.new.entries
+        ≡ fold put_found found.old.entries (placed_in places.Bin (lists_of bins.now))) }
 {
     for bin in bins {
         put_list(found, bin.1.as_slice(), Place::Bin { bin: bin.0 })?;

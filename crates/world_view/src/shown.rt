@@ -22,7 +22,8 @@ use std::collections::BTreeMap;
 
 /// Puts the mapped chunks in their places by address.
 fn place_mapped(finds: &[Find], placed: &mut BTreeMap<u64, TileView>) -> Result<(), NoMemory>
-    ensures { OnOk result (placed.new.entries ≡ fold put_tile placed.old.entries (mapped_finds finds.now)) }
+    ensures { OnOk result (placed.new.entries
+        ≡ fold put_tile placed.old.entries (mapped_finds finds.now)) }
 {
     for find in finds {
         if find.mapped {
@@ -79,7 +80,8 @@ fn cache_views<K: Kernel>(alloc: Global, threads: &[Thread<K>]) -> Result<Vec<Ca
 
 /// Threads, each with its arena.
 fn thread_views(alloc: Global, book: &Book, lines: &[u8]) -> Result<Vec<(u8, Option<u8>)>, NoMemory>
-    ensures { IfOk result (λ v. v.items ≡ map (λ thread. (thread, arena_of book.now thread)) lines.now) }
+    ensures { IfOk result (λ v. v.items
+        ≡ map (λ thread. (thread, arena_of book.now thread)) lines.now) }
 {
     let mut threads = Vec::new(alloc);
     for thread in lines {

@@ -1,4 +1,5 @@
--- The places of one order of calls keep the laws of places (this project's own).
+-- The places of one order of calls keep the laws of places (this project's own). The proofs stand here, since `serial_laws` is
+-- cited by a ghost member of `Serial`.
 use Rattle.std.proofs.Common.{◌≡◌, ℕ, ◌+◌, ◌-◌, ◌*◌, ◌^◌, ◌<◌, ◌≤◌, Bool, true, false, ◌&&◌, cond, Option, Some, None, inl, inr, IsTrue, refl, sym, ap, ◌∙◌, subst, arith}
 use Rattle.std.specs.Prelude.{nat_eq, is_some}
 use Rattle.std.proofs.lemmas.Bool.{cases_lt}
