@@ -4,6 +4,7 @@ ghost use Rattle.std.specs.Prelude.{◌≡◌, IfOk};
 ghost use Rattle.arena_tests.specs.HeapScenes.{one_heap, two_heaps, free_rest, heap_again};
 ghost use Rattle.arena_tests.specs.GroundScenes.{two_chunks, grown_behind_free};
 
+use crate::region_tests::expect_row;
 use arena_ground::Ground;
 use arena_rules::{HeapEnd, Moves};
 use chunk_tags::{Addr, Chunk, NoMemory, Size, Tile, TileKind};
@@ -16,6 +17,21 @@ const START: u64 = 0x5555_5555_9000;
 
 /// Where heap 0 of arena 1 begins.
 const HEAP: u64 = 0x7f00_0000_0000;
+
+/// The end of heap 0 before a second heap.
+const FIRST_END: HeapEnd = HeapEnd {
+    fence: Tile {
+        addr: Addr(HEAP + 12_256),
+        size: Size(32),
+        kind: TileKind::Fence,
+    },
+    before: Some(Tile {
+        addr: Addr(HEAP + 3264),
+        size: Size(8992),
+        kind: TileKind::Free,
+    }),
+    room: 53_248,
+};
 
 /// Main with a chunk off its first growth, with what was to be released of an old top, and where the chunk is.
 fn with_a_chunk(alloc: Global) -> Result<(Ground, Option<Chunk>, Addr), NoMemory> {
@@ -118,19 +134,7 @@ fn drop_second(ground: &mut Ground)
     requires { ground.old.arena ≡ free_rest }
     ensures { ground.new.arena ≡ heap_again }
 {
-    ground.drop_heap(&HeapEnd {
-        fence: Tile {
-            addr: Addr(HEAP + 12_256),
-            size: Size(32),
-            kind: TileKind::Fence,
-        },
-        before: Some(Tile {
-            addr: Addr(HEAP + 3264),
-            size: Size(8992),
-            kind: TileKind::Free,
-        }),
-        room: 53_248,
-    });
+    ground.drop_heap(&FIRST_END);
 }
 
 /// The heap that is left becomes a page shorter.
@@ -147,24 +151,31 @@ fn expect_tiles(
     ground: &Ground,
     want: &[(u64, u64, TileKind)],
 ) -> Result<(), NoMemory> {
-    let is = ground.tiles(alloc)?;
-    assert_eq!(rt; is.len(), want.len());
-    for (t, (addr, size, kind)) in is.iter().zip(want) {
-        assert_eq!(rt; t.addr.0, *addr);
-        assert_eq!(rt; t.size.0, *size);
-        assert_eq!(rt; t.kind, *kind);
-    }
+    expect_row(rt, &ground.tiles(alloc)?, want);
+    Ok(())
+}
+
+/// Unsorted has so many chunks.
+fn expect_unsorted(
+    rt: &impl Abort,
+    alloc: Global,
+    ground: &Ground,
+    count: usize,
+) -> Result<(), NoMemory> {
+    assert_eq!(rt; ground.bin(alloc, 1)?.len(), count);
     Ok(())
 }
 
 #[test]
 fn a_chunk_of_main(rt: HostRuntime) -> Result<(), Fail> {
     let (ground, rest, at) = with_a_chunk(rt.alloc())?;
-    assert_eq!(rt; rest, None);
-    assert_eq!(rt; at, Addr(START));
-    assert_eq!(rt; ground.most(), 135_168);
-    assert_eq!(rt; ground.tiles(rt.alloc())?.len(), 2);
-    assert_eq!(rt; ground.bin(rt.alloc(), 1)?.len(), 0);
+    assert_eq!(rt; (rest, at, ground.most()), (None, Addr(START), 135_168));
+    let tiles = [
+        (START, 32, TileKind::Used),
+        (START + 32, 135_136, TileKind::Top),
+    ];
+    expect_tiles(&rt, rt.alloc(), &ground, &tiles)?;
+    expect_unsorted(&rt, rt.alloc(), &ground, 0)?;
     Ok(())
 }
 
@@ -172,39 +183,26 @@ fn a_chunk_of_main(rt: HostRuntime) -> Result<(), Fail> {
 fn a_chunk_grows_and_is_joined(rt: HostRuntime) -> Result<(), Fail> {
     let mut ground = with_two_chunks(rt.alloc())?;
     grow_behind_free(&mut ground);
-    expect_tiles(
-        &rt,
-        rt.alloc(),
-        &ground,
-        &[
-            (START, 32, TileKind::Free),
-            (START + 32, 64, TileKind::Used),
-            (START + 96, 135_072, TileKind::Top),
-        ],
-    )?;
-    assert_eq!(rt;
-        join_the_next(&mut ground),
-        Chunk {
-            at: Addr(START + 32),
-            size: Size(96)
-        }
-    );
-    expect_tiles(
-        &rt,
-        rt.alloc(),
-        &ground,
-        &[
-            (START, 32, TileKind::Free),
-            (START + 32, 96, TileKind::Used),
-            (START + 128, 135_040, TileKind::Top),
-        ],
-    )?;
-    assert_eq!(rt; ground.bin(rt.alloc(), 1)?.len(), 1);
+    let tiles = [
+        (START, 32, TileKind::Free),
+        (START + 32, 64, TileKind::Used),
+        (START + 96, 135_072, TileKind::Top),
+    ];
+    expect_tiles(&rt, rt.alloc(), &ground, &tiles)?;
+    let joined = join_the_next(&mut ground);
+    assert_eq!(rt; (joined.at, joined.size), (Addr(START + 32), Size(96)));
+    let tiles = [
+        (START, 32, TileKind::Free),
+        (START + 32, 96, TileKind::Used),
+        (START + 128, 135_040, TileKind::Top),
+    ];
+    expect_tiles(&rt, rt.alloc(), &ground, &tiles)?;
+    expect_unsorted(&rt, rt.alloc(), &ground, 1)?;
     Ok(())
 }
 
 /// What the second heap changes.
-fn two_heaps_stand(
+fn expect_two_heaps(
     rt: &impl Abort,
     alloc: Global,
     ground: &Ground,
@@ -214,46 +212,41 @@ fn two_heaps_stand(
         at: Addr(HEAP + 3264),
         size: Size(8992),
     };
-    assert_eq!(rt; rest, Some(want));
-    assert_eq!(rt; ground.system(), 20_480);
-    expect_tiles(
-        rt,
-        alloc,
-        ground,
-        &[
-            (HEAP + 2240, 1024, TileKind::Used),
-            (HEAP + 3264, 8992, TileKind::Used),
-            (HEAP + 12_256, 32, TileKind::Fence),
-            (HEAP + 65_568, 8160, TileKind::Top),
-        ],
-    )
+    assert_eq!(rt; (rest, ground.system()), (Some(want), 20_480));
+    let tiles = [
+        (HEAP + 2240, 1024, TileKind::Used),
+        (HEAP + 3264, 8992, TileKind::Used),
+        (HEAP + 12_256, 32, TileKind::Fence),
+        (HEAP + 65_568, 8160, TileKind::Top),
+    ];
+    expect_tiles(rt, alloc, ground, &tiles)
+}
+
+/// Arena 1 with two heaps, and what was left of the first one's top free.
+fn with_two_heaps(rt: &impl Abort, alloc: Global) -> Result<Ground, NoMemory>
+    ensures { IfOk result (λ g. g.arena ≡ free_rest) }
+{
+    let (mut ground, at) = with_a_heap(alloc)?;
+    assert_eq!(rt; at, Addr(HEAP + 2240));
+    let rest = grow_heaps(&mut ground)?;
+    expect_two_heaps(rt, alloc, &ground, rest)?;
+    free_the_rest(&mut ground);
+    Ok(ground)
 }
 
 #[test]
 fn heaps_come_and_go(rt: HostRuntime) -> Result<(), Fail> {
-    let (mut ground, at) = with_a_heap(rt.alloc())?;
-    assert_eq!(rt; at, Addr(HEAP + 2240));
-    let rest = grow_heaps(&mut ground)?;
-    two_heaps_stand(&rt, rt.alloc(), &ground, rest)?;
-    free_the_rest(&mut ground);
-    assert_eq!(rt; ground.bin(rt.alloc(), 1)?.len(), 1);
-    let end = end_of_first(&ground).expect(&rt, "an end");
-    assert_eq!(rt; end.fence.addr, Addr(HEAP + 12_256));
-    assert_eq!(rt; end.fence.size, Size(32));
-    assert_eq!(rt; end.before.map(|t| t.addr), Some(Addr(HEAP + 3264)));
-    assert_eq!(rt; end.room, 53_248);
+    let mut ground = with_two_heaps(&rt, rt.alloc())?;
+    expect_unsorted(&rt, rt.alloc(), &ground, 1)?;
+    assert_eq!(rt; end_of_first(&ground), Some(FIRST_END));
     drop_second(&mut ground);
-    assert_eq!(rt; ground.bin(rt.alloc(), 1)?.len(), 0);
+    expect_unsorted(&rt, rt.alloc(), &ground, 0)?;
     shorten_first(&mut ground);
     assert_eq!(rt; ground.system(), 8192);
-    expect_tiles(
-        &rt,
-        rt.alloc(),
-        &ground,
-        &[
-            (HEAP + 2240, 1024, TileKind::Used),
-            (HEAP + 3264, 4928, TileKind::Top),
-        ],
-    )?;
+    let tiles = [
+        (HEAP + 2240, 1024, TileKind::Used),
+        (HEAP + 3264, 4928, TileKind::Top),
+    ];
+    expect_tiles(&rt, rt.alloc(), &ground, &tiles)?;
     Ok(())
 }

@@ -87,6 +87,14 @@ fn note(main: &mut Regions, tiles: &TileWords)
     main.note_most();
 }
 
+/// These tiles have such places, sizes and kinds.
+pub(crate) fn expect_row(rt: &impl Abort, is: &[Tile], want: &[(u64, u64, TileKind)]) {
+    assert_eq!(rt; is.len(), want.len());
+    for (t, row) in is.iter().zip(want) {
+        assert_eq!(rt; (t.addr.0, t.size.0, t.kind), *row);
+    }
+}
+
 /// The tiles are these, by place, size and kind.
 fn expect_tiles(
     rt: &impl Abort,
@@ -96,13 +104,7 @@ fn expect_tiles(
 ) -> Result<(), NoMemory>
     requires { Row tiles.now.tiles }
 {
-    let is = tiles.tiles(alloc)?;
-    assert_eq!(rt; is.len(), want.len());
-    for (t, (addr, size, kind)) in is.iter().zip(want) {
-        assert_eq!(rt; t.addr.0, *addr);
-        assert_eq!(rt; t.size.0, *size);
-        assert_eq!(rt; t.kind, *kind);
-    }
+    expect_row(rt, &tiles.tiles(alloc)?, want);
     Ok(())
 }
 
@@ -120,8 +122,7 @@ fn top_grows(
     assert_eq!(rt; cut(rt, main, tiles, 32), Addr(MAIN_START));
     assert_eq!(rt; grow(rt, main, tiles, 4096), None);
     note(main, tiles);
-    assert_eq!(rt; main.system, 139_264);
-    assert_eq!(rt; main.most, 139_264);
+    assert_eq!(rt; (main.system, main.most), (139_264, 139_264));
     let want = [
         (MAIN_START, 32, TileKind::Used),
         (MAIN_START + 32, 139_232, TileKind::Top),
@@ -144,9 +145,10 @@ fn top_moves(
         at: Addr(MAIN_START + 32),
         size: Size(139_200),
     };
-    assert_eq!(rt; rest, Some(want));
-    assert!(rt; !main.contiguous);
-    assert_eq!(rt; main.next_piece, PIECE_START + 1_048_576);
+    assert_eq!(rt;
+        (rest, main.contiguous, main.next_piece),
+        (Some(want), false, PIECE_START + 1_048_576)
+    );
     let want = [
         (MAIN_START, 32, TileKind::Used),
         (MAIN_START + 32, 139_200, TileKind::Used),
@@ -198,12 +200,16 @@ fn top_goes_back(rt: &impl Abort, main: &mut Regions, tiles: &mut TileWords)
     note(main, tiles);
     trim(rt, main, tiles, 4096);
     note(main, tiles);
-    assert_eq!(rt; main.break_at, MAIN_START + 147_456);
-    assert_eq!(rt; main.system, 2_244_608);
-    assert_eq!(rt; main.most, 2_248_704);
-    let top = main.top(tiles).expect(rt, "top");
-    assert_eq!(rt; top.addr, Addr(MAIN_START + 143_360));
-    assert_eq!(rt; top.size, Size(4096));
+    assert_eq!(rt;
+        (main.break_at, main.system, main.most),
+        (MAIN_START + 147_456, 2_244_608, 2_248_704)
+    );
+    let top = Tile {
+        addr: Addr(MAIN_START + 143_360),
+        size: Size(4096),
+        kind: TileKind::Top,
+    };
+    assert_eq!(rt; main.top(tiles), Some(top));
 }
 
 #[test]
@@ -277,21 +283,26 @@ fn shorten_first(rt: &impl Abort, heaps: &mut Regions, tiles: &mut TileWords)
     heaps.shorten_heap(tiles, 4096);
 }
 
-#[test]
-fn heaps_come_and_go(rt: HostRuntime) -> Result<(), Fail> {
-    let alloc = rt.alloc();
+/// Arena 1 with two heaps.
+fn with_two_heaps(rt: &impl Abort, alloc: Global) -> Result<(Regions, TileWords), NoMemory>
+    ensures { IfOk result (λ x. IsHeapScene x.0 x.1 two_heaps (12288 ∷ [])) }
+{
     let (mut heaps, mut tiles) = with_a_heap(alloc)?;
     extend_first(&mut heaps, &mut tiles);
     assert_eq!(rt; heaps.system, 12_288);
     let rest = add_second(&mut heaps, &mut tiles);
-    assert_eq!(rt;
-        rest,
-        Some(Chunk {
-            at: Addr(HEAPS_START + 3264),
-            size: Size(8992)
-        })
-    );
-    assert_eq!(rt; heaps.system, 20_480);
+    let want = Chunk {
+        at: Addr(HEAPS_START + 3264),
+        size: Size(8992),
+    };
+    assert_eq!(rt; (rest, heaps.system), (Some(want), 20_480));
+    Ok((heaps, tiles))
+}
+
+#[test]
+fn heaps_come_and_go(rt: HostRuntime) -> Result<(), Fail> {
+    let alloc = rt.alloc();
+    let (mut heaps, mut tiles) = with_two_heaps(&rt, alloc)?;
     let want = [
         (HEAPS_START + 2240, 1024, TileKind::Used),
         (HEAPS_START + 3264, 8992, TileKind::Used),

@@ -36,6 +36,13 @@ fn grown(alloc: Global, growth: u64) -> Result<Ground, NoMemory>
     Ok(g)
 }
 
+fn chunk(at: u64, size: u64) -> Chunk {
+    Chunk {
+        at: Addr(at),
+        size: Size(size),
+    }
+}
+
 /// Cuts a chunk off top.
 fn cut(rt: &impl Abort, g: &mut Ground, nb: u64) -> Chunk
     requires { IsSound g.old.arena }
@@ -88,9 +95,8 @@ fn expect_sizes(
 {
     let tiles = g.tiles(alloc)?;
     assert_eq!(rt; tiles.len(), want.len());
-    for (t, (size, kind)) in tiles.iter().zip(want) {
-        assert_eq!(rt; t.size.0, *size);
-        assert_eq!(rt; t.kind, *kind);
+    for (t, row) in tiles.iter().zip(want) {
+        assert_eq!(rt; (t.size.0, t.kind), *row);
     }
     Ok(())
 }
@@ -121,45 +127,70 @@ fn expect_given(rt: &impl Abort, said: &[Said], want: &[u64]) {
     }
 }
 
+/// Cuts chunks of these sizes off top, one behind the other.
+fn cut_each(rt: &impl Abort, g: &mut Ground, sizes: &[u64])
+    requires { IsSound g.old.arena }
+    ensures { IsSound g.new.arena }
+{
+    for nb in sizes {
+        cut(rt, g, *nb);
+    }
+}
+
+/// Main with six chunks, which are merged in the order of these rows, all but the last. Each row has a chunk's place, its
+/// size, and the size that it has once it is merged.
+fn five_merged(rt: &impl Abort, alloc: Global) -> Result<Ground, NoMemory>
+    ensures { IfOk result (λ g. IsSound g.arena) }
+{
+    let mut g = grown(alloc, 135_168)?;
+    cut_each(rt, &mut g, &[160, 176, 192, 208, 224, 240]);
+    for (at, size, merged) in [
+        // alone, with a free one before it, alone, between two, with a free one behind it
+        (START + 160, 176, 176),
+        (START + 336, 192, 368),
+        (START + 736, 224, 224),
+        (START + 528, 208, 800),
+        (START, 160, 960),
+    ] {
+        let is = merge_own(rt, alloc, &mut g, chunk(at, size))?;
+        assert_eq!(rt; is, Merged::Unsorted(Size(merged)));
+    }
+    Ok(g)
+}
+
+/// Unsorted has these chunks, front first, and the tiles are as large from the start of main on.
+fn expect_left(
+    rt: &impl Abort,
+    alloc: Global,
+    g: &Ground,
+    unsorted: &[u64],
+    sizes: &[(u64, TileKind)],
+) -> Result<(), NoMemory>
+    requires { IsSound g.now.arena }
+{
+    expect_unsorted(rt, alloc, g, unsorted)?;
+    expect_sizes(rt, alloc, g, sizes)
+}
+
 #[test]
 fn neighbours_are_merged(rt: HostRuntime) -> Result<(), Fail> {
-    let alloc = rt.alloc();
-    let mut g = grown(alloc, 135_168)?;
-    let a = cut(&rt, &mut g, 160);
-    let b = cut(&rt, &mut g, 176);
-    let c = cut(&rt, &mut g, 192);
-    let d = cut(&rt, &mut g, 208);
-    let e = cut(&rt, &mut g, 224);
-    let f = cut(&rt, &mut g, 240);
+    let g = five_merged(&rt, rt.alloc())?;
+    let sizes = [
+        (960, TileKind::Free),
+        (240, TileKind::Used),
+        (133_968, TileKind::Top),
+    ];
+    expect_left(&rt, rt.alloc(), &g, &[START], &sizes)?;
+    Ok(())
+}
 
-    // alone, with a free one before it, alone, between two, with a free one behind it
-    let merged = merge_own(&rt, alloc, &mut g, b)?;
-    assert_eq!(rt; merged, Merged::Unsorted(Size(176)));
-    let merged = merge_own(&rt, alloc, &mut g, c)?;
-    assert_eq!(rt; merged, Merged::Unsorted(Size(368)));
-    let merged = merge_own(&rt, alloc, &mut g, e)?;
-    assert_eq!(rt; merged, Merged::Unsorted(Size(224)));
-    let merged = merge_own(&rt, alloc, &mut g, d)?;
-    assert_eq!(rt; merged, Merged::Unsorted(Size(800)));
-    let merged = merge_own(&rt, alloc, &mut g, a)?;
-    assert_eq!(rt; merged, Merged::Unsorted(Size(960)));
-    expect_unsorted(&rt, alloc, &g, &[START])?;
-    expect_sizes(
-        &rt,
-        alloc,
-        &g,
-        &[
-            (960, TileKind::Free),
-            (240, TileKind::Used),
-            (133_968, TileKind::Top),
-        ],
-    )?;
-
-    // a free one before it, and top behind it
-    let merged = merge_own(&rt, alloc, &mut g, f)?;
+/// A free one is before it, and top behind it.
+#[test]
+fn the_last_one_is_merged_with_both(rt: HostRuntime) -> Result<(), Fail> {
+    let mut g = five_merged(&rt, rt.alloc())?;
+    let merged = merge_own(&rt, rt.alloc(), &mut g, chunk(START + 960, 240))?;
     assert_eq!(rt; merged, Merged::Top(Size(135_168)));
-    expect_unsorted(&rt, alloc, &g, &[])?;
-    expect_sizes(&rt, alloc, &g, &[(135_168, TileKind::Top)])?;
+    expect_left(&rt, rt.alloc(), &g, &[], &[(135_168, TileKind::Top)])?;
     Ok(())
 }
 
@@ -224,37 +255,27 @@ fn answers(rt: &impl Abort, alloc: Global, g: &mut Ground) -> Result<Vec<Said>, 
 fn two_fast_bins_are_merged(rt: HostRuntime) -> Result<(), Fail> {
     let alloc = rt.alloc();
     let mut g = grown(alloc, 135_168)?;
-    for nb in [32, 48, 64, 32, 48, 64, 48] {
-        cut(&rt, &mut g, nb);
-    }
+    cut_each(&rt, &mut g, &[32, 48, 64, 32, 48, 64, 48]);
     let said = answers(&rt, alloc, &mut g)?;
     assert_eq!(rt; said.len(), 15);
-    expect_given(
-        &rt,
-        &said,
-        &[
-            0x5555_5555_9090,
-            0x5555_5555_9000,
-            0,
-            0x5555_5555_9120,
-            0x5555_5555_90b0,
-            0x5555_5555_9020,
-            0,
-        ],
-    );
-    expect_unsorted(&rt, alloc, &g, &[0x5555_5555_9000, 0x5555_5555_9090])?;
-    expect_sizes(
-        &rt,
-        alloc,
-        &g,
-        &[
-            (80, TileKind::Free),
-            (64, TileKind::Used),
-            (80, TileKind::Free),
-            (64, TileKind::Used),
-            (134_880, TileKind::Top),
-        ],
-    )?;
+    let chunks = [
+        0x5555_5555_9090,
+        0x5555_5555_9000,
+        0,
+        0x5555_5555_9120,
+        0x5555_5555_90b0,
+        0x5555_5555_9020,
+        0,
+    ];
+    expect_given(&rt, &said, &chunks);
+    let sizes = [
+        (80, TileKind::Free),
+        (64, TileKind::Used),
+        (80, TileKind::Free),
+        (64, TileKind::Used),
+        (134_880, TileKind::Top),
+    ];
+    expect_left(&rt, alloc, &g, &[START, 0x5555_5555_9090], &sizes)?;
     Ok(())
 }
 
@@ -295,9 +316,10 @@ fn whole_pages_behind_the_pad_go_back(rt: HostRuntime) -> Result<(), Fail> {
         (218_976, 131_072, 0, 352_256),
     ] {
         let (given, g) = trimmed(&rt, rt.alloc(), nb, threshold)?;
-        assert_eq!(rt; given, bytes);
-        assert_eq!(rt; g.system(), system);
-        assert_eq!(rt; g.break_at(), START + system);
+        assert_eq!(rt;
+            (given, g.system(), g.break_at()),
+            (bytes, system, START + system)
+        );
     }
     Ok(())
 }
@@ -329,7 +351,7 @@ fn cut_some(rt: &impl Abort, g: &mut Ground, nb: u64)
     }
 }
 
-/// Arena 1 with heaps of these lengths, and a chunk of so many bytes at the front of each; 0 is none.
+/// Arena 1 with heaps of these lengths, and a chunk of so many bytes at the front of each, where they aren't 0.
 fn with_heaps(
     rt: &impl Abort,
     alloc: Global,
@@ -345,10 +367,8 @@ fn with_heaps(
     let mut g = Ground::open(alloc, 1, 65_536, 4, len)?;
     cut_some(rt, &mut g, nb);
     for (len, nb) in more {
-        if *len > 0 {
-            add_heap(rt, alloc, &mut g, *len)?;
-            cut_some(rt, &mut g, *nb);
-        }
+        add_heap(rt, alloc, &mut g, *len)?;
+        cut_some(rt, &mut g, *nb);
     }
     Ok(g)
 }
@@ -371,109 +391,77 @@ fn heaps_trimmed(
     Ok((bytes, g))
 }
 
-#[test]
-fn heaps_are_dropped_and_the_last_one_is_shortened(rt: HostRuntime) -> Result<(), Fail> {
-    let none = (0, 0);
-    for (first, more, pad, threshold, bytes, top, size) in [
-        // the end of the last heap, at the threshold, and behind the pad
-        ((65_536, 1024), [none; 2], 4096, 62_272, 57_344, 3264, 4928),
-        ((65_536, 1024), [none; 2], 4096, 62_273, 0, 3264, 62_272),
-        ((65_536, 1024), [none; 2], 58_143, 0, 4096, 3264, 58_176),
-        ((65_536, 1024), [none; 2], 58_144, 0, 0, 3264, 62_272),
-        // heap 0 stays, though top is all of it
-        ((65_536, 0), [none; 2], 0, 0, 61_440, 2240, 1856),
-        // a heap goes where the fence before it, the free chunk before that and what the heap may grow by are enough
-        (
-            (16_384, 1024),
-            [(8192, 0), none],
-            58_144,
-            100_000,
-            8192,
-            3264,
-            13_120,
-        ),
-        (
-            (16_384, 1024),
-            [(8192, 0), none],
-            58_145,
-            100_000,
-            0,
-            65_568,
-            8160,
-        ),
-        // the same of a fence alone
-        (
-            (8192, 5904),
-            [(8192, 0), none],
-            53_264,
-            100_000,
-            8192,
-            8144,
-            48,
-        ),
-        (
-            (8192, 5904),
-            [(8192, 0), none],
-            53_265,
-            100_000,
-            0,
-            65_568,
-            8160,
-        ),
-        // two heaps go, one of two, and none
-        (
-            (16_384, 1024),
-            [(8192, 0), (8192, 0)],
-            58_144,
-            100_000,
-            16_384,
-            3264,
-            13_120,
-        ),
-        (
-            (16_384, 1024),
-            [(8192, 0), (8192, 0)],
-            58_145,
-            100_000,
-            8192,
-            65_568,
-            8160,
-        ),
-        (
-            (16_384, 1024),
-            [(8192, 0), (8192, 0)],
-            61_377,
-            100_000,
-            0,
-            131_104,
-            8160,
-        ),
-        // a heap with a chunk stays, and becomes shorter
-        (
-            (16_384, 1024),
-            [(8192, 64), (8192, 0)],
-            0,
-            0,
-            12_288,
-            65_632,
-            4000,
-        ),
-        // a heap goes, and the one before it becomes shorter
-        (
-            (65_536, 1024),
-            [(8192, 0), none],
-            4096,
-            62_272,
-            65_536,
-            3264,
-            4928,
-        ),
-    ] {
-        let (given, g) = heaps_trimmed(&rt, rt.alloc(), first, &more, pad, threshold)?;
-        assert_eq!(rt; given, bytes, "with a pad of {pad} and from {threshold} on");
-        let end = g.top().expect(&rt, "top");
-        assert_eq!(rt; end.addr.0.checked_sub(HEAP), Some(top));
-        assert_eq!(rt; end.size.0, size);
+/// Each of these rows has a pad and a threshold, the bytes that go back for them, and where top then begins behind heap 0
+/// and its size.
+fn expect_trims(
+    rt: &impl Abort,
+    alloc: Global,
+    first: (u64, u64),
+    more: &[(u64, u64)],
+    rows: &[(u64, u64, u64, u64, u64)],
+) -> Result<(), NoMemory> {
+    for (pad, threshold, bytes, top, size) in rows {
+        let (given, g) = heaps_trimmed(rt, alloc, first, more, *pad, *threshold)?;
+        let end = g.top().expect(rt, "top");
+        assert_eq!(rt;
+            (given, end.addr.0.checked_sub(HEAP), end.size.0),
+            (*bytes, Some(*top), *size),
+            "with a pad of {pad} and from {threshold} on"
+        );
     }
+    Ok(())
+}
+
+#[test]
+fn the_last_heap_is_shortened(rt: HostRuntime) -> Result<(), Fail> {
+    // at the threshold, and behind the pad
+    let rows = [
+        (4096, 62_272, 57_344, 3264, 4928),
+        (4096, 62_273, 0, 3264, 62_272),
+        (58_143, 0, 4096, 3264, 58_176),
+        (58_144, 0, 0, 3264, 62_272),
+    ];
+    expect_trims(&rt, rt.alloc(), (65_536, 1024), &[], &rows)?;
+    // heap 0 stays, though top is all of it
+    let rows = [(0, 0, 61_440, 2240, 1856)];
+    expect_trims(&rt, rt.alloc(), (65_536, 0), &[], &rows)?;
+    // a heap with a chunk stays
+    let rows = [(0, 0, 12_288, 65_632, 4000)];
+    let more = [(8192, 64), (8192, 0)];
+    expect_trims(&rt, rt.alloc(), (16_384, 1024), &more, &rows)?;
+    Ok(())
+}
+
+#[test]
+fn a_heap_is_dropped(rt: HostRuntime) -> Result<(), Fail> {
+    let more = [(8192, 0)];
+    // where the fence before it, the free chunk before that and what the heap may grow by are enough
+    let rows = [
+        (58_144, 100_000, 8192, 3264, 13_120),
+        (58_145, 100_000, 0, 65_568, 8160),
+    ];
+    expect_trims(&rt, rt.alloc(), (16_384, 1024), &more, &rows)?;
+    // the same of a fence alone
+    let rows = [
+        (53_264, 100_000, 8192, 8144, 48),
+        (53_265, 100_000, 0, 65_568, 8160),
+    ];
+    expect_trims(&rt, rt.alloc(), (8192, 5904), &more, &rows)?;
+    // the heap before it becomes shorter
+    let rows = [(4096, 62_272, 65_536, 3264, 4928)];
+    expect_trims(&rt, rt.alloc(), (65_536, 1024), &more, &rows)?;
+    Ok(())
+}
+
+/// Both go, one of them, and none.
+#[test]
+fn two_heaps_are_dropped(rt: HostRuntime) -> Result<(), Fail> {
+    let rows = [
+        (58_144, 100_000, 16_384, 3264, 13_120),
+        (58_145, 100_000, 8192, 65_568, 8160),
+        (61_377, 100_000, 0, 131_104, 8160),
+    ];
+    let more = [(8192, 0), (8192, 0)];
+    expect_trims(&rt, rt.alloc(), (16_384, 1024), &more, &rows)?;
     Ok(())
 }

@@ -12,11 +12,16 @@ fn bins_of_two_chunks(rt: HostRuntime) -> Result<(), Fail> {
     let mut links = LinkWords::new(rt.alloc(), 4096, 65_536)?;
     links.open(rt.alloc(), Addr(4096), 64)?;
     push_unsorted(&mut links, Addr(4096));
-    assert!(rt; only_unsorted(&links));
-    assert_eq!(rt; oldest_unsorted(&links), Some(Addr(4096)));
+    assert_eq!(rt;
+        (only_unsorted(&links), oldest_unsorted(&links)),
+        (true, Some(Addr(4096)))
+    );
     put_small(&mut links, Addr(4128), Size(32));
-    assert_eq!(rt; first_bin_from(&links, 2), Some(2));
-    assert_eq!(rt; take_small(&mut links, Size(32)), Some(Addr(4128)));
-    assert_eq!(rt; first_bin_from(&links, 2), None);
+    let filled = first_bin_from(&links, 2);
+    let taken = take_small(&mut links, Size(32));
+    assert_eq!(rt;
+        (filled, taken, first_bin_from(&links, 2)),
+        (Some(2), Some(Addr(4128)), None)
+    );
     Ok(())
 }

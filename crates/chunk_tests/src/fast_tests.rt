@@ -5,7 +5,6 @@ ghost use Rattle.std.specs.Prelude.{◌<◌};
 use chunk_tags::{Addr, NoMemory};
 use fast_bins::{FastPort, PlainFast};
 use std::alloc::Global;
-use std::process::Abort;
 use std::test::Fail;
 
 /// Pushes a chunk, where there is memory.
@@ -17,20 +16,8 @@ fn put<P: FastPort>(port: &mut P, bin: u8, at: u64) -> Result<(), NoMemory>
     Ok(())
 }
 
-fn list_of(
-    rt: &impl Abort,
-    bins: &PlainFast,
-    alloc: Global,
-    bin: usize,
-) -> Result<Vec<Addr>, NoMemory> {
-    let mut lists = bins.lists(alloc)?;
-    assert!(rt; bin < lists.len());
-    Ok(lists.remove(bin))
-}
-
-#[test]
-fn a_chain_goes_before_the_private_list(rt: HostRuntime) -> Result<(), Fail> {
-    let alloc = rt.alloc();
+/// Fast bin 1 with a chain of two chunks, one of a chunk before it, and a chunk of its own; and fast bin 9 with a chunk.
+fn with_chains(alloc: Global) -> Result<PlainFast, NoMemory> {
     let mut bins = PlainFast::new(alloc);
     put(&mut bins, 1, 0x10)?;
     put(&mut bins, 1, 0x20)?;
@@ -39,29 +26,46 @@ fn a_chain_goes_before_the_private_list(rt: HostRuntime) -> Result<(), Fail> {
     bins.take_all(1);
     put(&mut bins, 1, 0x40)?;
     put(&mut bins, 9, 0x50)?;
-    let list = list_of(&rt, &bins, alloc, 1)?;
+    Ok(bins)
+}
+
+#[test]
+fn a_chain_goes_before_the_private_list(rt: HostRuntime) -> Result<(), Fail> {
+    let mut bins = with_chains(rt.alloc())?;
+    let lists = bins.lists(rt.alloc())?;
+    let list = lists.get(1).ok_or("ten lists")?;
     assert_eq!(rt;
         list.as_slice(),
         [Addr(0x40), Addr(0x30), Addr(0x20), Addr(0x10)].as_slice()
     );
-    assert_eq!(rt; bins.pop_own(1), Some(Addr(0x30)));
-    assert_eq!(rt; bins.pop(1), Some(Addr(0x40)));
-    assert_eq!(rt; bins.pop(1), Some(Addr(0x20)));
-    assert_eq!(rt; bins.pop_own(1), Some(Addr(0x10)));
-    assert_eq!(rt; bins.pop_own(1), None);
-    assert_eq!(rt; bins.pop(1), None);
-    assert_eq!(rt; bins.pop_own(9), None);
-    assert_eq!(rt; bins.pop(9), Some(Addr(0x50)));
+    // of the thread's own chain or of the bin
+    for (own, bin, at) in [
+        (true, 1, Some(Addr(0x30))),
+        (false, 1, Some(Addr(0x40))),
+        (false, 1, Some(Addr(0x20))),
+        (true, 1, Some(Addr(0x10))),
+        (true, 1, None),
+        (false, 1, None),
+        (true, 9, None),
+        (false, 9, Some(Addr(0x50))),
+    ] {
+        let popped = if own {
+            bins.pop_own(bin)
+        } else {
+            bins.pop(bin)
+        };
+        assert_eq!(rt; popped, at);
+    }
     Ok(())
 }
 
 #[test]
 fn a_push_sets_the_flag(rt: HostRuntime) -> Result<(), Fail> {
     let mut bins = PlainFast::new(rt.alloc());
-    assert!(rt; !bins.flag());
+    let new = bins.flag();
     put(&mut bins, 0, 0x10)?;
-    assert!(rt; bins.flag());
+    let pushed = bins.flag();
     bins.clear_flag();
-    assert!(rt; !bins.flag());
+    assert_eq!(rt; (new, pushed, bins.flag()), (false, true, false));
     Ok(())
 }

@@ -19,9 +19,7 @@ fn tile(addr: u64, size: u64, kind: TileKind) -> Tile
 #[test]
 fn top_is_cut_and_made_whole(rt: HostRuntime) -> Result<(), Fail> {
     let mut words = TileWords::new(rt.alloc(), Addr(4096), 65536);
-    words
-        .open(rt.alloc(), Addr(4096), 4096)
-        .expect(&rt, "memory");
+    words.open(rt.alloc(), Addr(4096), 4096)?;
     let top = tile(4096, 4096, TileKind::Top);
     words.enter(&top);
     words.split(&top, Size(64), TileKind::Used, TileKind::Top);
@@ -31,52 +29,53 @@ fn top_is_cut_and_made_whole(rt: HostRuntime) -> Result<(), Fail> {
         TileKind::Used,
         TileKind::Top,
     );
-    assert_eq!(rt; words.tile(Addr(4160)).size, Size(32));
-    assert_eq!(rt;
-        words.shift_border(
-            &tile(4160, 32, TileKind::Used),
-            &tile(4192, 4000, TileKind::Top),
-            Size(48)
-        ),
-        Addr(4208)
+    let cut = words.tile(Addr(4160)).size;
+    let border = words.shift_border(
+        &tile(4160, 32, TileKind::Used),
+        &tile(4192, 4000, TileKind::Top),
+        Size(48),
     );
-    assert_eq!(rt; words.tile(Addr(4208)).size, Size(3984));
+    let shifted = words.tile(Addr(4208)).size;
     words.shift_border(
         &tile(4160, 48, TileKind::Used),
         &tile(4208, 3984, TileKind::Top),
         Size(32),
     );
-    assert_eq!(rt; words.tile(Addr(4192)).size, Size(4000));
+    let again = words.tile(Addr(4192)).size;
     words.set_kind(&tile(4096, 64, TileKind::Used), TileKind::Free);
-    assert!(rt; words.free_before(Addr(4160)).is_some());
-    assert_eq!(rt;
-        words.behind(&tile(4096, 64, TileKind::Free)).size,
-        Size(32)
-    );
+    let free = words.free_before(Addr(4160)).is_some();
+    let behind = words.behind(&tile(4096, 64, TileKind::Free)).size;
     words.fuse(
         &tile(4096, 64, TileKind::Free),
         &tile(4160, 32, TileKind::Used),
         TileKind::Used,
     );
     words.set_size(&tile(4192, 4000, TileKind::Top), Size(2048));
-    assert_eq!(rt; words.tiles(rt.alloc()).expect(&rt, "memory").len(), 2);
+    let count = words.tiles(rt.alloc())?.len();
     words.remove(&tile(4096, 96, TileKind::Used));
-    assert_eq!(rt; words.tile(Addr(4192)).size, Size(2048));
+    let left = words.tile(Addr(4192)).size;
+    assert_eq!(rt;
+        (cut, border, shifted, again),
+        (Size(32), Addr(4208), Size(3984), Size(4000))
+    );
+    assert_eq!(rt;
+        (free, behind, count, left),
+        (true, Size(32), 2, Size(2048))
+    );
     Ok(())
 }
 
 #[test]
 fn a_tile_is_found_by_its_end(rt: HostRuntime) -> Result<(), Fail> {
     let mut words = TileWords::new(rt.alloc(), Addr(4096), 65536);
-    words
-        .open(rt.alloc(), Addr(4096), 4096)
-        .expect(&rt, "memory");
+    words.open(rt.alloc(), Addr(4096), 4096)?;
     let top = tile(6336, 1856, TileKind::Top);
     words.enter(&top);
     words.split(&top, Size(1808), TileKind::Used, TileKind::Fence);
     let fence = words.ending_at(Addr(8192));
-    assert_eq!(rt; fence.addr, Addr(8144));
-    assert_eq!(rt; fence.size, Size(48));
-    assert_eq!(rt; words.ending_at(Addr(8144)).addr, Addr(6336));
+    assert_eq!(rt;
+        (fence.addr, fence.size, words.ending_at(Addr(8144)).addr),
+        (Addr(8144), Size(48), Addr(6336))
+    );
     Ok(())
 }

@@ -99,20 +99,35 @@ fn equals_and_others_in_order(rt: HostRuntime) -> Result<(), Fail> {
     let tiles = five_chunks(rt.alloc())?;
     let mut links = no_chunks(rt.alloc())?;
     put(&mut links, &tiles, 4096);
-    assert_eq!(rt; best(&links, &tiles, Size(2000)), Some(Addr(4096)));
+    let of_one = best(&links, &tiles, Size(2000));
     put(&mut links, &tiles, 6112);
     put(&mut links, &tiles, 8128);
-    assert_eq!(rt; best(&links, &tiles, Size(2016)), Some(Addr(8128)));
-    assert_eq!(rt; best(&links, &tiles, Size(2032)), None);
-
+    let of_three = (
+        best(&links, &tiles, Size(2016)),
+        best(&links, &tiles, Size(2032)),
+    );
     put(&mut links, &tiles, 10_144);
     put(&mut links, &tiles, 12_176);
-    assert_eq!(rt; best(&links, &tiles, Size(2032)), Some(Addr(10_144)));
-    assert_eq!(rt; best(&links, &tiles, Size(2000)), Some(Addr(8128)));
-    assert_eq!(rt; best(&links, &tiles, Size(1984)), Some(Addr(12_176)));
-    for at in [12_176, 6112, 8128, 4096, 10_144] {
-        assert_eq!(rt; take_last(&mut links), Some(Addr(at)));
+    let of_five = (
+        best(&links, &tiles, Size(2032)),
+        best(&links, &tiles, Size(2000)),
+        best(&links, &tiles, Size(1984)),
+    );
+    assert_eq!(rt; of_one, Some(Addr(4096)));
+    assert_eq!(rt; of_three, (Some(Addr(8128)), None));
+    assert_eq!(rt;
+        of_five,
+        (Some(Addr(10_144)), Some(Addr(8128)), Some(Addr(12_176)))
+    );
+    for at in [
+        Some(Addr(12_176)),
+        Some(Addr(6112)),
+        Some(Addr(8128)),
+        Some(Addr(4096)),
+        Some(Addr(10_144)),
+        None,
+    ] {
+        assert_eq!(rt; take_last(&mut links), at);
     }
-    assert_eq!(rt; take_last(&mut links), None);
     Ok(())
 }

@@ -11,13 +11,16 @@ fn links_of_two_chunks(rt: HostRuntime) -> Result<(), Fail> {
     links.push_front(1, Addr(4096));
     assert!(rt; links.is_only(1));
     links.push_front(1, Addr(4128));
-    assert_eq!(rt; links.next(Addr(4128)), Some(Addr(4096)));
-    assert_eq!(rt; links.before(Addr(4096)), Some(Addr(4128)));
+    assert_eq!(rt;
+        (links.next(Addr(4128)), links.before(Addr(4096))),
+        (Some(Addr(4096)), Some(Addr(4128)))
+    );
     links.unlink(Addr(4096));
     links.insert_behind(Addr(4128), Addr(4096));
-    assert_eq!(rt; links.first(1), Some(Addr(4128)));
-    assert_eq!(rt; links.last(1), Some(Addr(4096)));
-    assert!(rt; links.is_empty(2));
+    assert_eq!(rt;
+        (links.first(1), links.last(1), links.is_empty(2)),
+        (Some(Addr(4128)), Some(Addr(4096)), true)
+    );
     Ok(())
 }
 

@@ -22,21 +22,31 @@ const START: DialState = DialState {
     max_bytes: 0,
 };
 
+/// What dials read: the thresholds for mapping and trimming, the mappings and their bytes, and the most of both.
+fn readings(mut dials: PlainDials) -> [u64; 6] {
+    [
+        dials.mmap_threshold(),
+        dials.trim_threshold(),
+        dials.mapped_count(),
+        dials.state.bytes,
+        dials.state.max_mapped,
+        dials.state.max_bytes,
+    ]
+}
+
 #[test]
 #[tactic(auto, using(mapped_chunks::proofs::PlainSteady::plain_steady))]
 fn freeing_raises_the_thresholds(rt: HostRuntime) -> Result<(), Fail> {
     let mut dials = PlainDials { state: START };
     let mut space = Space::new(Budget::new(200_000, Vec::new(rt.alloc())), 1, windows());
     let block = map(Size(131_088), &mut space, &mut dials).ok_or("refused")?;
-    assert_eq!(rt; block.addr, Addr(0x6010_0000_0000));
-    assert_eq!(rt; block.size, Size(135_168));
-    assert_eq!(rt; dials.mapped_count(), 1);
-    assert_eq!(rt; dials.state.max_bytes, 135_168);
+    let place = (block.addr, block.size);
+    assert_eq!(rt; place, (Addr(0x6010_0000_0000), Size(135_168)));
+    let mapped = [131_072, 131_072, 1, 135_168, 1, 135_168];
+    assert_eq!(rt; readings(dials), mapped);
     unmap_freed(block, true, &mut space, &mut dials);
-    assert_eq!(rt; dials.mmap_threshold(), 135_168);
-    assert_eq!(rt; dials.trim_threshold(), 270_336);
-    assert_eq!(rt; dials.mapped_count(), 0);
-    assert_eq!(rt; dials.state.max_bytes, 135_168);
+    let raised = [135_168, 270_336, 0, 0, 1, 135_168];
+    assert_eq!(rt; readings(dials), raised);
     Ok(())
 }
 
@@ -44,8 +54,8 @@ fn freeing_raises_the_thresholds(rt: HostRuntime) -> Result<(), Fail> {
 fn a_refused_mapping_is_not_counted(rt: HostRuntime) {
     let mut dials = PlainDials { state: START };
     let mut space = Space::new(Budget::new(100_000, Vec::new(rt.alloc())), 0, windows());
-    assert!(rt; map(Size(131_088), &mut space, &mut dials).is_none());
-    assert_eq!(rt; dials.state, START);
+    let refused = map(Size(131_088), &mut space, &mut dials).is_none();
+    assert_eq!(rt; (refused, dials.state), (true, START));
 }
 
 #[test]
@@ -71,8 +81,7 @@ fn a_lead_goes_back_with_its_mapping(rt: HostRuntime) -> Result<(), Fail> {
         arena: None,
     };
     unmap(block, &mut space, &mut dials);
-    assert_eq!(rt; dials.state.bytes, 0);
-    assert_eq!(rt; dials.trim_threshold(), 131_072);
+    assert_eq!(rt; (dials.state.bytes, dials.trim_threshold()), (0, 131_072));
     Ok(())
 }
 
@@ -83,23 +92,19 @@ fn a_longer_mapping_moves_and_a_refused_one_stays(rt: HostRuntime) -> Result<(),
     let mut dials = PlainDials { state: START };
     let mut space = Space::new(Budget::new(1 << 30, refuse_at), 1, windows());
     let first = map(Size(131_088), &mut space, &mut dials).ok_or("refused")?;
-    let longer = remap(first, Size(200_000), &mut space, &mut dials)?;
-    assert_eq!(rt; longer.addr, Addr(0x6010_0002_1000));
-    assert_eq!(rt; longer.size, Size(200_704));
-    assert_eq!(rt; dials.state.bytes, 200_704);
-    let shorter = remap(longer, Size(4096), &mut space, &mut dials)?;
-    assert_eq!(rt; shorter.addr, Addr(0x6010_0002_1000));
-    assert_eq!(rt; shorter.size, Size(8192));
-    let same = remap(shorter, Size(8176), &mut space, &mut dials)?;
-    assert_eq!(rt; same.size, Size(8192));
-    match remap(same, Size(8192), &mut space, &mut dials) {
-        Ok(_) => assert!(rt; false, "the fourth ask"),
-        Err(block) => assert_eq!(rt; block.size, Size(8192)),
-    }
-    assert_eq!(rt; dials.state.bytes, 8192);
-    assert_eq!(rt; dials.state.max_bytes, 200_704);
-    assert_eq!(rt; dials.state.max_mapped, 1);
-    assert_eq!(rt; dials.mmap_threshold(), 131_072);
+    let block = remap(first, Size(200_000), &mut space, &mut dials)?;
+    let longer = (block.addr, block.size, dials.state.bytes);
+    let block = remap(block, Size(4096), &mut space, &mut dials)?;
+    let shorter = (block.addr, block.size);
+    let block = remap(block, Size(8176), &mut space, &mut dials)?;
+    let same = block.size;
+    // the fourth ask
+    let refused = remap(block, Size(8192), &mut space, &mut dials).err();
+    let kept = refused.map(|b| b.size);
+    assert_eq!(rt; longer, (Addr(0x6010_0002_1000), Size(200_704), 200_704));
+    assert_eq!(rt; shorter, (Addr(0x6010_0002_1000), Size(8192)));
+    assert_eq!(rt; (same, kept), (Size(8192), Some(Size(8192))));
+    assert_eq!(rt; readings(dials), [131_072, 131_072, 1, 8192, 1, 200_704]);
     Ok(())
 }
 
@@ -115,9 +120,10 @@ fn a_lead_moves_with_its_mapping(rt: HostRuntime) -> Result<(), Fail> {
         arena: None,
     };
     let longer = remap(block, Size(135_104), &mut space, &mut dials)?;
-    assert_eq!(rt; longer.addr, Addr(0x6000_0002_1040));
-    assert_eq!(rt; longer.size, Size(139_200));
-    assert_eq!(rt; longer.lead, 64);
+    assert_eq!(rt;
+        (longer.addr, longer.size, longer.lead),
+        (Addr(0x6000_0002_1040), Size(139_200), 64)
+    );
     assert_eq!(rt; dials.state.bytes, 139_264);
     Ok(())
 }
@@ -128,7 +134,6 @@ fn another_length_is_counted_once(rt: HostRuntime) {
     dials.note_map(8192);
     dials.note_remap(8192, 16_384);
     dials.note_remap(16_384, 4096);
-    assert_eq!(rt; dials.state.bytes, 4096);
-    assert_eq!(rt; dials.state.max_bytes, 16_384);
-    assert_eq!(rt; dials.mapped_count(), 1);
+    let counted = [131_072, 131_072, 1, 4096, 1, 16_384];
+    assert_eq!(rt; readings(dials), counted);
 }

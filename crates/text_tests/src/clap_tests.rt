@@ -1,6 +1,7 @@
 //! The words that are taken are those that clap takes, the kit's reader of command lines, as words of the same command.
 //! Values are numbers of their ranges here, so that only the form of the words decides.
 
+use chunk_tags::NoMemory;
 use clap::{Arg, ArgAction, Command};
 use command_words::read_words;
 use std::alloc::Global;
@@ -82,15 +83,20 @@ fn clap_takes(alloc: Global, words: &[String]) -> Result<bool, clap::Error> {
     Ok(command.try_get_matches_from(words).is_ok())
 }
 
+/// The words of a list.
+fn words_of(alloc: Global, list: &str) -> Result<Vec<String>, NoMemory> {
+    let mut words = Vec::new(alloc);
+    for word in list.split(' ') {
+        words.push(String::from_str(alloc, word)?)?;
+    }
+    Ok(words)
+}
+
 #[test]
 fn clap_agrees(rt: HostRuntime) -> Result<(), Fail> {
-    let alloc = rt.alloc();
     for list in LISTS {
-        let mut words = Vec::new(alloc);
-        for word in list.split(' ') {
-            words.push(String::from_str(alloc, word)?)?;
-        }
-        let taken = clap_takes(alloc, &words)?;
+        let words = words_of(rt.alloc(), list)?;
+        let taken = clap_takes(rt.alloc(), &words)?;
         assert_eq!(rt; taken, read_words(&words).is_some(), "{list}");
     }
     Ok(())

@@ -189,21 +189,32 @@ fn checksum(text: &[u8]) -> u64 {
     sum
 }
 
-#[test]
-fn the_first_seeds_give_their_lines(rt: HostRuntime) -> Result<(), Fail> {
-    let alloc = rt.alloc();
-    assert_eq!(rt; text(alloc, 1, 40)?.as_slice(), FIRST_OF_1);
-    assert_eq!(rt; text(alloc, 2, 40)?.as_slice(), FIRST_OF_2);
-    assert_eq!(rt; text(alloc, 3, 40)?.as_slice(), FIRST_OF_3);
+/// The first lines of a seed are these.
+fn expect_lines(
+    rt: &impl Abort,
+    alloc: Global,
+    seed: u64,
+    n: u32,
+    lines: &[u8],
+) -> Result<(), NoMemory>
+    requires { n ≤ 1000000 }
+{
+    let is = text(alloc, seed, n)?;
+    assert_eq!(rt; is.as_slice(), lines, "seed {seed}");
     Ok(())
 }
 
+/// No lines are the header alone.
 #[test]
-fn no_lines_are_the_header_alone(rt: HostRuntime) -> Result<(), Fail> {
-    assert_eq!(rt;
-        text(rt.alloc(), 5, 0)?.as_slice(),
-        b"ptmtrace 1\n".as_slice()
-    );
+fn the_first_seeds_give_their_lines(rt: HostRuntime) -> Result<(), Fail> {
+    for (seed, n, lines) in [
+        (1, 40, FIRST_OF_1),
+        (2, 40, FIRST_OF_2),
+        (3, 40, FIRST_OF_3),
+        (5, 0, b"ptmtrace 1\n".as_slice()),
+    ] {
+        expect_lines(&rt, rt.alloc(), seed, n, lines)?;
+    }
     Ok(())
 }
 
@@ -217,25 +228,31 @@ fn names_are_used_and_trays_go_round(rt: HostRuntime) -> Result<(), Fail> {
     Ok(())
 }
 
+/// So many lines of a seed have this checksum.
+fn expect_checksum(
+    rt: &impl Abort,
+    alloc: Global,
+    seed: u64,
+    n: u32,
+    sum: u64,
+) -> Result<(), NoMemory>
+    requires { n ≤ 1000000 }
+{
+    let lines = text(alloc, seed, n)?;
+    assert_eq!(rt; checksum(&lines), sum, "{n} lines of seed {seed}");
+    Ok(())
+}
+
 // In the longest of them all trays are posted, and more posts are drawn.
 #[test]
 fn long_traces_have_their_checksums(rt: HostRuntime) -> Result<(), Fail> {
-    let alloc = rt.alloc();
-    assert_eq!(rt;
-        checksum(&text(alloc, 0, 10_000)?),
-        1_281_701_467_996_494_869
-    );
-    assert_eq!(rt;
-        checksum(&text(alloc, u64::MAX, 10_000)?),
-        15_053_118_309_058_841_363
-    );
-    assert_eq!(rt;
-        checksum(&text(alloc, 2, 100_000)?),
-        5_849_097_847_908_921_475
-    );
-    assert_eq!(rt;
-        checksum(&text(alloc, 1, 1_000_000)?),
-        8_647_299_744_620_557_808
-    );
+    for (seed, n, sum) in [
+        (0, 10_000, 1_281_701_467_996_494_869),
+        (u64::MAX, 10_000, 15_053_118_309_058_841_363),
+        (2, 100_000, 5_849_097_847_908_921_475),
+        (1, 1_000_000, 8_647_299_744_620_557_808),
+    ] {
+        expect_checksum(&rt, rt.alloc(), seed, n, sum)?;
+    }
     Ok(())
 }

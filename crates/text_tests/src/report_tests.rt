@@ -81,41 +81,59 @@ fn has_totals(s: &Snapshot) -> bool
     within && fit(&s.arenas, s.dials.bytes)
 }
 
-/// A snapshot's text is the one wanted, appended behind another and made by itself.
-fn expect(rt: &impl Abort, alloc: Global, s: &Snapshot, want: &str) -> Result<(), NoMemory> {
-    let fits = has_totals(s);
-    assert!(rt; fits);
+/// A snapshot's text: its places, and its statistics behind them.
+fn text_of(alloc: Global, s: &Snapshot) -> Result<Vec<u8>, NoMemory>
+    requires { HasTotals s.now }
+{
     let mut text = places_text(alloc, s)?;
     append_stats(&mut text, s)?;
+    Ok(text)
+}
+
+/// The same, of the other calls for both.
+fn same_text_of(alloc: Global, s: &Snapshot) -> Result<Vec<u8>, NoMemory>
+    requires { HasTotals s.now }
+{
+    let stats = stats_text(alloc, s)?;
+    let mut text = Vec::new(alloc);
+    append_places(&mut text, s)?;
+    text.extend_from_slice(&stats)?;
+    Ok(text)
+}
+
+/// A snapshot's text is the one wanted, appended behind another and made by itself.
+fn expect(
+    rt: &impl Abort,
+    alloc: Global,
+    made: Result<Snapshot, NoMemory>,
+    want: &str,
+) -> Result<(), NoMemory> {
+    let s = made?;
+    let fits = has_totals(&s);
+    assert!(rt; fits);
+    let text = text_of(alloc, &s)?;
+    let same = same_text_of(alloc, &s)?;
     assert_eq!(rt; text.as_slice(), want.as_bytes());
-    let mut again = Vec::new(alloc);
-    append_places(&mut again, s)?;
-    again.extend_from_slice(&stats_text(alloc, s)?)?;
-    assert_eq!(rt; again.as_slice(), want.as_bytes());
+    assert_eq!(rt; same.as_slice(), want.as_bytes());
     Ok(())
 }
 
 #[test]
 fn main_is_written(rt: HostRuntime) -> Result<(), Fail> {
     let alloc = rt.alloc();
-    expect(&rt, alloc, &snapshots::nothing(alloc)?, texts::NOTHING)?;
+    expect(&rt, alloc, snapshots::nothing(alloc), texts::NOTHING)?;
+    expect(&rt, alloc, snapshots::two_blocks(alloc), texts::TWO_BLOCKS)?;
+    expect(&rt, alloc, snapshots::lists(alloc), texts::LISTS)?;
     expect(
         &rt,
         alloc,
-        &snapshots::two_blocks(alloc)?,
-        texts::TWO_BLOCKS,
-    )?;
-    expect(&rt, alloc, &snapshots::lists(alloc)?, texts::LISTS)?;
-    expect(
-        &rt,
-        alloc,
-        &snapshots::fenced_piece(alloc)?,
+        snapshots::fenced_piece(alloc),
         texts::FENCED_PIECE,
     )?;
     expect(
         &rt,
         alloc,
-        &snapshots::trimmed_main(alloc)?,
+        snapshots::trimmed_main(alloc),
         texts::TRIMMED_MAIN,
     )?;
     Ok(())
@@ -127,13 +145,13 @@ fn mappings_are_written(rt: HostRuntime) -> Result<(), Fail> {
     expect(
         &rt,
         alloc,
-        &snapshots::mapped_chunks(alloc)?,
+        snapshots::mapped_chunks(alloc),
         texts::MAPPED_CHUNKS,
     )?;
     expect(
         &rt,
         alloc,
-        &snapshots::mapped_structure(alloc)?,
+        snapshots::mapped_structure(alloc),
         texts::MAPPED_STRUCTURE,
     )?;
     Ok(())
@@ -145,19 +163,19 @@ fn other_arenas_are_written(rt: HostRuntime) -> Result<(), Fail> {
     expect(
         &rt,
         alloc,
-        &snapshots::three_arenas(alloc)?,
+        snapshots::three_arenas(alloc),
         texts::THREE_ARENAS,
     )?;
     expect(
         &rt,
         alloc,
-        &snapshots::reused_arena(alloc)?,
+        snapshots::reused_arena(alloc),
         texts::REUSED_ARENA,
     )?;
     expect(
         &rt,
         alloc,
-        &snapshots::ended_threads(alloc)?,
+        snapshots::ended_threads(alloc),
         texts::ENDED_THREADS,
     )?;
     Ok(())
@@ -171,17 +189,21 @@ max mmap regions =          3
 max mmap bytes   =     483328
 ";
 
-/// The five last lines stand alone, and cached bytes are in use.
+/// The five last lines stand alone.
 #[test]
 fn totals_stand_alone(rt: HostRuntime) -> Result<(), Fail> {
-    let alloc = rt.alloc();
-    let s = snapshots::mapped_chunks(alloc)?;
+    let s = snapshots::mapped_chunks(rt.alloc())?;
     let fits = has_totals(&s);
     assert!(rt; fits);
-    let mut text = Vec::new(alloc);
+    let mut text = Vec::new(rt.alloc());
     append_totals(&mut text, &s)?;
     assert_eq!(rt; text.as_slice(), LAST_LINES.as_bytes());
-    let lists = snapshots::lists(alloc)?;
+    Ok(())
+}
+
+#[test]
+fn cached_bytes_are_in_use(rt: HostRuntime) -> Result<(), Fail> {
+    let lists = snapshots::lists(rt.alloc())?;
     for arena in &lists.arenas {
         let within = is_within(arena);
         assert!(rt; within);
@@ -376,11 +398,10 @@ fn a_summary_counts_answers(rt: HostRuntime) -> Result<(), Fail> {
         Outcome::Skip,
         Outcome::Ended,
     ]);
-    let alloc = rt.alloc();
-    let s = snapshots::mapped_chunks(alloc)?;
+    let s = snapshots::mapped_chunks(rt.alloc())?;
     let fits = has_totals(&s);
     assert!(rt; fits);
-    let mut text = Vec::new(alloc);
+    let mut text = Vec::new(rt.alloc());
     append_summary(&mut text, &counts, &s)?;
     assert_eq!(rt; text.as_slice(), SUMMARY.as_bytes());
     Ok(())

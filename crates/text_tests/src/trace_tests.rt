@@ -431,8 +431,7 @@ const CALLS: [(u8, Call); 8] = [
 #[test]
 fn lines_say_their_calls(rt: HostRuntime) -> Result<(), Fail> {
     let trace = read_trace(rt.alloc(), EACH_CALL)?;
-    assert_eq!(rt; trace.version, 1);
-    assert_eq!(rt; trace.lines.len(), CALLS.len());
+    assert_eq!(rt; (trace.version, trace.lines.len()), (1, CALLS.len()));
     for (i, (thread, call)) in CALLS.iter().enumerate() {
         let line = Line {
             thread: *thread,
@@ -447,7 +446,6 @@ fn lines_say_their_calls(rt: HostRuntime) -> Result<(), Fail> {
 #[test]
 fn the_header_says_the_version(rt: HostRuntime) -> Result<(), Fail> {
     let trace = read_trace(rt.alloc(), b"ptmtrace 2\n0 m 4294967295 24\n")?;
-    assert_eq!(rt; trace.version, 2);
     let call = Call::Malloc {
         name: 4_294_967_295,
         size: 24,
@@ -457,7 +455,10 @@ fn the_header_says_the_version(rt: HostRuntime) -> Result<(), Fail> {
         number: 2,
         call,
     };
-    assert_eq!(rt; trace.lines.as_slice(), [line].as_slice());
+    assert_eq!(rt;
+        (trace.version, trace.lines.as_slice()),
+        (2, [line].as_slice())
+    );
     Ok(())
 }
 
