@@ -5,7 +5,7 @@ ghost use Rattle.chunk_tags.specs.declared.tunables.Tunables.{Tunables};
 ghost use Rattle.arena_core.specs.declared.journal.Who.{Who};
 ghost use Rattle.consolidate_trim.specs.Outside.{means};
 ghost use Rattle.arena_holds.specs.Going.{Does};
-ghost use Rattle.arena_holds.specs.Places.{setting, standing};
+ghost use Rattle.arena_holds.specs.Places.{setting, standing, tray_count};
 ghost use Rattle.arena_holds.specs.Returning.{IsUnseen};
 ghost use Rattle.block_names.specs.Names.{has_place, block_at};
 ghost use Rattle.own_blocks.specs.Own.{in_own};
@@ -23,7 +23,7 @@ impl<K: Kernel> Thread<K> {
     /// then the name keeps its block.
     #[tactic(auto, using(block_names::proofs::Tables::place_left, block_names::proofs::Tables::without_none))]
     pub fn post<P: Places>(&mut self, p: &mut P, name: u32, tray: u32) -> Reply
-        requires tray { tray < 65536 }
+        requires tray { tray < tray_count }
         requires served { P.ways.serves false p.old (in_own (own_of self.old)) }
         ensures does { (t : Tunables) (who : Who) →
             Does (setting P.ways (means P.Hold.fast P.Hold.dials K.port) P.Dial.dials) t who
@@ -52,7 +52,7 @@ impl<K: Kernel> Thread<K> {
     pub fn take<P: Places>(&mut self, p: &mut P, name: u32, tray: u32) -> Reply
         requires room { IsTrue (has_place (names_of self.old) name) }
         requires empty { block_at (names_of self.old) name ≡ None }
-        requires tray { tray < 65536 }
+        requires tray { tray < tray_count }
         ensures does { (t : Tunables) (who : Who) →
             Does (setting P.ways (means P.Hold.fast P.Hold.dials K.port) P.Dial.dials) t who
             (take_call name tray (own_of self.old)) (standing p.old (space_of self.old))
