@@ -176,8 +176,8 @@ fn only(alloc: Global, number: u64) -> Result<Vec<u64>, NoMemory> {
     Ok(list)
 }
 
-/// Where the read and the call with these numbers fail, and the sink has so much room, a run ends so, and has written so
-/// many bytes of its report.
+/// Where the read and the call with these numbers fail, and the sink has so much room, a run ends so, and has written
+/// so many bytes of its report.
 fn expect_end(
     rt: &impl Abort,
     alloc: Global,
