@@ -137,8 +137,8 @@ fn cut_each(rt: &impl Abort, g: &mut Ground, sizes: &[u64])
     }
 }
 
-/// Main with six chunks, which are merged in the order of these rows, all but the last. Each row has a chunk's place, its
-/// size, and the size that it has once it is merged.
+/// Main with six chunks, which are merged in the order of these rows, all but the last. Each row has a chunk's place,
+/// its size, and the size that it has once it is merged.
 fn five_merged(rt: &impl Abort, alloc: Global) -> Result<Ground, NoMemory>
     ensures { IfOk result (λ g. IsSound g.arena) }
 {
@@ -391,8 +391,8 @@ fn heaps_trimmed(
     Ok((bytes, g))
 }
 
-/// Each of these rows has a pad and a threshold, the bytes that go back for them, and where top then begins behind heap 0
-/// and its size.
+/// Each of these rows has a pad and a threshold, the bytes that go back for them, and where top then begins behind
+/// heap 0 and its size.
 fn expect_trims(
     rt: &impl Abort,
     alloc: Global,

@@ -16,7 +16,7 @@ fn put<P: FastPort>(port: &mut P, bin: u8, at: u64) -> Result<(), NoMemory>
     Ok(())
 }
 
-/// Fast bin 1 with a chain of two chunks, one of a chunk before it, and a chunk of its own; and fast bin 9 with a chunk.
+/// Fast bin 1 with two chains, of two chunks and of one, and a chunk of its own; and fast bin 9 with a chunk.
 fn with_chains(alloc: Global) -> Result<PlainFast, NoMemory> {
     let mut bins = PlainFast::new(alloc);
     put(&mut bins, 1, 0x10)?;

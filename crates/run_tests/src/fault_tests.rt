@@ -9,11 +9,12 @@ use crate::arenas::{
 };
 use crate::resizes::{CACHED_IN_THE_END, REFUSED_GROWTH, REFUSED_SHRINKING, REMAPPED};
 use crate::rows::{FENCED_PIECE, FENCED_PIECE_REPORT};
-use crate::tests::{ample, run_over};
+use crate::tests::{ample, expect_written, run_over, run_words};
 use crate::texts::{TWO_BLOCKS, TWO_LINES};
-use address_space::{Always, Budget};
+use address_space::Budget;
 use chunk_tags::NoMemory;
 use std::alloc::Global;
+use std::process::Abort;
 use std::test::Fail;
 use trace_replay::{
     CountSink, Exit, Fetch, Flush, MemSink, MemSource, Open, Put, Sink, Source, StdSink, StdSource,
@@ -113,32 +114,46 @@ impl Sink for Sips {
     }
 }
 
+/// The read with this number fails, and with it the run, which has written nothing.
+fn expect_read_fault(rt: &impl Abort, alloc: Global, read: usize) -> Result<(), NoMemory> {
+    let mut source = Dribble::new(read);
+    let mut sink = ample(alloc)?;
+    let exit = run_over(alloc, &mut source, &mut sink)?;
+    assert_eq!(rt;
+        (exit, source.reads, source.faults, sink.bytes().len()),
+        (Exit::ReadFault, read, 1, 0)
+    );
+    Ok(())
+}
+
 #[test]
 fn each_failed_read_ends_the_run(rt: HostRuntime) -> Result<(), Fail> {
-    let alloc = rt.alloc();
     let end = TWO_LINES.len() + 1;
     for read in 1..=end {
-        let mut source = Dribble::new(read);
-        let mut sink = ample(alloc)?;
-        let exit = run_over(alloc, &mut source, &mut sink)?;
-        assert_eq!(rt; exit, Exit::ReadFault, "read {read}");
-        assert_eq!(rt; (source.reads, source.faults), (read, 1), "read {read}");
-        assert_eq!(rt; sink.bytes().len(), 0, "read {read}");
+        expect_read_fault(&rt, rt.alloc(), read)?;
     }
+    Ok(())
+}
+
+/// The call with this number fails, and with it the run, which has written what the calls before it took.
+fn expect_write_fault(rt: &impl Abort, alloc: Global, call: usize) -> Result<(), NoMemory> {
+    let mut sink = Sips::new(alloc, call);
+    let exit = run_over(alloc, &mut Dribble::new(0), &mut sink)?;
+    let before = call.saturating_sub(1).saturating_mul(SIP);
+    let taken = &TWO_BLOCKS[..before.min(TWO_BLOCKS.len())];
+    assert_eq!(rt;
+        (exit, sink.calls, sink.faults),
+        (Exit::WriteFault, call, 1)
+    );
+    assert_eq!(rt; sink.bytes.as_slice(), taken, "call {call}");
     Ok(())
 }
 
 #[test]
 fn each_failed_write_leaves_a_prefix(rt: HostRuntime) -> Result<(), Fail> {
-    let alloc = rt.alloc();
     let flush = TWO_BLOCKS.len().div_ceil(SIP) + 1;
     for call in 1..=flush {
-        let mut sink = Sips::new(alloc, call);
-        let exit = run_over(alloc, &mut Dribble::new(0), &mut sink)?;
-        let taken = (call - 1).saturating_mul(SIP).min(TWO_BLOCKS.len());
-        assert_eq!(rt; exit, Exit::WriteFault, "call {call}");
-        assert_eq!(rt; (sink.calls, sink.faults), (call, 1), "call {call}");
-        assert_eq!(rt; sink.bytes.as_slice(), &TWO_BLOCKS[..taken], "call {call}");
+        expect_write_fault(&rt, rt.alloc(), call)?;
     }
     Ok(())
 }
@@ -148,9 +163,9 @@ fn pieces_make_no_difference(rt: HostRuntime) -> Result<(), Fail> {
     let alloc = rt.alloc();
     let mut source = Dribble::new(0);
     let mut sink = Sips::new(alloc, 0);
-    assert_eq!(rt; run_over(alloc, &mut source, &mut sink)?, Exit::Done);
+    let exit = run_over(alloc, &mut source, &mut sink)?;
+    assert_eq!(rt; (exit, source.faults, sink.faults), (Exit::Done, 0, 0));
     assert_eq!(rt; sink.bytes.as_slice(), TWO_BLOCKS);
-    assert_eq!(rt; (source.faults, sink.faults), (0, 0));
     Ok(())
 }
 
@@ -161,9 +176,32 @@ fn only(alloc: Global, number: u64) -> Result<Vec<u64>, NoMemory> {
     Ok(list)
 }
 
+/// Where the read and the call with these numbers fail, and the sink has so much room, a run ends so, and has written
+/// so many bytes of its report.
+fn expect_end(
+    rt: &impl Abort,
+    alloc: Global,
+    read: u64,
+    room: usize,
+    call: u64,
+    end: (Exit, usize),
+) -> Result<(), NoMemory> {
+    let mut source = MemSource::new(Vec::from_slice(alloc, TWO_LINES)?, only(alloc, read)?);
+    let mut sink = MemSink::new(alloc, room, only(alloc, call)?)?;
+    let exit = run_over(alloc, &mut source, &mut sink)?;
+    assert_eq!(rt;
+        (
+            (exit, sink.bytes().len()),
+            TWO_BLOCKS.starts_with(sink.bytes())
+        ),
+        (end, true),
+        "read {read}, call {call}"
+    );
+    Ok(())
+}
+
 #[test]
 fn streams_in_memory_fail_where_they_are_told_to(rt: HostRuntime) -> Result<(), Fail> {
-    let alloc = rt.alloc();
     for (read, room, call, exit, count) in [
         (1, 65_536, 0, Exit::ReadFault, 0),
         (2, 65_536, 0, Exit::ReadFault, 0),
@@ -172,15 +210,7 @@ fn streams_in_memory_fail_where_they_are_told_to(rt: HostRuntime) -> Result<(), 
         (0, 65_536, 2, Exit::WriteFault, TWO_BLOCKS.len()),
         (3, 65_536, 3, Exit::Done, TWO_BLOCKS.len()),
     ] {
-        let mut source = MemSource::new(Vec::from_slice(alloc, TWO_LINES)?, only(alloc, read)?);
-        let mut sink = MemSink::new(alloc, room, only(alloc, call)?)?;
-        let answer = run_over(alloc, &mut source, &mut sink)?;
-        assert_eq!(rt; answer, exit, "read {read}, call {call}");
-        assert_eq!(rt; sink.bytes().len(), count, "read {read}, call {call}");
-        assert!(rt;
-            TWO_BLOCKS.starts_with(sink.bytes()),
-            "read {read}, call {call}"
-        );
+        expect_end(&rt, rt.alloc(), read, room, call, (exit, count))?;
     }
     Ok(())
 }
@@ -190,24 +220,31 @@ fn readers_and_writers_of_std_serve(rt: HostRuntime) -> Result<(), Fail> {
     let alloc = rt.alloc();
     let mut bytes = Vec::new(alloc);
     let mut sink = StdSink::new(&mut bytes);
-    assert_eq!(rt;
-        run_over(alloc, &mut StdSource::new(TWO_LINES), &mut sink)?,
-        Exit::Done
-    );
+    let exit = run_over(alloc, &mut StdSource::new(TWO_LINES), &mut sink)?;
     drop(sink);
+    assert_eq!(rt; exit, Exit::Done);
     assert_eq!(rt; bytes.as_slice(), TWO_BLOCKS);
     Ok(())
 }
 
 #[test]
 fn a_count_sink_counts_the_report(rt: HostRuntime) -> Result<(), Fail> {
-    let alloc = rt.alloc();
     let mut sink = CountSink::new();
-    assert_eq!(rt;
-        run_over(alloc, &mut Dribble::new(0), &mut sink)?,
-        Exit::Done
-    );
-    assert_eq!(rt; sink.count(), TWO_BLOCKS.len() as u64);
+    let exit = run_over(rt.alloc(), &mut Dribble::new(0), &mut sink)?;
+    assert_eq!(rt; (exit, sink.count()), (Exit::Done, TWO_BLOCKS.len() as u64));
+    Ok(())
+}
+
+/// A run with these words ends so, and writes only where it is done.
+fn expect_exit(
+    rt: &impl Abort,
+    alloc: Global,
+    words: &[String],
+    exit: Exit,
+) -> Result<(), NoMemory> {
+    let mut sink = ample(alloc)?;
+    let is = run_words(alloc, words, &mut Dribble::new(0), &mut sink)?;
+    assert_eq!(rt; (is, sink.bytes().is_empty()), (exit, exit != Exit::Done));
     Ok(())
 }
 
@@ -222,13 +259,7 @@ fn words_are_served_or_refused(rt: HostRuntime) -> Result<(), Fail> {
         ("--summary", Exit::Usage),
     ] {
         words.push(String::from_str(alloc, word)?)?;
-        let ports = vec![in alloc; Always; 64]?;
-        let mut sink = ample(alloc)?;
-        assert_eq!(rt;
-            run(alloc, &words, &mut Dribble::new(0), &mut sink, ports, &Open),
-            exit
-        );
-        assert_eq!(rt; sink.bytes().is_empty(), exit != Exit::Done);
+        expect_exit(&rt, alloc, &words, exit)?;
     }
     Ok(())
 }
@@ -245,27 +276,34 @@ fn refusing_ports(alloc: Global, bytes: u64, asks: Vec<u64>) -> Result<Vec<Budge
     Ok(ports)
 }
 
-/// Runs a trace over such ports.
-fn run_within(
+/// Runs a trace over such ports, and expects its report.
+fn expect_within(
+    rt: &impl Abort,
     alloc: Global,
     trace: &[u8],
     bytes: u64,
     asks: Vec<u64>,
-    sink: &mut MemSink,
-) -> Result<Exit, NoMemory> {
+    report: &[u8],
+) -> Result<(), NoMemory> {
     let ports = refusing_ports(alloc, bytes, asks)?;
     let mut source = SureSource::new(Vec::from_slice(alloc, trace)?);
-    Ok(run(alloc, &[], &mut source, sink, ports, &Open))
+    let mut sink = ample(alloc)?;
+    let exit = run(alloc, &[], &mut source, &mut sink, ports, &Open);
+    expect_written(rt, exit, &sink, report);
+    Ok(())
 }
 
-/// The same without an end of the bytes.
-fn run_refusing(
+/// The same where the asks with the numbers from the first to the last are refused, and none for its bytes.
+fn expect_refused(
+    rt: &impl Abort,
     alloc: Global,
     trace: &[u8],
-    asks: Vec<u64>,
-    sink: &mut MemSink,
-) -> Result<Exit, NoMemory> {
-    run_within(alloc, trace, u64::MAX, asks, sink)
+    first: u64,
+    last: u64,
+    report: &[u8],
+) -> Result<(), NoMemory> {
+    let asks = (first..=last).collect(alloc)?;
+    expect_within(rt, alloc, trace, u64::MAX, asks, report)
 }
 
 /// The first growth asks for 135,168 bytes, once.
@@ -273,39 +311,21 @@ fn run_refusing(
 fn a_budget_has_its_bytes(rt: HostRuntime) -> Result<(), Fail> {
     let alloc = rt.alloc();
     for (bytes, report) in [(135_168, TWO_BLOCKS), (135_167, TWO_MAPPED)] {
-        let mut sink = ample(alloc)?;
-        assert_eq!(rt;
-            run_within(alloc, TWO_LINES, bytes, only(alloc, 2)?, &mut sink)?,
-            Exit::Done
-        );
-        assert_eq!(rt; sink.bytes(), report, "{bytes} bytes");
+        expect_within(&rt, alloc, TWO_LINES, bytes, only(alloc, 2)?, report)?;
     }
     Ok(())
 }
 
 #[test]
 fn a_refused_break_leads_to_a_piece(rt: HostRuntime) -> Result<(), Fail> {
-    let alloc = rt.alloc();
-    let mut sink = ample(alloc)?;
-    assert_eq!(rt;
-        run_refusing(alloc, FENCED_PIECE, only(alloc, 2)?, &mut sink)?,
-        Exit::Done
-    );
-    assert_eq!(rt; sink.bytes(), FENCED_PIECE_REPORT);
+    expect_refused(&rt, rt.alloc(), FENCED_PIECE, 2, 2, FENCED_PIECE_REPORT)?;
     Ok(())
 }
 
 #[test]
 fn a_refused_length_is_made_up_for(rt: HostRuntime) -> Result<(), Fail> {
-    let alloc = rt.alloc();
     for (ask, report) in [(3, REFUSED_GROWTH), (4, REFUSED_SHRINKING)] {
-        let mut sink = ample(alloc)?;
-        assert_eq!(rt;
-            run_refusing(alloc, REMAPPED, only(alloc, ask)?, &mut sink)?,
-            Exit::Done,
-            "ask {ask}"
-        );
-        assert_eq!(rt; sink.bytes(), report, "ask {ask}");
+        expect_refused(&rt, rt.alloc(), REMAPPED, ask, ask, report)?;
     }
     Ok(())
 }
@@ -313,16 +333,12 @@ fn a_refused_length_is_made_up_for(rt: HostRuntime) -> Result<(), Fail> {
 /// Its resize is refused, and the cache has a chunk for malloc in its place; or an aligned search is.
 #[test]
 fn a_refused_realloc_or_alignment_is_tried_again(rt: HostRuntime) -> Result<(), Fail> {
-    let alloc = rt.alloc();
     for (trace, first, last, report) in [
         (CACHED_IN_THE_END, 2, 3, MOVED_IN_THE_END),
         (ONE_ALIGNED, 1, 2, ALIGNED_IN_A_HEAP),
         (ONE_ALIGNED, 1, 5, NOT_ALIGNED),
     ] {
-        let asks = (first..=last).collect(alloc)?;
-        let mut sink = ample(alloc)?;
-        assert_eq!(rt; run_refusing(alloc, trace, asks, &mut sink)?, Exit::Done);
-        assert_eq!(rt; sink.bytes(), report, "asks {first} to {last}");
+        expect_refused(&rt, rt.alloc(), trace, first, last, report)?;
     }
     Ok(())
 }
@@ -330,15 +346,8 @@ fn a_refused_realloc_or_alignment_is_tried_again(rt: HostRuntime) -> Result<(), 
 /// Refused for the structure of the cache, in main, or in a heap too.
 #[test]
 fn a_refused_search_is_tried_again(rt: HostRuntime) -> Result<(), Fail> {
-    let alloc = rt.alloc();
     for (last, report) in [(2, TWO_IN_A_HEAP), (4, MAPPED_STRUCTURE)] {
-        let asks = (1..=last).collect(alloc)?;
-        let mut sink = ample(alloc)?;
-        assert_eq!(rt;
-            run_refusing(alloc, TWO_LINES, asks, &mut sink)?,
-            Exit::Done
-        );
-        assert_eq!(rt; sink.bytes(), report, "{last} asks");
+        expect_refused(&rt, rt.alloc(), TWO_LINES, 1, last, report)?;
     }
     Ok(())
 }

@@ -3,16 +3,16 @@
 ghost use Rattle.std.specs.Prelude.{◌≤◌};
 
 use crate::arenas::{ONE_CORE, ONE_CORE_REPORT};
-use crate::tests::ample;
+use crate::tests::{ample, expect_written, run_words};
 use crate::texts::{
     NONE_COUNTED, ONE_MADE, TOO_BIG, TOO_BIG_COUNTED, TWO_COUNTED, TWO_LINES, TWO_MADE,
 };
-use address_space::Always;
 use chunk_tags::NoMemory;
 use std::alloc::Global;
+use std::process::Abort;
 use std::test::Fail;
 use trace_maker::generate;
-use trace_replay::{Exit, MemSink, MemSource, Open, Source, SureSource, run};
+use trace_replay::{Exit, MemSink, MemSource, Source, SureSource};
 use trace_text::print_trace;
 
 /// The program's name, and behind it `--summary` where that is asked for.
@@ -38,34 +38,41 @@ fn made_words(
     Ok(words)
 }
 
-/// Runs over ports that grant each ask.
-fn run_words<S: Source>(
+/// What is written for these words and a source is this text.
+fn expect_text<S: Source>(
+    rt: &impl Abort,
     alloc: Global,
     words: &[String],
     source: &mut S,
-    sink: &mut MemSink,
-) -> Result<Exit, NoMemory> {
-    let ports = vec![in alloc; Always; 64]?;
-    Ok(run(alloc, words, source, sink, ports, &Open))
+    text: &[u8],
+) -> Result<(), NoMemory> {
+    let mut sink = ample(alloc)?;
+    let exit = run_words(alloc, words, source, &mut sink)?;
+    expect_written(rt, exit, &sink, text);
+    Ok(())
+}
+
+/// What is written for these words and a trace is this text.
+fn expect_form(
+    rt: &impl Abort,
+    alloc: Global,
+    words: &[String],
+    trace: &[u8],
+    text: &[u8],
+) -> Result<(), NoMemory> {
+    let mut source = SureSource::new(Vec::from_slice(alloc, trace)?);
+    expect_text(rt, alloc, words, &mut source, text)
 }
 
 #[test]
 fn a_summary_is_written(rt: HostRuntime) -> Result<(), Fail> {
-    let alloc = rt.alloc();
-    let words = form_words(alloc, true)?;
+    let words = form_words(rt.alloc(), true)?;
     for (trace, summary) in [
         (b"ptmtrace 1\n".as_slice(), NONE_COUNTED),
         (TWO_LINES, TWO_COUNTED),
         (TOO_BIG, TOO_BIG_COUNTED),
     ] {
-        let mut source = SureSource::new(Vec::from_slice(alloc, trace)?);
-        let mut sink = ample(alloc)?;
-        assert_eq!(rt;
-            run_words(alloc, &words, &mut source, &mut sink)?,
-            Exit::Done
-        );
-        assert_eq!(rt; sink.bytes(), summary);
-        assert_eq!(rt; sink.flushed(), summary.len());
+        expect_form(&rt, rt.alloc(), &words, trace, summary)?;
     }
     Ok(())
 }
@@ -77,56 +84,86 @@ fn unreadable(alloc: Global) -> Result<MemSource, NoMemory> {
     Ok(MemSource::new(Vec::new(alloc), reads))
 }
 
+/// What is written for a trace that is made is this text.
+fn expect_made(
+    rt: &impl Abort,
+    alloc: Global,
+    summary: bool,
+    count: u32,
+    text: &[u8],
+) -> Result<(), NoMemory> {
+    let words = made_words(alloc, summary, 5, count)?;
+    let mut source = unreadable(alloc)?;
+    expect_text(rt, alloc, &words, &mut source, text)
+}
+
 #[test]
 fn a_trace_is_made_and_none_read(rt: HostRuntime) -> Result<(), Fail> {
-    let alloc = rt.alloc();
     for (summary, count, text) in [
         (false, 1, ONE_MADE),
         (false, 2, TWO_MADE),
         (true, 0, NONE_COUNTED),
     ] {
-        let words = made_words(alloc, summary, 5, count)?;
-        let mut source = unreadable(alloc)?;
-        let mut sink = ample(alloc)?;
-        assert_eq!(rt;
-            run_words(alloc, &words, &mut source, &mut sink)?,
-            Exit::Done
-        );
-        assert_eq!(rt; sink.bytes(), text);
+        expect_made(&rt, rt.alloc(), summary, count, text)?;
     }
     Ok(())
 }
 
-/// How a trace that is made ends, where a run that reads its text ends so and writes the same.
-fn common_exit(
+/// How a trace that is made ends, and what its run writes.
+fn made_run(
     alloc: Global,
     summary: bool,
     seed: u64,
     count: u32,
-) -> Result<Option<Exit>, NoMemory>
+) -> Result<(Exit, MemSink), NoMemory> {
+    let words = made_words(alloc, summary, seed, count)?;
+    let mut source = unreadable(alloc)?;
+    let mut sink = ample(alloc)?;
+    let exit = run_words(alloc, &words, &mut source, &mut sink)?;
+    Ok((exit, sink))
+}
+
+/// How a run ends that reads the text of that trace, and what it writes.
+fn read_run(
+    alloc: Global,
+    summary: bool,
+    seed: u64,
+    count: u32,
+) -> Result<(Exit, MemSink), NoMemory>
     requires { count ≤ 1000000 }
 {
-    let words = made_words(alloc, summary, seed, count)?;
-    let mut made = ample(alloc)?;
-    let exit = run_words(alloc, &words, &mut unreadable(alloc)?, &mut made)?;
     let words = form_words(alloc, summary)?;
     let text = print_trace(alloc, &generate(alloc, seed, count)?)?;
-    let mut read = ample(alloc)?;
-    let same = run_words(alloc, &words, &mut SureSource::new(text), &mut read)?;
-    if exit == same && made.bytes() == read.bytes() {
-        Ok(Some(exit))
-    } else {
-        Ok(None)
-    }
+    let mut sink = ample(alloc)?;
+    let exit = run_words(alloc, &words, &mut SureSource::new(text), &mut sink)?;
+    Ok((exit, sink))
+}
+
+/// Both are done, and write the same.
+fn expect_same(
+    rt: &impl Abort,
+    alloc: Global,
+    summary: bool,
+    seed: u64,
+    count: u32,
+) -> Result<(), NoMemory>
+    requires { count ≤ 1000000 }
+{
+    let (exit, made) = made_run(alloc, summary, seed, count)?;
+    let (same, read) = read_run(alloc, summary, seed, count)?;
+    assert_eq!(rt;
+        (exit, same, made.bytes() == read.bytes()),
+        (Exit::Done, Exit::Done, true),
+        "{count} lines of seed {seed}"
+    );
+    Ok(())
 }
 
 #[test]
 fn a_made_trace_runs_as_its_text(rt: HostRuntime) -> Result<(), Fail> {
-    let alloc = rt.alloc();
     for summary in [false, true] {
         for (seed, count) in [(5, 0), (38_580, 10), (38_580, 11), (38_580, 500)] {
-            let exit = common_exit(alloc, summary, seed, count)?;
-            assert_eq!(rt; exit, Some(Exit::Done), "{count} lines of seed {seed}");
+            expect_same(&rt, rt.alloc(), summary, seed, count)?;
         }
     }
     Ok(())
@@ -134,15 +171,8 @@ fn a_made_trace_runs_as_its_text(rt: HostRuntime) -> Result<(), Fail> {
 
 #[test]
 fn threads_take_arenas_in_turn(rt: HostRuntime) -> Result<(), Fail> {
-    let alloc = rt.alloc();
-    let mut words = form_words(alloc, false)?;
-    words.push(String::from_str(alloc, "--cores=1")?)?;
-    let mut source = SureSource::new(Vec::from_slice(alloc, ONE_CORE)?);
-    let mut sink = ample(alloc)?;
-    assert_eq!(rt;
-        run_words(alloc, &words, &mut source, &mut sink)?,
-        Exit::Done
-    );
-    assert_eq!(rt; sink.bytes(), ONE_CORE_REPORT);
+    let mut words = form_words(rt.alloc(), false)?;
+    words.push(String::from_str(rt.alloc(), "--cores=1")?)?;
+    expect_form(&rt, rt.alloc(), &words, ONE_CORE, ONE_CORE_REPORT)?;
     Ok(())
 }

@@ -1,11 +1,11 @@
 //! A serial run calls no gate.
 
-use crate::tests::ample;
+use crate::tests::{ample, expect_written};
 use crate::texts::{TWO_BLOCKS, TWO_LINES};
 use address_space::Always;
 use std::sync::atomic::{AtomicU64, Ordering};
 use std::test::Fail;
-use trace_replay::{Exit, Gate, SureSource, run};
+use trace_replay::{Gate, SureSource, run};
 
 /// A gate that counts its calls.
 #[derive(Drop)]
@@ -32,11 +32,8 @@ fn a_serial_run_calls_no_gate(rt: HostRuntime) -> Result<(), Fail> {
     let mut source = SureSource::new(Vec::from_slice(alloc, TWO_LINES)?);
     let mut sink = ample(alloc)?;
     let ports = vec![in alloc; Always; 64]?;
-    assert_eq!(rt;
-        run(alloc, &[], &mut source, &mut sink, ports, &gate),
-        Exit::Done
-    );
-    assert_eq!(rt; sink.bytes(), TWO_BLOCKS);
+    let exit = run(alloc, &[], &mut source, &mut sink, ports, &gate);
+    expect_written(&rt, exit, &sink, TWO_BLOCKS);
     assert_eq!(rt; gate.calls.load(Ordering::SeqCst), 0);
     Ok(())
 }

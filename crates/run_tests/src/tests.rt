@@ -6,23 +6,34 @@ use crate::rows::*;
 use crate::texts::*;
 use address_space::Always;
 use chunk_tags::NoMemory;
-use std::alloc::{AllocError, Global};
+use std::alloc::Global;
+use std::process::Abort;
 use std::test::Fail;
 use trace_replay::{Exit, MemSink, Open, Sink, Source, SureSource, run};
 use trace_text::BadWhy;
 
-/// Runs over ports that grant each ask, without a word.
+/// Runs over ports that grant each ask.
+pub(crate) fn run_words<S: Source, W: Sink>(
+    alloc: Global,
+    words: &[String],
+    source: &mut S,
+    sink: &mut W,
+) -> Result<Exit, NoMemory> {
+    let ports = vec![in alloc; Always; 64]?;
+    Ok(run(alloc, words, source, sink, ports, &Open))
+}
+
+/// Runs so without a word.
 pub(crate) fn run_over<S: Source, W: Sink>(
     alloc: Global,
     source: &mut S,
     sink: &mut W,
-) -> Result<Exit, AllocError> {
-    let ports = vec![in alloc; Always; 64]?;
-    Ok(run(alloc, &[], source, sink, ports, &Open))
+) -> Result<Exit, NoMemory> {
+    run_words(alloc, &[], source, sink)
 }
 
 /// Runs a trace from memory.
-fn run_trace(alloc: Global, trace: &[u8], sink: &mut MemSink) -> Result<Exit, AllocError> {
+fn run_trace(alloc: Global, trace: &[u8], sink: &mut MemSink) -> Result<Exit, NoMemory> {
     let mut source = SureSource::new(Vec::from_slice(alloc, trace)?);
     run_over(alloc, &mut source, sink)
 }
@@ -32,91 +43,97 @@ pub(crate) fn ample(alloc: Global) -> Result<MemSink, NoMemory> {
     MemSink::new(alloc, 65_536, Vec::new(alloc))
 }
 
+/// A run was done, and this is what it wrote, to the last byte.
+pub(crate) fn expect_written(rt: &impl Abort, exit: Exit, sink: &MemSink, text: &[u8]) {
+    assert_eq!(rt; (exit, sink.flushed()), (Exit::Done, text.len()));
+    assert_eq!(rt; sink.bytes(), text);
+}
+
+/// Traces have these reports.
+fn expect_reports(
+    rt: &impl Abort,
+    alloc: Global,
+    traces: &[(&[u8], &[u8])],
+) -> Result<(), NoMemory> {
+    for (trace, report) in traces {
+        let mut sink = ample(alloc)?;
+        let exit = run_trace(alloc, trace, &mut sink)?;
+        expect_written(rt, exit, &sink, report);
+    }
+    Ok(())
+}
+
 #[test]
 fn reports_are_those_of_the_rules(rt: HostRuntime) -> Result<(), Fail> {
-    let alloc = rt.alloc();
-    for (trace, report) in [
-        (b"ptmtrace 1\n".as_slice(), EMPTY),
+    const TRACES: [(&[u8], &[u8]); 6] = [
+        (b"ptmtrace 1\n", EMPTY),
         (TWO_LINES, TWO_BLOCKS),
         (SMALLEST, SMALLEST_REPORT),
         (LARGEST_CACHED, LARGEST_CACHED_REPORT),
         (TOO_BIG, TOO_BIG_REPORT),
         (LISTS, LISTS_REPORT),
-    ] {
-        let mut sink = ample(alloc)?;
-        assert_eq!(rt; run_trace(alloc, trace, &mut sink)?, Exit::Done);
-        assert_eq!(rt; sink.bytes(), report);
-        assert_eq!(rt; sink.flushed(), report.len());
-    }
+    ];
+    expect_reports(&rt, rt.alloc(), &TRACES)?;
     Ok(())
-}
-
-/// Whether the report on a trace is this.
-fn has_report(alloc: Global, trace: &[u8], report: &[u8]) -> Result<bool, NoMemory> {
-    let mut sink = ample(alloc)?;
-    let exit = run_trace(alloc, trace, &mut sink)?;
-    Ok(exit == Exit::Done && sink.bytes() == report)
 }
 
 #[test]
 fn chunks_are_cached_or_binned(rt: HostRuntime) -> Result<(), Fail> {
-    let alloc = rt.alloc();
-    assert!(rt; has_report(alloc, CACHED_AND_BINNED, CACHED_AND_BINNED_REPORT)?);
-    assert!(rt; has_report(alloc, EIGHT_BACK, EIGHT_BACK_REPORT)?);
-    assert!(rt; has_report(alloc, FAST_AND_BINNED, FAST_AND_BINNED_REPORT)?);
-    assert!(rt; has_report(alloc, CONSOLIDATED, CONSOLIDATED_REPORT)?);
+    const TRACES: [(&[u8], &[u8]); 4] = [
+        (CACHED_AND_BINNED, CACHED_AND_BINNED_REPORT),
+        (EIGHT_BACK, EIGHT_BACK_REPORT),
+        (FAST_AND_BINNED, FAST_AND_BINNED_REPORT),
+        (CONSOLIDATED, CONSOLIDATED_REPORT),
+    ];
+    expect_reports(&rt, rt.alloc(), &TRACES)?;
     Ok(())
 }
 
 #[test]
-fn chunks_come_from_bins(rt: HostRuntime) -> Result<(), Fail> {
-    let alloc = rt.alloc();
-    assert!(rt; has_report(alloc, LAST_REMAINDER, LAST_REMAINDER_REPORT)?);
-    assert!(rt; has_report(alloc, SORTED_EQUALS, SORTED_EQUALS_REPORT)?);
+fn chunks_come_from_bins_and_the_system(rt: HostRuntime) -> Result<(), Fail> {
+    const TRACES: [(&[u8], &[u8]); 5] = [
+        (LAST_REMAINDER, LAST_REMAINDER_REPORT),
+        (SORTED_EQUALS, SORTED_EQUALS_REPORT),
+        (TOP_AND_MAPPING, TOP_AND_MAPPING_REPORT),
+        (RAISED_THRESHOLDS, RAISED_THRESHOLDS_REPORT),
+        (TRIMMED_MAIN, TRIMMED_MAIN_REPORT),
+    ];
+    expect_reports(&rt, rt.alloc(), &TRACES)?;
     Ok(())
 }
 
+/// calloc passes over the cache, and where nothing is got nothing changes.
 #[test]
-fn chunks_come_from_the_system(rt: HostRuntime) -> Result<(), Fail> {
-    let alloc = rt.alloc();
-    assert!(rt; has_report(alloc, TOP_AND_MAPPING, TOP_AND_MAPPING_REPORT)?);
-    assert!(rt; has_report(alloc, RAISED_THRESHOLDS, RAISED_THRESHOLDS_REPORT)?);
-    assert!(rt; has_report(alloc, TRIMMED_MAIN, TRIMMED_MAIN_REPORT)?);
+fn blocks_are_resized_and_aligned(rt: HostRuntime) -> Result<(), Fail> {
+    const TRACES: [(&[u8], &[u8]); 5] = [
+        (RESIZED, RESIZED_REPORT),
+        (RESIZED_MAPPINGS, RESIZED_MAPPINGS_REPORT),
+        (ALIGNED, ALIGNED_REPORT),
+        (ZEROED, ZEROED_REPORT),
+        (NOTHING_GOT, NOTHING_GOT_REPORT),
+    ];
+    expect_reports(&rt, rt.alloc(), &TRACES)?;
     Ok(())
 }
 
-#[test]
-fn blocks_are_resized(rt: HostRuntime) -> Result<(), Fail> {
-    let alloc = rt.alloc();
-    assert!(rt; has_report(alloc, RESIZED, RESIZED_REPORT)?);
-    assert!(rt; has_report(alloc, RESIZED_MAPPINGS, RESIZED_MAPPINGS_REPORT)?);
-    Ok(())
-}
-
-#[test]
-fn blocks_are_aligned(rt: HostRuntime) -> Result<(), Fail> {
-    let alloc = rt.alloc();
-    assert!(rt; has_report(alloc, ALIGNED, ALIGNED_REPORT)?);
-    Ok(())
-}
-
-#[test]
-fn calloc_passes_over_the_cache(rt: HostRuntime) -> Result<(), Fail> {
-    let alloc = rt.alloc();
-    assert!(rt; has_report(alloc, ZEROED, ZEROED_REPORT)?);
-    Ok(())
-}
-
-#[test]
-fn nothing_got_changes_nothing(rt: HostRuntime) -> Result<(), Fail> {
-    let alloc = rt.alloc();
-    assert!(rt; has_report(alloc, NOTHING_GOT, NOTHING_GOT_REPORT)?);
+/// The report on a trace begins so.
+fn expect_records(
+    rt: &impl Abort,
+    alloc: Global,
+    trace: &[u8],
+    records: &[u8],
+) -> Result<(), NoMemory> {
+    let mut sink = ample(alloc)?;
+    let exit = run_trace(alloc, trace, &mut sink)?;
+    assert_eq!(rt;
+        (exit, sink.bytes().starts_with(records)),
+        (Exit::Done, true)
+    );
     Ok(())
 }
 
 #[test]
 fn records_are_those_of_the_rules(rt: HostRuntime) -> Result<(), Fail> {
-    let alloc = rt.alloc();
     for (trace, records) in [
         (
             b"ptmtrace 1\n0 m 1 0\n".as_slice(),
@@ -131,49 +148,58 @@ fn records_are_those_of_the_rules(rt: HostRuntime) -> Result<(), Fail> {
             b"ptmreport 1 serial\n0 m 1 9223372036854775808 -> null big\n0 f 1 -> skip\n",
         ),
     ] {
-        let mut sink = ample(alloc)?;
-        assert_eq!(rt; run_trace(alloc, trace, &mut sink)?, Exit::Done);
-        assert!(rt; sink.bytes().starts_with(records));
+        expect_records(&rt, rt.alloc(), trace, records)?;
     }
     Ok(())
 }
 
 #[test]
 fn threads_have_arenas(rt: HostRuntime) -> Result<(), Fail> {
-    let alloc = rt.alloc();
-    assert!(rt; has_report(alloc, OTHER_THREAD, OTHER_THREAD_REPORT)?);
-    assert!(rt; has_report(alloc, HANDED_OVER, HANDED_OVER_REPORT)?);
-    assert!(rt; has_report(alloc, ENDED, ENDED_REPORT)?);
-    assert!(rt; has_report(alloc, NOT_POSTED, NOT_POSTED_REPORT)?);
+    const TRACES: [(&[u8], &[u8]); 4] = [
+        (OTHER_THREAD, OTHER_THREAD_REPORT),
+        (HANDED_OVER, HANDED_OVER_REPORT),
+        (ENDED, ENDED_REPORT),
+        (NOT_POSTED, NOT_POSTED_REPORT),
+    ];
+    expect_reports(&rt, rt.alloc(), &TRACES)?;
     Ok(())
 }
 
 #[test]
 fn what_is_refused_is_tried_in_another_arena(rt: HostRuntime) -> Result<(), Fail> {
-    let alloc = rt.alloc();
-    assert!(rt; has_report(alloc, REFUSED, REFUSED_REPORT)?);
-    assert!(rt; has_report(alloc, REFUSED_RESIZE, REFUSED_RESIZE_REPORT)?);
+    const TRACES: [(&[u8], &[u8]); 2] = [
+        (REFUSED, REFUSED_REPORT),
+        (REFUSED_RESIZE, REFUSED_RESIZE_REPORT),
+    ];
+    expect_reports(&rt, rt.alloc(), &TRACES)?;
     Ok(())
 }
 
-/// The refusal of a faulty trace.
-fn bad(line: u64, why: BadWhy) -> Exit {
-    Exit::BadTrace { line, why }
+/// A trace is refused for this line, with status 3, and nothing is written.
+fn expect_refusal(
+    rt: &impl Abort,
+    alloc: Global,
+    trace: &[u8],
+    line: u64,
+    why: BadWhy,
+) -> Result<(), NoMemory> {
+    let mut sink = ample(alloc)?;
+    let exit = run_trace(alloc, trace, &mut sink)?;
+    assert_eq!(rt;
+        (exit, exit.status(), sink.bytes().len()),
+        (Exit::BadTrace { line, why }, 3, 0)
+    );
+    Ok(())
 }
 
 #[test]
 fn refusals_write_nothing(rt: HostRuntime) -> Result<(), Fail> {
-    let alloc = rt.alloc();
-    for (trace, exit, status) in [
-        (b"".as_slice(), bad(1, BadWhy::Cut), 3),
-        (b"ptmtrace 1", bad(1, BadWhy::Cut), 3),
-        (b"ptmtrace 1\n0 m 1 24\n0 m 1 24\n", bad(3, BadWhy::Held), 3),
+    for (trace, line, why) in [
+        (b"".as_slice(), 1, BadWhy::Cut),
+        (b"ptmtrace 1", 1, BadWhy::Cut),
+        (b"ptmtrace 1\n0 m 1 24\n0 m 1 24\n", 3, BadWhy::Held),
     ] {
-        let mut sink = ample(alloc)?;
-        let answer = run_trace(alloc, trace, &mut sink)?;
-        assert_eq!(rt; answer, exit);
-        assert_eq!(rt; answer.status(), status);
-        assert_eq!(rt; sink.bytes().len(), 0);
+        expect_refusal(&rt, rt.alloc(), trace, line, why)?;
     }
     Ok(())
 }
