@@ -29,9 +29,10 @@ BUILT = os.path.join(ROOT, 'crates', 'ptmreplay', 'out', 'ptmreplay')
 
 STAND_IN = '''#!%s
 import sys
-if sys.stdin.buffer.read() != %r or sys.argv[1:] != ["--mxfast", "0"]:
+answer = %r.get(sys.stdin.buffer.read())
+if answer is None or sys.argv[1:] != ["--mxfast", "0"]:
     sys.exit("another input")
-sys.stdout.buffer.write(%r)
+sys.stdout.buffer.write(answer)
 if %d:
     print("ptmreplay: no memory", file=sys.stderr)
 sys.exit(%d)
@@ -377,9 +378,9 @@ class Tests(unittest.TestCase):
 
     # ---- the heap behind some lines
 
-    def stand_in(self, wanted, answer, status=0):
-        """A program that wants this input and gives this answer."""
-        path = self.write('program', STAND_IN % (sys.executable, wanted, answer, status, status))
+    def stand_in(self, answers, status=0):
+        """A program that has these answers, each for its input."""
+        path = self.write('program', STAND_IN % (sys.executable, answers, status, status))
         os.chmod(path, 0o755)
         return path
 
@@ -388,27 +389,32 @@ class Tests(unittest.TestCase):
             trace = file.read()
         with open(SMALL + '.report', 'rb') as file:
             report = file.read()
+        longer = trace + b'0 f 1\n'
         places = report.index(b'arena 0 system')
-        more = self.write('more.report', report[:places] + b'0 f 1 -> cached\n' + report[places:].replace(
-            b'32 live 0 1', b'32 cache 0').replace(b'mapped\n', b'mapped\ncache 0 0: 0x5555555592a0\n', 1))
-        behind = ['--', '--mxfast', '0']
+        more = report[:places] + b'0 f 1 -> cached\n' + report[places:].replace(
+            b'32 live 0 1', b'32 cache 0').replace(b'mapped\n', b'mapped\ncache 0 0: 0x5555555592a0\n', 1)
+        source = self.write('more.report', more)
+        good = self.stand_in({longer: more, trace: report})
 
-        def at(line, program, source=more):
-            return self.run_inside('-o', self.page, '--at', str(line), '--program', program, source, *behind)
+        def at(line, program, source=source):
+            return self.run_inside('-o', self.page, '--at', str(line), '--program', program, source,
+                                   '--', '--mxfast', '0')
 
-        self.assertEqual(at(3, self.stand_in(trace, report)), (0, ''))
+        self.assertEqual(at(3, good), (0, ''))
         page = Page(self.read(self.page))
         self.assertEqual((page.title, page.value('main', 'live')), ('Heap of more.report behind line 3', 80))
-        self.assertEqual(at(3, self.stand_in(trace, report), self.write('a.trace', trace + b'0 f 1\n')), (0, ''))
+        self.assertEqual(at(3, good, self.write('a.trace', longer)), (0, ''))
         os.unlink(self.page)
-        self.refused(at(5, self.stand_in(trace, report)), '--at 5: the trace has 4 lines')
-        self.refused(at(2, self.stand_in(trace, report)), 'the program ended with status 1 and said: another input')
-        self.refused(at(3, self.stand_in(trace, report, 8)), 'status 8 and said: ptmreplay: no memory')
-        self.refused(at(3, self.stand_in(trace, report[:99])), 'what the program wrote: line ')
-        wrong = report.replace(b'2c0 48 live', b'2d0 48 live')
-        self.refused(at(3, self.stand_in(trace, wrong)), 'what the program wrote: ')
-        other = report.replace(b'48 arena 0', b'48 cached')
-        self.refused(at(3, self.stand_in(trace, other)), 'answers line 3 otherwise')
+        self.refused(at(5, good), '--at 5: the trace has 4 lines')
+        self.refused(at(2, good), 'the program ended with status 1 and said: another input')
+        self.refused(at(3, self.stand_in({longer: more}, 8)), 'status 8 and said: ptmreplay: no memory')
+        for wrong in (report[:99], report.replace(b'2c0 48 live', b'2d0 48 live')):
+            self.refused(at(3, self.stand_in({longer: more, trace: wrong})), 'what the program wrote: line ')
+        lines = more.split(b'\n')
+        for line in range(len(lines)):
+            other = b'\n'.join(lines[:line] + [lines[line] + b' '] + lines[line + 1:])
+            result = at(3, self.stand_in({longer: other, trace: report}))
+            self.refused(result, 'writes line %d otherwise than the report has it' % (line + 1))
         self.refused(at(3, '/nowhere/program'), "/nowhere/program can't be run")
         threads = [path for path in SAMPLES if self.read(path).startswith('ptmreport 1 threads')]
         self.refused(at(3, '/nowhere/program', threads[0]), 'this is a report of threads')
@@ -425,6 +431,19 @@ class Tests(unittest.TestCase):
             direct = subprocess.run([BUILT], input=b'\n'.join(lines[:line]) + b'\n', stdout=subprocess.PIPE, check=True)
             self.assertEqual(self.run_inside('-o', self.page, self.write('direct', direct.stdout)), (0, ''))
             self.assertEqual(shown.data, Page(self.read(self.page)).data)
+
+    @unittest.skipUnless(os.access(BUILT, os.X_OK), 'ptmreplay is not built')
+    def test_at_a_line_with_other_words(self):
+        words = ['--top-pad', '0']
+        with open(SMALL + '.trace', 'rb') as trace, open(SMALL + '.report', 'rb') as file:
+            whole = subprocess.run([BUILT] + words, stdin=trace, stdout=subprocess.PIPE, check=True).stdout
+            records = file.read().split(b'arena 0 system')[0]
+        self.assertTrue(whole.startswith(records))
+        report = self.write('short.report', whole)
+        self.refused(self.run_inside('-o', self.page, '--at', '2', report), 'writes line 4 otherwise')
+        self.assertFalse(os.path.exists(self.page))
+        self.assertEqual(self.run_inside('-o', self.page, '--at', '2', report, '--', *words), (0, ''))
+        self.assertEqual(Page(self.read(self.page)).value('main', 'system'), 4096)
 
 
 if __name__ == '__main__':

@@ -19,6 +19,8 @@ long plain_read(int fd, void *to, uint64_t length, uint64_t at) { return syscall
 
 void plain_close(int fd) { syscall(SYS_close, fd); }
 
+void plain_remove(const char *path) { syscall(SYS_unlinkat, AT_FDCWD, path, 0); }
+
 /* A growth past the limit of the process would be its death by a signal. */
 static bool within_limit(uint64_t end) {
     struct rlimit limit;

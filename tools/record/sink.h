@@ -26,5 +26,6 @@ bool sink_branch(struct sink *sink, const char *path, _Atomic uint64_t *told);
 int plain_open(const char *path, int flags, int mode);
 long plain_read(int fd, void *to, uint64_t length, uint64_t at);
 void plain_close(int fd);
+void plain_remove(const char *path);
 
 #endif

@@ -402,8 +402,21 @@ static bool begin_places(struct slot *slot) {
     return sink_open(&places_file, slot->places, &slot->places_length) && sink_write(&places_file, first, length);
 }
 
+/* What this process recorded as another program, before an exec, under names that this one doesn't take: nobody would
+ * finish it. A file that couldn't be begun isn't the recorder's. */
+static void remove_left(const struct slot *left) {
+    int error = errno;
+    if (atomic_load(&left->length) && strcmp(left->path, mine->path))
+        plain_remove(left->path);
+    if (atomic_load(&left->places_length) && strcmp(left->places, mine->places))
+        plain_remove(left->places);
+    errno = error;
+}
+
 bool trace_begin(struct slot *slot, const char *program, uintptr_t heap_start) {
+    static struct slot left;
     int process = atomic_load(&slot->process);
+    left = *slot;
     memset((char *)slot + sizeof slot->process, 0, sizeof *slot - sizeof slot->process);
     mine = slot;
     places.start = heap_start;
@@ -412,8 +425,10 @@ bool trace_begin(struct slot *slot, const char *program, uintptr_t heap_start) {
     next_thread = 1;
     running = true;
     const char *header = shared->version == 2 ? "ptmtrace 2\n" : "ptmtrace 1\n";
-    if (!name_files(slot, process) || !sink_open(&trace, slot->path, &slot->length) ||
-        !sink_write(&trace, header, strlen(header)) || (*slot->places && !begin_places(slot)))
+    bool named = name_files(slot, process);
+    remove_left(&left);
+    if (!named || !sink_open(&trace, slot->path, &slot->length) || !sink_write(&trace, header, strlen(header)) ||
+        (*slot->places && !begin_places(slot)))
         trace_end(NO_FILE, errno);
     return running;
 }
