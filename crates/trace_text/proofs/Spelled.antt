@@ -1,5 +1,5 @@
 -- A line is read from its spelling, and from no other text.
-use Rattle.std.proofs.Common.{◌≡◌, ℕ, ◌^◌, ◌<◌, ◌≤◌, true, false, not, eqb, ◌==◌, List, [], ◌∷◌, ◌++◌, length, map, codes, Ok, refl, sym, ap, subst, ◌∙◌, append_assoc, arith}
+use Rattle.std.proofs.Common.{◌≡◌, ℕ, ◌^◌, ◌<◌, ◌≤◌, true, false, not, eqb, ◌==◌, List, [], ◌∷◌, ◌++◌, length, map, codes, Ok, Err, refl, sym, ap, subst, ◌∙◌, append_assoc, arith}
 use Rattle.std.specs.Fmt.{decimal}
 use Rattle.std.specs.Char.{is_ascii_digit}
 use Rattle.std.specs.List.{slice_split, join_with_byte, AllByRecursion}
@@ -105,6 +105,11 @@ spelling_lacks version before line fits =
     rw (spelling_is line) (Lacks-join 10 (line_fields line.thread line.call) refl
     (decimal_lacks 10 line.thread (omega arith) (omega arith), ((letter_is (command_for line.call)).1, decimals_lack 10 (numbers_of line.call) (omega arith) (numbers_small version line.thread line.call fits.call))))
 
+-- no field of a line is empty
+fields_filled : (version thread : ℕ) (call : Call) → thread ≤ 63 → IsCall version thread call → all_filled (line_fields thread call) ≡ true
+fields_filled version thread call small range =
+    rw (filled_from_length (decimal thread) (decimal_nonempty thread (omega arith)), (letter_is (command_for call)).2) (decimals_filled (numbers_of call) (numbers_small version thread call range))
+
 -- ---- a line that fits is read from its spelling
 
 filled_again : (version : ℕ) (before : List Line) (line : Line) → Fits version before line → filled_line version before (decimal line.thread) (letter_of (command_for line.call)) (map decimal (numbers_of line.call)) ≡ Ok line
@@ -116,9 +121,7 @@ filled_again version before line fits =
 pub line_again : (version : ℕ) (before : List Line) (line : Line) → Fits version before line → line_of version before (fields_of (spelling_of line)) ≡ Ok line
 unfolding line_of
 line_again version before line fits =
-    let small = fits.thread in
-    rw (fields_again version line small fits.call, filled_from_length (decimal line.thread) (decimal_nonempty line.thread (omega arith)), (letter_is (command_for line.call)).2, decimals_filled (numbers_of line.call) (numbers_small version line.thread line.call fits.call))
-    (filled_again version before line fits)
+    rw (fields_again version line fits.thread fits.call, fields_filled version line.thread line.call fits.thread fits.call) (filled_again version before line fits)
 
 -- ---- what is read is that line's spelling
 
@@ -157,3 +160,32 @@ pub line_is : (version : ℕ) (before : List Line) (text : List ℕ) (line : Lin
 line_is version before text line e =
     let found = fields_are version before (fields_of text) line e in
     (sym (join_with_byte-slice_split 32 text) ∙ ap (join_with_byte 32) found.0 ∙ sym (spelling_is line), found.1)
+
+-- ---- fields of which none was asked whether it is filled
+
+-- where a line is read from them, each is
+pub line_read : (version : ℕ) (before : List Line) (a b : List ℕ) (others : List (List ℕ)) (line : Line) → filled_line version before a b others ≡ Ok line → line_of version before (a ∷ b ∷ others) ≡ Ok line
+unfolding line_of
+line_read version before a b others line e =
+    let found = filled_is version before a b others line e in
+    let filled : all_filled (a ∷ b ∷ others) ≡ true = ap all_filled found.0 ∙ fields_filled version line.thread line.call found.1.thread found.1.call in
+    rw filled e
+
+pub line_filled : (version : ℕ) (before : List Line) (a b : List ℕ) (others : List (List ℕ)) → all_filled (a ∷ b ∷ others) ≡ true → line_of version before (a ∷ b ∷ others) ≡ filled_line version before a b others
+unfolding line_of
+line_filled version before a b others filled = rw filled refl
+
+pub line_unfilled : (version : ℕ) (before : List Line) (a b : List ℕ) (others : List (List ℕ)) → all_filled (a ∷ b ∷ others) ≡ false → line_of version before (a ∷ b ∷ others) ≡ Err bad.Fields
+unfolding line_of
+line_unfilled version before a b others unfilled = rw unfilled refl
+
+pub line_alone : (version : ℕ) (before : List Line) (a : List ℕ) → line_of version before (a ∷ []) ≡ Err bad.Fields
+unfolding line_of
+line_alone version before a = refl
+
+pub line_none : (version : ℕ) (before : List Line) → line_of version before [] ≡ Err bad.Fields
+unfolding line_of
+line_none version before = refl
+
+-- what tells a line
+pub ruleset line_cases = (line_read, line_filled, line_unfilled, line_alone, line_none)

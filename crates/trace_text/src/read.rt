@@ -15,9 +15,9 @@ use crate::seen::Seen;
 use crate::trace::{Line, Trace};
 use std::alloc::Global;
 
-/// The line of two filled fields and those behind them, in a trace of a version.
+/// The line of two fields and those behind them, in a trace of a version. None is asked whether it is filled.
 #[tactic(auto, unfolding(crate::specs::Grammar::filled_line))]
-fn read_filled(
+fn read_fields(
     version: u8,
     first: &[u8],
     second: &[u8],
@@ -43,20 +43,21 @@ fn read_filled(
     })
 }
 
-/// The line that a text is, behind the lines seen.
-#[tactic(auto, unfolding(crate::specs::Grammar::line_of))]
+/// The line that a text is, behind the lines seen. A line that can be read has no empty field, so only where reading fails are
+/// the fields asked for one, which is a fault that comes before any other.
+#[tactic(auto, using(crate::proofs::Spelled::line_cases))]
 fn read_line(version: u8, text: &[u8], number: u64, seen: &Seen) -> Result<Line, BadWhy>
     ensures exact { (before : List Line) → Knows seen.now before → number ≡ place_after before →
         result ≡ line_of version before (fields_of text.now) }
     ensures thread { IfOk result (λ line. line.thread < threads) }
 {
-    if !are_filled(text) {
-        return Err(BadWhy::Fields);
-    }
     let mut fields = Fields::of(text);
     let first = fields.take()?;
     let second = fields.take()?;
-    read_filled(version, first, second, fields, number, seen)
+    match read_fields(version, first, second, fields, number, seen) {
+        Err(_) if !are_filled(text) => Err(BadWhy::Fields),
+        read => read,
+    }
 }
 
 /// The trace of a version whose text behind the header this is, or its first fault.
