@@ -10,4 +10,3 @@ pub mod Spelled
 pub mod RoundTrip
 mod LineTexts
 mod FirstPlaces
-mod Filled
