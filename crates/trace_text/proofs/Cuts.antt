@@ -3,9 +3,11 @@ use Rattle.std.proofs.Common.{◌≡◌, ℕ, ◌+◌, ◌≤◌, Bool, true, fa
 use Rattle.std.specs.List.{position, position_or_len, slice_split, list_all, join_with_byte, All, AllByRecursion}
 use Rattle.std.proofs.lemmas.Bool.{cases_Bool, ltb-true, ltb-false, not-true, eq-eqb}
 use Rattle.std.proofs.lemmas.Option.{cond_some}
+use Rattle.std.proofs.lemmas.List.{take_all, take_rest}
 use Rattle.std.proofs.lemmas.List.Sums.{AllPass-from_list_all}
 use Rattle.std.proofs.lemmas.List.Splits.{slice_split_first, slice_split_none, slice_split_at, length-slice_split}
 use Rattle.trace_text.specs.Grammar.{fields_of}
+use Rattle.trace_text.specs.Numbers.{numeral_value, TakesNumber}
 
 found_nowhere : (b : Bool) (n : ℕ) → None ≡ cond b (Some n) None → b ≡ false
 found_nowhere true n e = absurd cc
@@ -40,6 +42,19 @@ uncons (x ∷ xs) some = (x, xs, refl)
 -- a text has a first part
 pub split_cons : {X : Type 0} (p : X → Bool) (xs : List X) → (first : List X) × (others : List (List X)) × (slice_split p xs ≡ first ∷ others)
 split_cons p xs = uncons (slice_split p xs) (omega (arith, length-slice_split p xs))
+
+-- ---- a number in front of a line's fields
+
+pub number_cut : (text : List ℕ) (count number : ℕ) → position_or_len (λ b. b == 32) text ≡ count → numeral_value (take count text) ≡ Some number → count < length text → TakesNumber (fields_of text) (fields_of (drop (count + 1) text)) (Some number)
+number_cut text count number end value more =
+    record { field = take count text; first = rw end at (slice_split_first (λ b. b == 32) text 0 (omega (arith, end))); value = sym value }
+
+pub number_alone : (text : List ℕ) (count number : ℕ) → position_or_len (λ b. b == 32) text ≡ count → numeral_value (take count text) ≡ Some number → length text ≤ count → TakesNumber (fields_of text) [] (Some number)
+number_alone text count number end value last =
+    record { field = text; first = split_past (λ b. b == 32) text (omega (arith, end)); value = sym (rw (take_all count text last) at value) }
+
+-- what tells what is left behind a number
+pub ruleset number_cases = (number_cut, number_alone, take_rest)
 
 -- ---- parts that are joined, and cut again
 

@@ -1,12 +1,12 @@
 -- When a field is a number.
-use Rattle.std.proofs.Common.{◌≡◌, ℕ, ◌+◌, ◌-◌, ◌*◌, ◌^◌, ◌<◌, ◌≤◌, true, false, leb, ltb, List, [], ◌∷◌, length, get_or, take, drop, Some, None, refl, sym, ap, arith, inl, inr}
-use Rattle.std.specs.List.{fold, list_all}
+use Rattle.std.proofs.Common.{◌≡◌, ℕ, ◌+◌, ◌-◌, ◌*◌, ◌^◌, ◌<◌, ◌≤◌, true, false, leb, ltb, ◌==◌, List, [], ◌∷◌, length, get_or, take, drop, Some, None, refl, sym, ap, ◌∙◌, arith, inl, inr}
+use Rattle.std.specs.List.{fold, list_all, position_or_len}
 use Rattle.std.specs.Fmt.{decimal}
 use Rattle.std.specs.Char.{is_ascii_digit}
-use Rattle.std.proofs.lemmas.Bool.{and_cases, and_parts, and_right, and_from, le-ltb, lt-ltb, leb-true}
+use Rattle.std.proofs.lemmas.Bool.{and_cases, and_parts, and_right, and_from, le-ltb, lt-ltb, leb-true, ne_eqb, eq-eqb}
 use Rattle.std.proofs.lemmas.Fmt.{length-decimal-le}
-use Rattle.std.proofs.lemmas.List.{take-append-drop, take_all}
-use Rattle.std.proofs.lemmas.List.Sums.{fold-append, fold_more}
+use Rattle.std.proofs.lemmas.List.{take-append-drop, take_all, length-take-le, get_or-take}
+use Rattle.std.proofs.lemmas.List.Sums.{fold-append, fold_more, AllPass-from_list_all, position_or_len_is}
 use Rattle.std.proofs.lemmas.List.Folds.{list_all_at}
 use Rattle.trace_text.specs.Numbers.{is_numeral, value_of, numeral_value}
 
@@ -76,6 +76,20 @@ pub some_whole : (field : List ℕ) (i : ℕ) → length field ≤ i → 0 < len
 some_whole field i end some free digits small =
     let whole : take i field ≡ field = take_all i field end in
     rw whole (some_by_digits field some free (rw whole at digits) (rw whole at small))
+
+-- the digits in front of a text stand for a number
+pub front_value : (text : List ℕ) (count : ℕ) → count ≤ length text → 0 < count → (1 < count → get_or text 0 0 ≡ 48 → ⊥) → list_all is_ascii_digit (take count text) ≡ true → value_of (take count text) < 2 ^ 64 → numeral_value (take count text) ≡ Some (value_of (take count text))
+front_value text count within some free digits small =
+    let long = length-take-le count text within in
+    some_by_digits (take count text) (omega (arith, long)) (λ more zero. free (omega (arith, long, more)) (sym (get_or-take count text 0 0 some) ∙ zero)) digits small
+
+-- no digit is a space
+pub front_end : (text : List ℕ) (count : ℕ) → count ≤ length text → list_all is_ascii_digit (take count text) ≡ true → (count < length text → get_or text count 0 ≡ 32) → position_or_len (λ b. b == 32) text ≡ count
+front_end text count within digits space =
+    let long = length-take-le count text within in
+    position_or_len_is (λ b. b == 32) text count 0 within
+    (λ k lt. let digit = rw get_or-take at (AllPass-from_list_all is_ascii_digit (take count text) digits k 0 (omega (arith, long, lt))) in let bounds = digit_bounds (get_or text k 0) digit in ne_eqb (get_or text k 0) 32 (λ is. absurd (omega (arith, bounds, is))))
+    (λ lt. eq-eqb (get_or text count 0) 32 (space lt))
 
 -- what tells a field's number
 pub ruleset number_cases = (none_by_length, none_by_zero, none_by_digit, list_all_at)

@@ -1,7 +1,7 @@
 //! The commands of a trace, and the calls that they ask for.
 
 ghost use Rattle.std.specs.Prelude.{◌≡◌, ◌<◌, IfOk};
-ghost use Rattle.trace_text.specs.Grammar.{threads, thread_of, command_of, number_at, name_at, tray_read, highest_name, one_number, two_numbers, three_numbers, name_alone, name_and_size, name_and_tray, name_and_sizes, end_of, call_read};
+ghost use Rattle.trace_text.specs.Grammar.{threads, thread_of, command_of, name_at, tray_read, highest_name, one_number, two_numbers, three_numbers, name_alone, name_and_size, name_and_tray, name_and_sizes, end_of, call_read};
 
 use crate::fault::BadWhy;
 use crate::fields::Fields;
@@ -53,13 +53,6 @@ pub(crate) fn read_thread(field: &[u8]) -> Result<u8, BadWhy>
     Ok(thread as u8)
 }
 
-#[tactic(auto, unfolding(crate::specs::Grammar::number_at))]
-fn read_number(field: &[u8]) -> Result<u64, BadWhy>
-    ensures { result ≡ number_at field.now }
-{
-    parse_number(field).ok_or(BadWhy::Number)
-}
-
 fn highest_name(version: u8) -> u32
     ensures { result ≡ highest_name version }
 {
@@ -86,37 +79,37 @@ fn tray_from(number: u64) -> Result<u32, BadWhy>
     Ok(number as u32)
 }
 
-#[tactic(auto, unfolding(crate::specs::Grammar::one_number))]
+#[tactic(auto, unfolding(crate::specs::Grammar::one_number, crate::specs::Grammar::number_at))]
 fn read_one(mut fields: Fields<'_>) -> Result<u64, BadWhy>
     ensures { result ≡ one_number fields.entry }
 {
-    let first = fields.take()?;
+    let first = fields.take_number()?;
     fields.end()?;
-    read_number(first)
+    first.ok_or(BadWhy::Number)
 }
 
-#[tactic(auto, unfolding(crate::specs::Grammar::two_numbers))]
+#[tactic(auto, unfolding(crate::specs::Grammar::two_numbers, crate::specs::Grammar::number_at))]
 fn read_two(mut fields: Fields<'_>) -> Result<(u64, u64), BadWhy>
     ensures { result ≡ two_numbers fields.entry }
 {
-    let first = fields.take()?;
-    let second = fields.take()?;
+    let first = fields.take_number()?;
+    let second = fields.take_number()?;
     fields.end()?;
-    Ok((read_number(first)?, read_number(second)?))
+    Ok((first.ok_or(BadWhy::Number)?, second.ok_or(BadWhy::Number)?))
 }
 
-#[tactic(auto, unfolding(crate::specs::Grammar::three_numbers))]
+#[tactic(auto, unfolding(crate::specs::Grammar::three_numbers, crate::specs::Grammar::number_at))]
 fn read_three(mut fields: Fields<'_>) -> Result<(u64, u64, u64), BadWhy>
     ensures { result ≡ three_numbers fields.entry }
 {
-    let first = fields.take()?;
-    let second = fields.take()?;
-    let third = fields.take()?;
+    let first = fields.take_number()?;
+    let second = fields.take_number()?;
+    let third = fields.take_number()?;
     fields.end()?;
     Ok((
-        read_number(first)?,
-        read_number(second)?,
-        read_number(third)?,
+        first.ok_or(BadWhy::Number)?,
+        second.ok_or(BadWhy::Number)?,
+        third.ok_or(BadWhy::Number)?,
     ))
 }
 

@@ -3,8 +3,10 @@
 ghost use Rattle.std.specs.Prelude.{◌≡◌, ◌≢◌, ◌==◌, ◌<◌, ◌∷◌, [], ℕ, List, length, if◌then◌else◌, IfSome, MatchOption, MatchResult};
 ghost use Rattle.std.specs.List.{position, slice_split};
 ghost use Rattle.trace_text.specs.Grammar.{fields_of, all_filled};
+ghost use Rattle.trace_text.specs.Numbers.{TakesNumber};
 
 use crate::fault::BadWhy;
+use crate::numbers::{number_in_front, parse_number};
 use memchr::memchr;
 use std::marker::Model;
 
@@ -95,6 +97,27 @@ impl<'a> Fields<'a> {
                 Ok(self.rest)
             }
         }
+    }
+
+    /// The number that the next field stands for, if it stands for one. Its digits are passed over once, unless it is long.
+    #[tactic(auto, using(crate::proofs::Cuts::number_cases))]
+    pub(crate) fn take_number(&mut self) -> Result<Option<u64>, BadWhy>
+        ensures { MatchResult result
+            (λ number. TakesNumber self.old self.new number)
+            (λ why. (why ≡ BadWhy.Fields) × (self.old ≡ [])) }
+    {
+        if self.is_done {
+            return Err(BadWhy::Fields);
+        }
+        let Some((number, count)) = number_in_front(self.rest) else {
+            return Ok(parse_number(self.take()?));
+        };
+        if count < self.rest.len() {
+            self.rest = &self.rest[count + 1..];
+        } else {
+            self.is_done = true;
+        }
+        Ok(Some(number))
     }
 
     /// Fails where a field is left.
