@@ -11,12 +11,13 @@ use crate::held::{Held, is_held_after};
 use crate::maker::Maker;
 use chunk_tags::NoMemory;
 use std::alloc::Global;
-use trace_text::{Line, Trace};
+use trace_text::{Line, Lines, Trace};
 
 /// The next line; the marks then say what it says as well.
 #[tactic(auto, unfolding(crate::specs::Generator::line_made))]
 fn next_line(maker: &mut Maker, held: &mut Held, number: u64) -> Result<Line, NoMemory>
-    ensures { IfOk result (λ line. (before : List Line) → Knows held.old.marks.items before →
+    ensures number { IfOk result (λ line. line.number ≡ number) }
+    ensures made { IfOk result (λ line. (before : List Line) → Knows held.old.marks.items before →
         number ≡ place_after before → ((line, maker.new) ≡ line_made before maker.old) ×
         Knows held.new.marks.items (before ++ line ∷ [])) }
 {
@@ -37,17 +38,17 @@ fn next_line(maker: &mut Maker, held: &mut Held, number: u64) -> Result<Line, No
 /// them up, get other sizes for them and hand them on, as is drawn.
 pub fn generate(alloc: Global, seed: u64, n: u32) -> Result<Trace, NoMemory>
     requires { n ≤ 1000000 }
-    ensures exact { IfOk result (λ trace. trace.lines.items ≡ lines_made seed n) }
+    ensures exact { IfOk result (λ trace. trace.lines ≡ lines_made seed n) }
 
     ensures version { IfOk result (λ trace. trace.version ≡ 1) }
 
     // What is printed of it is read as these lines again.
-    ensures allowed { IfOk result (λ trace. Allows trace.version trace.lines.items) }
+    ensures allowed { IfOk result (λ trace. Allows trace.version trace.lines) }
 
     // Every take stands behind a post of its tray.
-    ensures posted { IfOk result (λ trace. TakesPosted trace.lines.items) }
+    ensures posted { IfOk result (λ trace. TakesPosted trace.lines) }
 {
-    let mut lines = Vec::with_capacity(alloc, n as usize)?;
+    let mut lines = Lines::with_capacity(alloc, n as usize)?;
     let mut maker = Maker::new(alloc, seed)?;
     let mut held = Held::new(alloc)?;
     for done in 0..n {

@@ -1,11 +1,12 @@
 -- Which threads have lines.
-use Rattle.std.proofs.Common.{◌≡◌, ℕ, zero, suc, ◌+◌, ◌<◌, ◌==◌, ◌||◌, Bool, true, false, cond, List, [], ◌∷◌, ◌++◌, filter, get_or, set, length, take, replicate, inl, inr, refl, sym, ap, ◌∙◌, arith, append-nil}
+use Rattle.std.proofs.Common.{◌≡◌, ℕ, zero, suc, ◌+◌, ◌<◌, ◌==◌, ◌||◌, Bool, true, false, cond, List, [], ◌∷◌, ◌++◌, Some, slice_get, filter, get_or, set, length, take, replicate, inl, inr, refl, sym, ap, ◌∙◌, arith, append-nil}
 use Rattle.std.specs.List.{All, AllByRecursion, range_with_len}
 use Rattle.std.proofs.lemmas.Bool.Decides.{eqb_tells}
-use Rattle.std.proofs.lemmas.List.{get_or-set_same, get_or-set_other, take_more}
+use Rattle.std.proofs.lemmas.List.{get_or-set_same, get_or-set_other}
 use Rattle.std.proofs.lemmas.List.Elements.{All-from_recursion, filter-append}
 use Rattle.trace_text.specs.declared.trace.Line.{Line}
 use Rattle.trace_text.specs.Spelling.{AllFit}
+use Rattle.trace_text.proofs.NextLines.{take_next}
 use Rattle.trace_replay.specs.Sheets.{AreLines}
 use Rattle.trace_replay.specs.Views.{IsThread, has_line}
 
@@ -45,12 +46,11 @@ true_or : (x : Bool) → (x || true) ≡ true
 true_or true = refl
 true_or false = refl
 
-pub marks_next : (marks : List Bool) (lines : List Line) (i : ℕ) (d : Line) (k : ℕ) → k ≡ (get_or lines i d).thread → k < length marks → i < length lines → AreMarks marks (take i lines) → AreMarks (set marks k true) (take (i + 1) lines)
-marks_next marks lines i d k is room lt have = λ thread.
-    let line : Line = get_or lines i d in
+pub marks_next : (marks : List Bool) (lines : List Line) (i : ℕ) (line : Line) (k : ℕ) → k ≡ line.thread → k < length marks → slice_get lines i ≡ Some line → AreMarks marks (take i lines) → AreMarks (set marks k true) (take (i + 1) lines)
+marks_next marks lines i line k is room at have = λ thread.
     let was : Bool = has_line (take i lines) thread in
     let pushed : has_line (take (i + 1) lines) thread ≡ (was || line.thread == thread) =
-    ap (λ (ls : List Line). has_line ls thread) (take_more lines i d lt) ∙ has_line-push (take i lines) line thread in
+    ap (λ (ls : List Line). has_line ls thread) (take_next lines i line at) ∙ has_line-push (take i lines) line thread in
     elim (eqb_tells line.thread thread) [
       | inl same ↦
           let here : thread ≡ k = sym same.1 ∙ sym is in

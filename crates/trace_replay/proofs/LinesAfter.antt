@@ -3,9 +3,8 @@ use Rattle.std.proofs.Common.{◌≡◌, ℕ, zero, suc, ◌+◌, ◌<◌, inl, 
 use Rattle.std.specs.Prelude.{slice_get, slice_set}
 use Rattle.std.specs.List.{list_any}
 use Rattle.std.proofs.lemmas.Bool.Decides.{nat_tests}
-use Rattle.std.proofs.lemmas.List.{take_more}
 use Rattle.std.proofs.lemmas.List.Sums.{fold-append}
-use Rattle.std.proofs.lemmas.Option.{slice_get_within}
+use Rattle.std.proofs.lemmas.Option.{slice_get_within, get_or_from_slice_get}
 use Rattle.block_names.specs.Names.{block_at}
 use Rattle.own_blocks.specs.declared.reply.Reply.{Reply}
 use Rattle.trace_text.specs.declared.trace.Call.{Call}
@@ -17,6 +16,7 @@ use Rattle.trace_text.specs.declared.fault.BadWhy.{BadWhy}
 use Rattle.trace_text.specs.declared.fault.BadWhy.TheVariants.{Held, NotHeld, TrayTwice}
 use Rattle.trace_text.specs.Spelling.{Fits, AllFit, Allows}
 use Rattle.trace_text.proofs.Before.{is_held_push}
+use Rattle.trace_text.proofs.NextLines.{take_next}
 use Rattle.trace_replay.specs.Naming.{HoldsWithin, IsFree, MayRun, FitsThread, LeavesLine}
 use Rattle.trace_replay.specs.Tiling.{Wanted, Wishes, wished_after, no_wishes, wishes_of, named_next, IsFit, FitsWithin}
 use Rattle.trace_replay.specs.World.{World, ThreadWorld}
@@ -143,11 +143,12 @@ fits_from version before (line ∷ lines) zero d fit lt = subst (λ b. Fits vers
 fits_from version before (line ∷ lines) (suc i) d fit lt =
     subst (λ b. Fits version b (get_or lines i d)) (append_assoc before (line ∷ []) (take i lines)) (fits_from version (before ++ line ∷ []) lines i d fit.1 (omega arith))
 
-pub fits_at : (version : ℕ) (lines : List Line) (i : ℕ) (d : Line) → Allows version lines → i < length lines → Fits version (take i lines) (get_or lines i d)
-fits_at version lines i d fit lt = fits_from version [] lines i d fit.1 lt
+pub fits_at : (version : ℕ) (lines : List Line) (i : ℕ) (line : Line) → Allows version lines → slice_get lines i ≡ Some line → Fits version (take i lines) line
+fits_at version lines i line fit at =
+    subst (Fits version (take i lines)) (get_or_from_slice_get lines i line line at) (fits_from version [] lines i line fit.1 (slice_get_within lines i line at))
 
 -- one line more
-pub holds_next : {K : Type 0} (lines : List Line) (i : ℕ) (d : Line) (reply : Reply) (w now : World K) → i < length lines → HoldsWithin (take i lines) w →
-    LeavesLine (get_or lines i d) reply w now → HoldsWithin (take (i + 1) lines) now
-holds_next lines i d reply w now lt holds leaves =
-    subst (λ b. HoldsWithin b now) (sym (take_more lines i d lt)) (holds_after (take i lines) (get_or lines i d) reply w now holds leaves)
+pub holds_next : {K : Type 0} (lines : List Line) (i : ℕ) (line : Line) (reply : Reply) (w now : World K) → slice_get lines i ≡ Some line → HoldsWithin (take i lines) w →
+    LeavesLine line reply w now → HoldsWithin (take (i + 1) lines) now
+holds_next lines i line reply w now at holds leaves =
+    subst (λ b. HoldsWithin b now) (sym (take_next lines i line at)) (holds_after (take i lines) line reply w now holds leaves)

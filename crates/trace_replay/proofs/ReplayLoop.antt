@@ -1,12 +1,12 @@
 -- A run over lines, one after another.
-use Rattle.std.proofs.Common.{◌≡◌, ℕ, Bool, List, [], ◌∷◌, ◌++◌, Some, Result, Ok, Err, refl, sym, ap, ◌∙◌, append_assoc, append-nil, ◌+◌, ◌<◌, ◌≤◌, inl, inr, length, get_or, take, drop, add-one, subst, arith}
-use Rattle.std.proofs.Math.Seq.{drop-cons}
+use Rattle.std.proofs.Common.{◌≡◌, ℕ, Bool, List, [], ◌∷◌, ◌++◌, Some, Result, Ok, Err, refl, sym, ap, ◌∙◌, append_assoc, append-nil, ◌+◌, ◌≤◌, inl, inr, length, slice_get, take, drop, subst, arith}
 use Rattle.std.proofs.lemmas.Bool.{cases_lt}
-use Rattle.std.proofs.lemmas.List.{take_more, take_all}
+use Rattle.std.proofs.lemmas.List.{take_all}
 use Rattle.chunk_tags.specs.declared.tunables.Tunables.{Tunables}
 use Rattle.address_space.specs.Ports.{Port}
 use Rattle.own_blocks.specs.declared.reply.Reply.{Reply}
 use Rattle.trace_text.specs.declared.trace.Line.{Line}
+use Rattle.trace_text.proofs.NextLines.{take_next, drop_next}
 use Rattle.trace_replay.specs.declared.exit.Exit.{Exit}
 use Rattle.trace_replay.specs.World.{World, step}
 use Rattle.trace_replay.specs.declared.sheet.Sheet.{Sheet}
@@ -69,25 +69,21 @@ one_more {K} port t front line reply first now next before sheet after rest so_f
       fit = subst (λ (w : Wishes). FitsWithin w next) (sym (wishes_push so_far.replies x)) (fits_after (wishes_of so_far.replies) line reply now next so_far.fit leaves);
     }
 
-drop_at : (lines : List Line) (i : ℕ) (d : Line) → i < length lines → drop i lines ≡ get_or lines i d ∷ drop (i + 1) lines
-drop_at lines i d lt = rw add-one (drop-cons lines i d lt)
-
 -- the sheet awaits the next line and those behind it
-pub awaits_next : (sheet : Sheet) (lines : List Line) (i : ℕ) (d : Line) → i < length lines → Awaits sheet (drop i lines) → Awaits sheet (get_or lines i d ∷ drop (i + 1) lines)
-awaits_next sheet lines i d lt awaits = subst (Awaits sheet) (drop_at lines i d lt) awaits
+pub awaits_next : (sheet : Sheet) (lines : List Line) (i : ℕ) (line : Line) → slice_get lines i ≡ Some line → Awaits sheet (drop i lines) → Awaits sheet (line ∷ drop (i + 1) lines)
+awaits_next sheet lines i line at awaits = subst (Awaits sheet) (drop_next lines i line at) awaits
 
 -- so it can note it
-pub can_note_next : (sheet : Sheet) (lines : List Line) (i : ℕ) → i < length lines → Awaits sheet (drop i lines) → CanNote sheet
-can_note_next sheet [] i lt awaits = let no : ⊥ = omega arith in absurd no
-can_note_next sheet (d ∷ lines) i lt awaits = can_note sheet _ _ (awaits_next sheet (d ∷ lines) i d lt awaits)
+pub can_note_next : (sheet : Sheet) (lines : List Line) (i : ℕ) (line : Line) → slice_get lines i ≡ Some line → Awaits sheet (drop i lines) → CanNote sheet
+can_note_next sheet lines i line at awaits = can_note sheet _ _ (awaits_next sheet lines i line at awaits)
 
 -- the loop goes on behind a line that was answered, under tunables that stayed
-pub goes_on : {K : Type 0} (port : Port K) (t now_t : Tunables) (lines : List Line) (i : ℕ) (d : Line) (reply : Reply) (first now next : World K) (before sheet after : Sheet) (rest : List Line) → now_t ≡ t → i < length lines → SoFar port t (take i lines) first now before sheet →
-    step port now_t (get_or lines i d) now ≡ Some (reply, next) → NotesReply sheet (get_or lines i d) reply rest after → LeavesLine (get_or lines i d) reply now next → SoFar port t (take (i + 1) lines) first next before after
-goes_on {K} port t now_t lines i d reply first now next before sheet after rest same lt so_far is notes leaves =
-    subst (λ (front : List Line). SoFar port t front first next before after) (sym (take_more lines i d lt))
-    (one_more port t (take i lines) (get_or lines i d) reply first now next before sheet after rest so_far
-    (subst (λ (u : Tunables). step port u (get_or lines i d) now ≡ Some (reply, next)) same is) notes leaves)
+pub goes_on : {K : Type 0} (port : Port K) (t now_t : Tunables) (lines : List Line) (i : ℕ) (line : Line) (reply : Reply) (first now next : World K) (before sheet after : Sheet) (rest : List Line) → now_t ≡ t → slice_get lines i ≡ Some line → SoFar port t (take i lines) first now before sheet →
+    step port now_t line now ≡ Some (reply, next) → NotesReply sheet line reply rest after → LeavesLine line reply now next → SoFar port t (take (i + 1) lines) first next before after
+goes_on {K} port t now_t lines i line reply first now next before sheet after rest same at so_far is notes leaves =
+    subst (λ (front : List Line). SoFar port t front first next before after) (sym (take_next lines i line at))
+    (one_more port t (take i lines) line reply first now next before sheet after rest so_far
+    (subst (λ (u : Tunables). step port u line now ≡ Some (reply, next)) same is) notes leaves)
 
 -- what the run gives, where no line is left
 gives : {K : Type 0} (port : Port K) (t : Tunables) (lines : List Line) (first now : World K) (before sheet : Sheet) (so_far : SoFar port t lines first now before sheet) → run_of port t lines first ≡ Ok (record { replies = so_far.replies ++ []; world = now })

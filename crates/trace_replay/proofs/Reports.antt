@@ -8,30 +8,33 @@ use Rattle.stats_text.specs.Summary.{summary_of}
 use Rattle.stats_text.specs.Views.{Shown}
 use Rattle.trace_text.specs.declared.trace.Line.{Line}
 use Rattle.world_view.specs.Scenes.{shown_of}
+use Rattle.trace_replay.specs.declared.sheet.Notes.{Notes}
 use Rattle.trace_replay.specs.declared.sheet.Sheet.{Sheet}
 use Rattle.trace_replay.specs.declared.sheet.Sheet.TheVariants.{Report, Summary}
 use Rattle.trace_replay.specs.Runs.{Run, run_of}
 use Rattle.trace_replay.specs.SerialText.{sections, shown_behind, run_text, text_on, text_over}
-use Rattle.trace_replay.specs.Sheets.{HasNoted, NotesRun, text_with}
+use Rattle.trace_replay.specs.Sheets.{HasNoted, NotesRun, notes_of, text_with}
 use Rattle.trace_replay.specs.Tiling.{TilesAfter, GivesTiles}
 use Rattle.trace_replay.specs.Views.{threads_in, scene_of}
 use Rattle.trace_replay.specs.World.{World, opening_world}
 
 -- the text of a sheet that has the replies of a run, with what is shown of the world at the end
-text_noted : {K : Type 0} (summary : Bool) (sheet : Sheet) (threads : List ℕ) (run : Run K) → HasNoted summary sheet run.replies → text_with sheet (shown_behind threads run) ≡ run_text summary threads run
+text_noted : {K : Type 0} (summary : Bool) (sheet : Sheet) (threads : List ℕ) (run : Run K) → HasNoted summary sheet run.replies → text_with (notes_of sheet) (shown_behind threads run) ≡ run_text summary threads run
 text_noted true (Summary counts) threads run h = ap (λ (c : Counts). summary_of c (shown_behind threads run)) h
 text_noted false (Report records) threads run h = ap (λ (front : List ℕ). front ++ sections (shown_behind threads run)) h
 text_noted true (Report records) threads run h = absurd h
 text_noted false (Summary counts) threads run h = absurd h
 
 -- the run over all lines from the world that a run begins with, w; then the text of its sheet on the world at the end, now
-pub text_served : {K : Type 0} (port : Port K) (summary : Bool) (t now_t : Tunables) (lines : List Line) (kernels : List K) (w now : World K) (before sheet : Sheet) (all : List ℕ) (s : Shown) → now_t ≡ t → w ≡ opening_world t kernels → HasNoted summary before [] →
-    NotesRun before sheet (run_of port now_t lines w) now → s ≡ shown_of (scene_of (threads_in lines) now) → all ≡ text_with sheet s → text_over port summary t lines kernels ≡ Ok all
-text_served {K} port summary t now_t lines kernels w now before sheet all s same first blank run shows written =
+pub text_served : {K : Type 0} (port : Port K) (summary : Bool) (t now_t : Tunables) (lines : List Line) (kernels : List K) (w now : World K) (before sheet : Sheet) (numbers : List ℕ) (notes : Notes) (all : List ℕ) (s : Shown) → now_t ≡ t → w ≡ opening_world t kernels → HasNoted summary before [] →
+    NotesRun before sheet (run_of port now_t lines w) now → numbers ≡ threads_in lines → s ≡ shown_of (scene_of numbers now) → notes ≡ notes_of sheet → all ≡ text_with notes s → text_over port summary t lines kernels ≡ Ok all
+text_served {K} port summary t now_t lines kernels w now before sheet numbers notes all s same first blank run named shows noted written =
+    let shows_all : s ≡ shown_of (scene_of (threads_in lines) now) = shows ∙ ap (λ (ns : List ℕ). shown_of (scene_of ns now)) named in
+    let written_all : all ≡ text_with (notes_of sheet) s = written ∙ ap (λ (n : Notes). text_with n s) noted in
     ap (text_on summary (threads_in lines)) (ap (run_of port t lines) (sym first) ∙ (ap (λ (u : Tunables). run_of port u lines w) (sym same) ∙ run.gives))
     ∙ ap Ok (sym (text_noted summary sheet (threads_in lines) run.run (run.noted summary blank))
-    ∙ ap (text_with sheet) (ap (λ (v : World K). shown_of (scene_of (threads_in lines) v)) run.world ∙ sym shows)
-    ∙ sym written)
+    ∙ ap (text_with (notes_of sheet)) (ap (λ (v : World K). shown_of (scene_of (threads_in lines) v)) run.world ∙ sym shows_all)
+    ∙ sym written_all)
 
 -- behind each line the world is tiled, from the world that a run begins with on
 pub tiles_given : {K : Type 0} (port : Port K) (t now_t : Tunables) (lines : List Line) (kernels : List K) (w : World K) → now_t ≡ t → w ≡ opening_world t kernels → ((count : ℕ) → TilesAfter port now_t (take count lines) w) → GivesTiles port t lines kernels

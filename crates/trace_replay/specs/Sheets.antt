@@ -10,6 +10,8 @@ use Rattle.stats_text.specs.Views.{Shown}
 use Rattle.trace_text.specs.declared.trace.Line.{Line}
 use Rattle.trace_text.specs.Spelling.{spelling, texts_of, Allows}
 use Rattle.trace_replay.specs.declared.exit.Exit.{Exit}
+use Rattle.trace_replay.specs.declared.sheet.Notes.{Notes}
+use Rattle.trace_replay.specs.declared.sheet.Notes.TheVariants as notes
 use Rattle.trace_replay.specs.declared.sheet.Sheet.{Sheet}
 use Rattle.trace_replay.specs.declared.sheet.Sheet.TheVariants.{Report, Summary}
 use Rattle.trace_replay.specs.Records.{outcomes_of, record_of, records_of}
@@ -75,7 +77,12 @@ pub record NotesRun {K : Type 0} (before now : Sheet) (rules : Result (Run K) Ex
   pub world : run.world ≡ w
   pub noted : (summary : Bool) → HasNoted summary before [] → HasNoted summary now run.replies
 
--- the text of a sheet, with what is shown at the end
-abbrev pub text_with : Sheet → Shown → List ℕ
-text_with (Report records) s = records.text.items ++ sections s
-text_with (Summary counts) s = summary_of counts s
+-- what a sheet has, where no more lines come
+abbrev pub notes_of : Sheet → Notes
+notes_of (Report records) = notes.Report records.text
+notes_of (Summary counts) = notes.Summary counts
+
+-- the text of this, with what is shown at the end
+abbrev pub text_with : Notes → Shown → List ℕ
+text_with (notes.Report text) s = text.items ++ sections s
+text_with (notes.Summary counts) s = summary_of counts s

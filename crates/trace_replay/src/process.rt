@@ -4,7 +4,7 @@ ghost use Rattle.std.specs.Prelude.{◌≡◌, ◌≤◌, vec_len, IfOk, OnOk, O
 ghost use Rattle.chunk_tags.specs.Tunables.{IsTuned};
 
 use crate::calling::{call, tidy};
-use crate::threads::{line_threads, new_threads};
+use crate::threads::new_threads;
 use address_space::Kernel;
 use chunk_tags::{NoMemory, Tunables};
 use malloc_calls::{Reply, Thread};
@@ -24,11 +24,10 @@ pub struct Process<K: Kernel> {
 }
 
 impl<K: Kernel> Process<K> {
-    ghost use Rattle.std.specs.List.{All};
     ghost use Rattle.stats_text.specs.Totals.{HasTotals};
     ghost use Rattle.trace_text.specs.Grammar.{threads};
     ghost use Rattle.world_view.specs.Scenes.{shown_of};
-    ghost use Rattle.trace_replay.specs.Views.{IsThread, threads_in, scene_of};
+    ghost use Rattle.trace_replay.specs.Views.{scene_of};
     ghost use Rattle.trace_replay.specs.Naming.{HoldsWithin, MayRun, LeavesLine};
     ghost use Rattle.trace_replay.specs.Processes.{world_of, Tells, step_in, IsBetweenCalls};
     ghost use Rattle.trace_replay.specs.LeftLines.{IsStepLeft};
@@ -85,12 +84,11 @@ impl<K: Kernel> Process<K> {
         Ok(reply)
     }
 
-    /// What a report shows of it at its end; the trace has these lines.
-    pub fn snapshot(self, alloc: Global, lines: &[Line]) -> Result<Snapshot, NoMemory>
-        requires settled { IsBetweenCalls self }
-        requires threads { All IsThread lines.now }
+    /// What a report shows of it at its end; the threads with these numbers have lines.
+    pub fn snapshot(self, alloc: Global, numbers: &[u8]) -> Result<Snapshot, NoMemory>
+        requires { IsBetweenCalls self }
         ensures shown { IfOk result (λ s.
-            s ≡ shown_of (scene_of (threads_in lines.now) (world_of self))) }
+            s ≡ shown_of (scene_of numbers.now (world_of self))) }
         ensures totals { IfOk result HasTotals }
     {
         let Process {
@@ -99,7 +97,6 @@ impl<K: Kernel> Process<K> {
             t: _,
         } = self;
         serial.laws();
-        let numbers = line_threads(alloc, lines)?;
         let end = serial.end(alloc)?;
         snapshot(
             alloc,
@@ -109,7 +106,7 @@ impl<K: Kernel> Process<K> {
             end.trays.as_slice(),
             &end.book,
             &end.dials,
-            numbers.as_slice(),
+            numbers,
         )
     }
 }

@@ -14,7 +14,7 @@ use address_space::Kernel;
 use chunk_tags::NoMemory;
 use malloc_calls::Reply;
 use std::alloc::Global;
-use trace_text::Line;
+use trace_text::{Line, Lines};
 
 /// Runs a line and notes its reply.
 fn replay_line<K: Kernel>(
@@ -47,7 +47,7 @@ fn replay_line<K: Kernel>(
 pub fn replay<K: Kernel>(
     alloc: Global,
     process: &mut Process<K>,
-    lines: &[Line],
+    lines: &Lines,
     sheet: &mut Sheet<'_>,
 ) -> Result<(), NoMemory>
     requires holds { HoldsWithin [] (world_of process.old) }
@@ -65,8 +65,9 @@ pub fn replay<K: Kernel>(
         (IsRunLeft K.port lines.now process.old sheet.old process.new) }
 {
     process.laws();
-    for line in lines {
-        replay_line(alloc, process, line, sheet)?;
+    for index in 0..lines.len() {
+        let line = lines.get(index);
+        replay_line(alloc, process, &line, sheet)?;
         process.laws();
     }
     Ok(())

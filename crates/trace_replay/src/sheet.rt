@@ -6,7 +6,7 @@ ghost use Rattle.record_lines.specs.Records.{record_text};
 ghost use Rattle.stats_text.specs.Totals.{HasTotals};
 ghost use Rattle.trace_text.specs.Spelling.{spelling_of, texts_of};
 ghost use Rattle.trace_text.specs.declared.trace.Line.{Line};
-ghost use Rattle.trace_replay.specs.Sheets.{IsTrace, HasNoted, Awaits, CanNote, NotesReply, LacksRoomFor, Spells, text_with};
+ghost use Rattle.trace_replay.specs.Sheets.{IsTrace, HasNoted, Awaits, CanNote, NotesReply, LacksRoomFor, Spells, notes_of, text_with};
 
 use crate::record::outcome;
 use chunk_tags::NoMemory;
@@ -89,19 +89,38 @@ impl<'a> Sheet<'a> {
         }
     }
 
+    /// What it has, where no more lines come.
+    pub fn notes(self) -> Notes
+        ensures { result ≡ notes_of self.entry }
+    {
+        match self {
+            Sheet::Report(records) => Notes::Report(records.text),
+            Sheet::Summary(counts) => Notes::Summary(counts),
+        }
+    }
+}
+
+/// What is written of all lines: a report's first line with the records, or the counts of a summary.
+#[derive(Drop)]
+pub enum Notes {
+    Report(Vec<u8>),
+    Summary(Counts),
+}
+
+impl Notes {
     /// The whole text, with what is shown at the end.
     pub fn finish(self, alloc: Global, shown: &Snapshot) -> Result<Vec<u8>, NoMemory>
         requires { HasTotals shown.now }
-        ensures { IfOk result (λ text. text.items ≡ text_with self.entry shown.now) }
+        ensures { IfOk result (λ text. text.items ≡ text_with self shown.now) }
     {
         match self {
-            Sheet::Report(records) => {
-                let mut text = records.text;
+            Notes::Report(records) => {
+                let mut text = records;
                 append_places(&mut text, shown)?;
                 append_stats(&mut text, shown)?;
                 Ok(text)
             }
-            Sheet::Summary(counts) => {
+            Notes::Summary(counts) => {
                 let mut text = Vec::new(alloc);
                 append_summary(&mut text, &counts, shown)?;
                 Ok(text)

@@ -1,6 +1,7 @@
 //! The text of a run: for what is asked, the bytes of the source where these are read, and the ports.
 
 ghost use Rattle.std.specs.Prelude.{◌≡◌, ◌≤◌, ℕ, List, Some, vec_len, IsOk, IfOk, IfErr, OnOk, MatchResult, Ok};
+ghost use Rattle.trace_text.specs.declared.trace.Line.{Line};
 ghost use Rattle.trace_text.specs.Grammar.{reading_of, threads};
 ghost use Rattle.trace_text.specs.Spelling.{Allows};
 ghost use Rattle.trace_replay.specs.Asked.{IsServable};
@@ -14,54 +15,60 @@ use crate::exit::Exit;
 use crate::process::Process;
 use crate::replay::replay;
 use crate::sheet::Sheet;
+use crate::threads::line_threads;
 use address_space::Kernel;
 use byte_edge::{Source, read_input};
 use chunk_tags::NoMemory;
 use command_words::{Asked, Generated};
 use std::alloc::Global;
 use trace_maker::generate;
-use trace_text::{Line, Trace, print_trace, read_trace};
+use trace_text::{Lines, Trace, print_trace, read_trace};
 
 /// The lines of the input, or its first fault.
-fn read_lines(alloc: Global, bytes: &[u8]) -> Result<Vec<Line>, Exit>
-    ensures exact { AnswersAs (λ read rules. read.items ≡ rules)
+fn read_lines(alloc: Global, bytes: &[u8]) -> Result<Lines, Exit>
+    ensures exact { AnswersAs (λ read rules. read ≡ rules)
         result (lines_of (reading_of bytes.now)) }
-    ensures spelled { IfOk result (λ read. IsTrace read.items bytes.now) }
+    ensures spelled { IfOk result (λ read. IsTrace read bytes.now) }
     ensures kind { IfErr result IsTextRefusal }
 {
     let trace = read_trace(alloc, bytes)?;
     Ok(trace.lines)
 }
 
-/// The text on a run of lines over the port of each thread. For a report `bytes` spell these lines.
+/// The text on a run of lines over the port of each thread. For a report `bytes` spell these lines. Lines and bytes are let
+/// go before what the text shows of the end is built.
 fn text_over<K: Kernel>(
     alloc: Global,
     asked: &Asked,
-    lines: &[Line],
-    bytes: &[u8],
+    lines: Lines,
+    bytes: Vec<u8>,
     kernels: Vec<K>,
 ) -> Result<Vec<u8>, NoMemory>
     requires ports { vec_len kernels ≡ threads }
     requires servable { IsServable asked.now }
-    requires allowed { AreLines lines.now }
-    requires spelled { Spells asked.now.summary bytes.now lines.now }
+    requires allowed { AreLines lines }
+    requires spelled { Spells asked.now.summary bytes.items lines }
     ensures told { AllTell K.port kernels.items → IfOk result (λ text.
-        text_over K.port asked.now.summary asked.now.tunables lines.now kernels.items
+        text_over K.port asked.now.summary asked.now.tunables lines kernels.items
         ≡ Ok text.items) }
     ensures tiled { AllTell K.port kernels.items →
-        OnOk result (GivesTiles K.port asked.now.tunables lines.now kernels.items) }
+        OnOk result (GivesTiles K.port asked.now.tunables lines kernels.items) }
 {
     let mut process = Process::new(alloc, kernels, &asked.tunables)?;
-    let mut sheet = Sheet::new(alloc, asked.summary, bytes)?;
-    replay(alloc, &mut process, lines, &mut sheet)?;
-    let shown = process.snapshot(alloc, lines)?;
-    sheet.finish(alloc, &shown)
+    let numbers = line_threads(alloc, &lines)?;
+    let mut sheet = Sheet::new(alloc, asked.summary, bytes.as_slice())?;
+    replay(alloc, &mut process, &lines, &mut sheet)?;
+    let notes = sheet.notes();
+    drop(lines);
+    drop(bytes);
+    let shown = process.snapshot(alloc, numbers.as_slice())?;
+    notes.finish(alloc, &shown)
 }
 
 /// The texts of a trace's lines, with which the records of a report begin; a summary has none.
 fn line_texts(alloc: Global, summary: bool, trace: &Trace) -> Result<Vec<u8>, NoMemory>
-    requires { Allows trace.now.version trace.now.lines.items }
-    ensures { IfOk result (λ texts. Spells summary texts.items trace.now.lines.items) }
+    requires { Allows trace.now.version trace.now.lines }
+    ensures { IfOk result (λ texts. Spells summary texts.items trace.now.lines) }
 {
     if summary {
         Ok(Vec::new(alloc))
@@ -87,34 +94,36 @@ fn text_of_made<K: Kernel>(
 {
     let trace = generate(alloc, made.seed, made.lines as u32)?;
     let texts = line_texts(alloc, asked.summary, &trace)?;
-    text_over(
-        alloc,
-        asked,
-        trace.lines.as_slice(),
-        texts.as_slice(),
-        kernels,
-    )
+    text_over(alloc, asked, trace.lines, texts, kernels)
+}
+
+/// Of a trace's bytes those that a run needs: all for a report, and none for a summary.
+fn bytes_for(alloc: Global, summary: bool, bytes: Vec<u8>) -> Vec<u8>
+    ensures { (lines : List Line) → IsTrace lines bytes.items → Spells summary result.items lines }
+{
+    if summary { Vec::new(alloc) } else { bytes }
 }
 
 /// The text for the bytes of a trace, which aren't too many, and the ports.
 fn text_of_bytes<K: Kernel>(
     alloc: Global,
     asked: &Asked,
-    bytes: &[u8],
+    bytes: Vec<u8>,
     kernels: Vec<K>,
 ) -> Result<Vec<u8>, Exit>
     requires ports { vec_len kernels ≡ threads }
     requires servable { IsServable asked.now }
     ensures told { AllTell K.port kernels.items → AnswersAs (λ text rules. text.items ≡ rules)
-        result (text_of K.port kernels.items (job_by asked.now bytes.now)) }
+        result (text_of K.port kernels.items (job_by asked.now bytes.items)) }
     ensures tiled { AllTell K.port kernels.items →
-        OnOk result (ShowsTiles K.port kernels.items (job_by asked.now bytes.now)) }
-    ensures job { MatchResult result (λ _. IsOk (job_by asked.now bytes.now))
-        (AnswersJob (job_by asked.now bytes.now)) }
+        OnOk result (ShowsTiles K.port kernels.items (job_by asked.now bytes.items)) }
+    ensures job { MatchResult result (λ _. IsOk (job_by asked.now bytes.items))
+        (AnswersJob (job_by asked.now bytes.items)) }
     ensures kind { IfErr result IsTextRefusal }
 {
-    let lines = read_lines(alloc, bytes)?;
-    Ok(text_over(alloc, asked, lines.as_slice(), bytes, kernels)?)
+    let lines = read_lines(alloc, bytes.as_slice())?;
+    let bytes = bytes_for(alloc, asked.summary, bytes);
+    Ok(text_over(alloc, asked, lines, bytes, kernels)?)
 }
 
 /// The text for the bytes of the source, and the ports.
@@ -143,7 +152,7 @@ fn text_of_source<S: Source, K: Kernel>(
     ensures served { IfErr result IsPastWords }
 {
     let bytes = read_input(alloc, source)?;
-    text_of_bytes(alloc, asked, bytes.as_slice(), kernels)
+    text_of_bytes(alloc, asked, bytes, kernels)
 }
 
 /// The text that a run writes: for what is asked, the bytes of the source where no trace is made, and the ports.

@@ -10,3 +10,5 @@ pub mod Spelled
 pub mod RoundTrip
 mod LineTexts
 mod FirstPlaces
+mod RowLines
+pub mod NextLines

@@ -165,6 +165,6 @@ reading_is bytes version lines e =
     let found = parts_are (slice_split (λ b. b == 10) bytes) version lines e in
     (found.0, sym (join_with_byte-slice_split 10 bytes) ∙ found.1)
 
-pub found_is : (bytes : List ℕ) (read : Result Trace TraceFault) → ReadsAs read (reading_of bytes) → IfOk read (λ t. Allows t.version t.lines.items × (bytes ≡ spelling t.version t.lines.items))
-found_is bytes (Ok t) e = reading_is bytes t.version t.lines.items e
+pub found_is : (bytes : List ℕ) (read : Result Trace TraceFault) → ReadsAs read (reading_of bytes) → IfOk read (λ t. Allows t.version t.lines × (bytes ≡ spelling t.version t.lines))
+found_is bytes (Ok t) e = reading_is bytes t.version t.lines e
 found_is bytes (Err fault) e = tt

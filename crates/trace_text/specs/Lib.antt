@@ -7,3 +7,4 @@ pub mod ReadsAs
 pub mod Marks
 pub mod Names
 pub mod Seen
+pub mod Rows

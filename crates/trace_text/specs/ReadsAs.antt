@@ -7,6 +7,6 @@ use Rattle.trace_text.specs.Grammar.{Reading, whole, faulty}
 
 -- the trace where nothing is faulty, or the first faulty line with its first fault; want of memory may come at any time
 abbrev pub ReadsAs : Result Trace TraceFault → Reading → Type 0
-ReadsAs (Ok t) r = r ≡ whole t.version t.lines.items
+ReadsAs (Ok t) r = r ≡ whole t.version t.lines
 ReadsAs (Err (Bad line why)) r = r ≡ faulty line why
 ReadsAs (Err NoMemory) r = Unit {0}

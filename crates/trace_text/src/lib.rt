@@ -6,6 +6,7 @@
 mod command;
 mod fault;
 mod fields;
+mod lines;
 mod marks;
 mod names;
 mod numbers;
@@ -16,6 +17,7 @@ mod trace;
 mod write;
 
 pub use fault::{BadWhy, TraceFault};
+pub use lines::Lines;
 pub use read::read_trace;
 pub use texts::Texts;
 pub use trace::{Call, Line, THREADS, Trace};

@@ -11,6 +11,7 @@ ghost use Rattle.trace_text.specs.Spelling.{spelling, Allows};
 use crate::command::{read_call, read_command, read_thread};
 use crate::fault::{BadWhy, TraceFault};
 use crate::fields::{Fields, are_filled, cut_line};
+use crate::lines::Lines;
 use crate::seen::Seen;
 use crate::trace::{Line, Trace};
 use std::alloc::Global;
@@ -28,6 +29,7 @@ fn read_fields(
     ensures exact { (before : List Line) → Knows seen.now before → number ≡ place_after before →
         result ≡ filled_line version before first.now second.now others.entry }
     ensures thread { IfOk result (λ line. line.thread < threads) }
+    ensures number { IfOk result (λ line. line.number ≡ number) }
 {
     let thread = read_thread(first)?;
     if seen.has_ended(thread) {
@@ -50,6 +52,7 @@ fn read_line(version: u8, text: &[u8], number: u64, seen: &Seen) -> Result<Line,
     ensures exact { (before : List Line) → Knows seen.now before → number ≡ place_after before →
         result ≡ line_of version before (fields_of text.now) }
     ensures thread { IfOk result (λ line. line.thread < threads) }
+    ensures number { IfOk result (λ line. line.number ≡ number) }
 {
     let mut fields = Fields::of(text);
     let first = fields.take()?;
@@ -64,7 +67,7 @@ fn read_line(version: u8, text: &[u8], number: u64, seen: &Seen) -> Result<Line,
 fn read_body(alloc: Global, version: u8, text: &[u8]) -> Result<Trace, TraceFault>
     ensures { ReadsAs result (lines_after version [] (slice_split (λ b. b == 10) text.now)) }
 {
-    let mut lines = Vec::new(alloc);
+    let mut lines = Lines::new(alloc);
     let mut seen = Seen::new(alloc)?;
     let mut rest = text;
     while !rest.is_empty() {
@@ -108,8 +111,8 @@ pub fn read_trace(alloc: Global, bytes: &[u8]) -> Result<Trace, TraceFault>
     ensures exact { ReadsAs result (reading_of bytes.now) }
 
     // What is read is allowed, and spelled so.
-    ensures found { IfOk result (λ t. Allows t.version t.lines.items ×
-        (bytes.now ≡ spelling t.version t.lines.items)) }
+    ensures found { IfOk result (λ t. Allows t.version t.lines ×
+        (bytes.now ≡ spelling t.version t.lines)) }
 {
     let Some((first, body)) = cut_line(bytes) else {
         return Err(TraceFault::Bad {

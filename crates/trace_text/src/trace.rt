@@ -1,5 +1,7 @@
 //! What a trace is: calls of the allocator, line by line.
 
+use crate::lines::Lines;
+
 /// A call of the allocator, as a line of a trace has it (this project's own). A name stands for a block of the line's
 /// thread, and is a number from 1 on: to 65,535 in a trace of version 1, to 4,294,967,295 in one of version 2. Sizes and
 /// alignments are in bytes.
@@ -42,5 +44,5 @@ pub struct Line {
 pub struct Trace {
     /// 1 or 2.
     pub version: u8,
-    pub lines: Vec<Line>,
+    pub lines: Lines,
 }

@@ -134,15 +134,15 @@ fn header_line(version: u8) -> &'static [u8]
 
 /// The one spelling of a trace: the header of its version, and a line for each line.
 pub fn print_trace(alloc: Global, t: &Trace) -> Result<Vec<u8>, NoMemory>
-    ensures spelled { IfOk result (λ text. text.items ≡ spelling t.now.version t.now.lines.items) }
+    ensures spelled { IfOk result (λ text. text.items ≡ spelling t.now.version t.now.lines) }
 
     // What is written is read again as that trace.
-    ensures again { IfOk result (λ text. Allows t.now.version t.now.lines.items →
-        reading_of text.items ≡ whole t.now.version t.now.lines.items) }
+    ensures again { IfOk result (λ text. Allows t.now.version t.now.lines →
+        reading_of text.items ≡ whole t.now.version t.now.lines) }
 {
     let mut text = Vec::from_slice(alloc, header_line(t.version))?;
-    for line in &t.lines {
-        append_line(&mut text, line)?;
+    for index in 0..t.lines.len() {
+        append_line(&mut text, &t.lines.get(index))?;
         text.push(b'\n')?;
     }
     Ok(text)

@@ -5,7 +5,7 @@ use Rattle.trace_maker.proofs.making.generate.Given as goal
 
 abbrev pub invariant-loop-done : goal.invariant-loop-done
 invariant-loop-done l = record {
-  count : length l.lines.items ≡ l.done;
-  held : Knows l.held.marks.items l.lines.items;
-  lines : more_lines l.lines.items l.maker (l.n - l.done) ≡ lines_made l.seed l.n;
+  count : length l.lines ≡ l.done;
+  held : Knows l.held.marks.items l.lines;
+  lines : more_lines l.lines l.maker (l.n - l.done) ≡ lines_made l.seed l.n;
 }

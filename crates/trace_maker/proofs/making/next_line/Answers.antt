@@ -4,8 +4,8 @@ use Rattle.trace_maker.specs.HeldMarks.{IsDrawn}
 use Rattle.trace_maker.proofs.Loop.{name_is, line_is, noted_is}
 use Rattle.trace_maker.proofs.making.next_line.Goals as goal
 
-pub returns : goal.returns
-returns c = λ before known place.
+pub returns-clause-made : goal.returns-clause-made
+returns-clause-made c = λ before known place.
     let thread = c.draw-thread.result in
     let name = c.draw-drawn.result + 1 in
     let drawn : IsDrawn thread name = record { known_thread = omega (arith, c.draw-thread.ensures.below); known_name = omega (arith, c.draw-drawn.ensures.below) } in

@@ -1,14 +1,13 @@
-use Rattle.std.proofs.Common.{refl, subst, ◌∙◌, ◌+◌, drop, get_or}
+use Rattle.std.proofs.Common.{refl, subst, ◌∙◌, ◌+◌, drop, arith}
 use Rattle.std.proofs.lemmas.List.{take_all}
-use Rattle.std.proofs.lemmas.Option.{slice_get-get_or}
 use Rattle.trace_replay.specs.Processes.{world_of}
 use Rattle.trace_replay.proofs.LinesAfter.{holds_next, may_run, fits_at}
 use Rattle.trace_replay.proofs.ReplayLoop.{SoFar, nothing_yet, awaits_next, can_note_next, goes_on, finished, tiles_first, tiles_next, tiles_all}
 use Rattle.trace_replay.proofs.Results.{on_err}
 use Rattle.trace_replay.proofs.replay.replay.Goals as goal
 
-pub loop-line-init : goal.loop-line-init
-loop-line-init g c = record {
+pub loop-index-init : goal.loop-index-init
+loop-index-init g c = record {
   awaits = c.requires.awaits;
   holds = c.requires.holds;
   settled = c.requires.settled;
@@ -18,51 +17,51 @@ loop-line-init g c = record {
 
 pub replay_line-requires-clause-room : goal.replay_line-requires-clause-room
 replay_line-requires-clause-room g c = λ k l.
-    can_note_next _ c.args.lines.now c.loop-line.line-index c.loop-line-test.true c.loop-line.invariant.awaits
+    can_note_next _ c.args.lines.now c.loop-index.index _ c.get-line.ensures c.loop-index.invariant.awaits
 
 pub replay_line-requires-clause-may : goal.replay_line-requires-clause-may
 replay_line-requires-clause-may g c = λ k l.
-    may_run _ _ _ _ (fits_at _ c.args.lines.now c.loop-line.line-index _ c.requires.allowed.allowed c.loop-line-test.true) c.loop-line.invariant.holds
+    may_run _ _ _ _ (fits_at _ c.args.lines.now c.loop-index.index _ c.requires.allowed.allowed c.get-line.ensures) c.loop-index.invariant.holds
 
-pub loop-line-preserved : goal.loop-line-preserved
-loop-line-preserved g c =
-    let rest = drop (c.loop-line.line-index + 1) c.args.lines.now in
-    let noted = c.in_ok-replay_line.ensures.noted rest (awaits_next _ _ c.loop-line.line-index _ c.loop-line-test.true c.loop-line.invariant.awaits) in
+pub loop-index-preserved : goal.loop-index-preserved
+loop-index-preserved g c =
+    let rest = drop (c.loop-index.index + 1) c.args.lines.now in
+    let noted = c.in_ok-replay_line.ensures.noted rest (awaits_next _ _ c.loop-index.index _ c.get-line.ensures c.loop-index.invariant.awaits) in
     record {
       awaits = noted.awaits;
-      holds = holds_next _ c.loop-line.line-index _ _ _ _ c.loop-line-test.true c.loop-line.invariant.holds c.in_ok-replay_line.ensures.blocks;
+      holds = holds_next _ c.loop-index.index _ _ _ _ c.get-line.ensures c.loop-index.invariant.holds c.in_ok-replay_line.ensures.blocks;
       settled = c.in_ok-replay_line.ensures.settled;
-      tunables = c.replay_line.ensures.tunables ∙ c.loop-line.invariant.tunables;
+      tunables = c.replay_line.ensures.tunables ∙ c.loop-index.invariant.tunables;
       told = λ h.
-          let so_far = c.loop-line.invariant.told h in
-          let here = goes_on _ _ _ _ c.loop-line.line-index _ _ _ _ _ _ _ _ rest c.loop-line.invariant.tunables c.loop-line-test.true so_far.1 (c.in_ok-replay_line.ensures.told so_far.0) noted c.in_ok-replay_line.ensures.blocks in (
+          let so_far = c.loop-index.invariant.told h in
+          let here = goes_on _ _ _ _ c.loop-index.index _ _ _ _ _ _ _ _ rest c.loop-index.invariant.tunables c.get-line.ensures so_far.1 (c.in_ok-replay_line.ensures.told so_far.0) noted c.in_ok-replay_line.ensures.blocks in (
             c.in_ok-replay_line.ensures.telling so_far.0,
             here,
-            tiles_next _ _ _ c.loop-line.line-index _ _ _ _ so_far.2 here c.laws-in-loop-line.ensures,
+            tiles_next _ _ _ c.loop-index.index _ _ _ _ so_far.2 here c.laws-in-loop-index.ensures,
           );
     }
 
 pub returns-clause-told : goal.returns-clause-told
 returns-clause-told g c h =
     finished _ _ _ _ _ _ _
-    (subst (λ front. SoFar g.K.Kernel.port c.args.process.now.t front (world_of c.args.process.now) (world_of c.loop-line.process) c.args.sheet.now c.loop-line.sheet)
-    (take_all c.loop-line.line-index c.args.lines.now c.loop-line-test.false) (c.loop-line.invariant.told h).1)
+    (subst (λ front. SoFar g.K.Kernel.port c.args.process.now.t front (world_of c.args.process.now) (world_of c.loop-index.process) c.args.sheet.now c.loop-index.sheet)
+    (take_all c.loop-index.index c.args.lines.now (omega arith)) (c.loop-index.invariant.told h).1)
 
 pub returns-clause-tiled : goal.returns-clause-tiled
-returns-clause-tiled g c h = tiles_all _ _ c.args.lines.now c.loop-line.line-index _ c.loop-line-test.false (c.loop-line.invariant.told h).2
+returns-clause-tiled g c h = tiles_all _ _ c.args.lines.now c.loop-index.index _ (omega arith) (c.loop-index.invariant.told h).2
 
 pub returns-in_err-replay_line-clause-left : goal.returns-in_err-replay_line-clause-left
 returns-in_err-replay_line-clause-left g c =
-    let i = c.loop-line.line-index in
+    let i = c.loop-index.index in
     let rest = drop (i + 1) c.args.lines.now in
     on_err c.from_residual.result (record {
       count = i;
-      line = get_or c.args.lines.now i _;
-      at = c.loop-line.process;
-      noted = c.loop-line.sheet;
-      next = slice_get-get_or c.args.lines.now i _ c.loop-line-test.true;
-      ran = λ h. finished _ _ _ _ _ _ _ (c.loop-line.invariant.told h).1;
-      settled = c.loop-line.invariant.settled;
-      tunables = c.loop-line.invariant.tunables;
-      short = c.in_err-replay_line.ensures.left rest (awaits_next _ _ i _ c.loop-line-test.true c.loop-line.invariant.awaits);
+      line = c.get-line.result;
+      at = c.loop-index.process;
+      noted = c.loop-index.sheet;
+      next = c.get-line.ensures;
+      ran = λ h. finished _ _ _ _ _ _ _ (c.loop-index.invariant.told h).1;
+      settled = c.loop-index.invariant.settled;
+      tunables = c.loop-index.invariant.tunables;
+      short = c.in_err-replay_line.ensures.left rest (awaits_next _ _ i _ c.get-line.ensures c.loop-index.invariant.awaits);
     })

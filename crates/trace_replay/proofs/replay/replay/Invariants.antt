@@ -5,14 +5,14 @@ use Rattle.trace_replay.specs.Processes.{world_of, Tells, IsBetweenCalls}
 use Rattle.trace_replay.proofs.ReplayLoop.{SoFar, TilesSoFar}
 use Rattle.trace_replay.proofs.replay.replay.Given as goal
 
-abbrev pub invariant-loop-line : goal.invariant-loop-line
-invariant-loop-line g l = record {
-  awaits : Awaits l.sheet (drop l.line-index l.lines);
-  holds : HoldsWithin (take l.line-index l.lines) (world_of l.process);
+abbrev pub invariant-loop-index : goal.invariant-loop-index
+invariant-loop-index g l = record {
+  awaits : Awaits l.sheet (drop l.index l.lines);
+  holds : HoldsWithin (take l.index l.lines) (world_of l.process);
   settled : IsBetweenCalls l.process;
   tunables : l.process.t ≡ l.initial.process.t;
   told : Tells g.K.Kernel.port l.initial.process
       → Tells g.K.Kernel.port l.process
-      × SoFar g.K.Kernel.port l.initial.process.t (take l.line-index l.lines) (world_of l.initial.process) (world_of l.process) l.initial.sheet l.sheet
-      × TilesSoFar g.K.Kernel.port l.initial.process.t l.lines l.line-index (world_of l.initial.process);
+      × SoFar g.K.Kernel.port l.initial.process.t (take l.index l.lines) (world_of l.initial.process) (world_of l.process) l.initial.sheet l.sheet
+      × TilesSoFar g.K.Kernel.port l.initial.process.t l.lines l.index (world_of l.initial.process);
 }
