@@ -2,5 +2,6 @@ pub mod Opens
 pub mod Mapped
 pub mod Recording
 pub mod Replays
+mod Kept
 mod Rounds
 pub mod Tellings

@@ -5,6 +5,7 @@ pub use Rattle.search_steps.specs.Ledgers
 pub use Rattle.arena_growth.specs.Asking
 pub use Rattle.arena_growth.specs.FirstHeap
 pub mod Journal
+pub mod Kept
 pub mod Tellings
 pub mod Replay
 pub mod Arenas

@@ -1,6 +1,6 @@
 //! An arena with its journal.
 
-ghost use Rattle.std.specs.Prelude.{◌≡◌, ℕ, ◌^◌, ◌<◌, ◌≤◌, [], ◌∷◌, ◌++◌, IsTrue, IsNone, IsSome, IfOk, IfSome, IfErr, OnOk, OnErr, None, Some, vec_len, vec_capacity};
+ghost use Rattle.std.specs.Prelude.{◌≡◌, ℕ, ◌^◌, ◌<◌, ◌≤◌, [], ◌∷◌, ◌++◌, IsTrue, IsNone, IsSome, IfOk, IfSome, IfErr, OnOk, OnErr, None, Some, length};
 ghost use Rattle.chunk_tags.specs.Sizes.{IsRequestSize};
 ghost use Rattle.chunk_tags.specs.Tunables.{IsTuned};
 ghost use Rattle.address_space.specs.Ports.{Rose};
@@ -19,7 +19,7 @@ ghost use Rattle.arena_core.specs.Replay.{IsReplay, chunk_at, ended_found};
 ghost use Rattle.arena_core.specs.Arenas.{Takes, FitsRequest, FailsShort, GivesShort, Records, held, take_of, recorded};
 ghost use Rattle.arena_core.specs.declared.journal.Act.TheVariants as acts;
 
-use crate::entry::{Entry, append};
+use crate::entries::Journal;
 use crate::journal::{Act, Ended, Who};
 use crate::searching::search;
 use crate::take::{GiveShort, Take};
@@ -27,7 +27,7 @@ use address_space::{Kernel, Space};
 use arena_growth::{Found, open_ground};
 use arena_rules::{Moves, Said};
 use chunk_tags::{Block, Chunk, NoMemory, Size, Tunables};
-use consolidate_trim::{give, make_room};
+use consolidate_trim::give;
 use fast_bins::FastPort;
 use mapped_chunks::Dials;
 use std::alloc::Global;
@@ -37,7 +37,7 @@ use thread_cache::Cache;
 #[derive(Drop)]
 pub struct Arena<M: Moves> {
     pub ground: M,
-    pub journal: Vec<Entry>,
+    pub journal: Journal,
 }
 
 /// How a hold ends that found this.
@@ -117,7 +117,7 @@ impl<M: Moves> Arena<M> {
 
         // The journal stays as it was only where it had no room for the entry.
         ensures full { OnErr result (self.new.journal.items ≡ self.old.journal.items
-            → vec_capacity self.old.journal ≤ vec_len self.old.journal) }
+            → self.old.journal.capacity ≤ length self.old.journal.items) }
 
         // Nothing is taken only where the system refused an ask.
         ensures refused { IfOk result (λ take. take ≡ Take.Refused
@@ -130,22 +130,17 @@ impl<M: Moves> Arena<M> {
     {
         // Another arena has a top, so it was opened: no journal has a search before that.
         self.ground.top_law();
-        make_room(&mut self.journal)?;
-        let mut said = Vec::new(alloc);
+        let mut said = self.journal.begin(alloc)?;
         match search(&mut self.ground, nb, cache, port, space, t, &mut said) {
             Ok(found) => {
                 let found = &found;
-                append(
-                    &mut self.journal,
-                    who,
-                    Act::Take { nb },
-                    said,
-                    ended_by(found),
-                );
+                self.journal
+                    .append(who, Act::Take { nb }, said, ended_by(found));
                 Ok(take_found(self.ground.number(), found))
             }
             Err(NoMemory) => {
-                append(&mut self.journal, who, Act::Take { nb }, said, Ended::Short);
+                self.journal
+                    .append(who, Act::Take { nb }, said, Ended::Short);
                 Err(NoMemory)
             }
         }
@@ -181,17 +176,16 @@ impl<M: Moves> Arena<M> {
 
         // The block comes back only where the journal had no room for the entry.
         ensures full { IfErr result (λ e. IsSome e.back
-            → vec_capacity self.old.journal ≤ vec_len self.old.journal) }
+            → self.old.journal.capacity ≤ length self.old.journal.items) }
 
         // The arena is still what the replay of its journal gives.
         ensures replay { (start : Plain)
             → IsReplay t.now start self.old.journal.items (M.plain self.old.ground)
             → IsReplay t.now start self.new.journal.items (M.plain self.new.ground) }
     {
-        if make_room(&mut self.journal).is_err() {
+        let Ok(mut said) = self.journal.begin(alloc) else {
             return Err(GiveShort { back: Some(b) });
-        }
-        let mut said = Vec::new(alloc);
+        };
         let Block {
             addr,
             size,
@@ -208,11 +202,11 @@ impl<M: Moves> Arena<M> {
             &mut said,
         ) {
             Ok(()) => {
-                append(&mut self.journal, who, act, said, Ended::Done);
+                self.journal.append(who, act, said, Ended::Done);
                 Ok(())
             }
             Err(NoMemory) => {
-                append(&mut self.journal, who, act, said, Ended::Short);
+                self.journal.append(who, act, said, Ended::Short);
                 Err(GiveShort { back: None })
             }
         }
@@ -246,12 +240,11 @@ impl<M: Moves + Drop> Arena<M> {
         ensures replay { IfOk result (λ o. IfSome o (λ a.
             IsReplay t.now (closed_arena t.now number) a.journal.items (M.plain a.ground))) }
     {
-        let mut journal = Vec::new(alloc);
-        make_room(&mut journal)?;
-        let mut said = Vec::new(alloc);
+        let mut journal = Journal::new(alloc);
+        let mut said = journal.begin(alloc)?;
         match open_ground(alloc, number, bytes, space, t, &mut said)? {
             Some(ground) => {
-                append(&mut journal, who, Act::Open { bytes }, said, Ended::Done);
+                journal.append(who, Act::Open { bytes }, said, Ended::Done);
                 Ok(Some(Arena { ground, journal }))
             }
             None => Ok(None),

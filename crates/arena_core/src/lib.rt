@@ -5,16 +5,21 @@
 #![tactic(auto)]
 
 mod arena;
+mod brief;
+mod entries;
 mod entry;
 #[cfg(test)]
 mod examples;
 mod journal;
+mod reading;
 mod searching;
 mod take;
 
 pub use arena::{Arena, ended_by};
-pub use entry::{Entry, append};
+pub use entries::Journal;
+pub use entry::Entry;
 pub use journal::{Act, Ended, Who};
+pub use reading::Entries;
 pub use searching::search;
 pub use take::{GiveShort, Take};
 

@@ -50,7 +50,10 @@ fn heap_0_is_asked_for_twice_at_most(rt: HostRuntime) -> Result<(), Fail> {
         let who = Who { thread: 1, line: 2 };
         let opened: Option<Arena<Ground>> = Arena::open(alloc, who, 1, bytes, &mut space, &t)?;
         let (system, said) = match opened {
-            Some(arena) => (arena.ground.system(), arena.journal[0].said.len()),
+            Some(arena) => {
+                let first = arena.journal.entries().next(alloc)?.ok_or("an entry")?;
+                (arena.ground.system(), first.said.len())
+            }
             None => (0, 0),
         };
         assert_eq!(rt; system, len, "for {bytes} bytes with a pad of {pad}");

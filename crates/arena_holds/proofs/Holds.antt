@@ -36,7 +36,7 @@ use Rattle.arena_core.specs.declared.journal.Who.{Who}
 use Rattle.arena_core.specs.declared.take.GiveShort.{GiveShort}
 use Rattle.realloc_align.specs.Calls.{ResizesBlock, FailsResize}
 use Rattle.realloc_align.specs.declared.to_size.Resized.{Resized}
-use Rattle.arena_holds.specs.Places.{KeptArena, PlaceWays, PlaceLaws, IsLent, IsServed, Carries, standing, Hands, weight_of, in_cache, as_chunk_of, as_mapped, as_mapped_bytes, as_mapped_byte, given_byte, Covers, new_arena}
+use Rattle.arena_holds.specs.Places.{both_of, KeptArena, PlaceWays, PlaceLaws, IsLent, IsServed, Carries, standing, Hands, weight_of, in_cache, as_chunk_of, as_mapped, as_mapped_bytes, as_mapped_byte, given_byte, Covers, new_arena}
 use Rattle.arena_holds.specs.Holding.{SearchesArena}
 use Rattle.arena_holds.specs.Returning.{IsReturn, IsUnlocked, IsAccounted, IsNoted}
 use Rattle.arena_holds.proofs.CachedBlocks.{in_lists-nothing}
@@ -83,6 +83,12 @@ pub backed : {P H D K : Type 0} {ways : PlaceWays P H D} {fast : Fast H} {dials 
     (b : Block) → b.arena ≡ Some a → IsLent ways fast dials p a port k → IsServed ways t (λ weigh. weigh b) (standing p space) →
     IsBacked fast k.arena port (one_chunk (chunk_at b.addr b.size))
 backed {a = a} b arena is s = record { sound = is.sound; used = λ e. omega (arith, is.backed (λ weigh. weigh b) s.served e, chunk_is a e b arena) }
+
+-- the same beside other blocks
+pub backed_beside : {P H D K : Type 0} {ways : PlaceWays P H D} {fast : Fast H} {dials : Dialled H} {p : P} {a : ℕ} {port : H} {k : KeptArena} {t : Tunables} {space : Space K}
+    (b : Block) (others : Hands) → b.arena ≡ Some a → IsLent ways fast dials p a port k → IsServed ways t (both_of (λ weigh. weigh b) others) (standing p space) →
+    IsBacked fast k.arena port (one_chunk (chunk_at b.addr b.size))
+backed_beside {a = a} b others arena is s = record { sound = is.sound; used = λ e. omega (arith, is.backed (both_of (λ weigh. weigh b) others) s.served e, chunk_is a e b arena) }
 
 pub allows : {P H D K : Type 0} {ways : PlaceWays P H D} {fast : Fast H} {dials : Dialled H} {p : P} {a : ℕ} {port : H} {k : KeptArena} {t : Tunables} {hands : Hands} {space : Space K} →
     IsLent ways fast dials p a port k → IsServed ways t hands (standing p space) → AllowsMaps dials port space

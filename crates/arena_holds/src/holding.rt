@@ -1,6 +1,6 @@
 //! Holds of arenas within a call, each from its lock to its unlock.
 
-ghost use Rattle.std.specs.Prelude.{◌≡◌, ℕ, ◌≤◌, [], false, Some, IfOk, IfErr, OnErr, vec_len, vec_capacity};
+ghost use Rattle.std.specs.Prelude.{◌≡◌, ℕ, ◌≤◌, [], false, Some, IfOk, IfErr, OnErr, length};
 ghost use Rattle.chunk_tags.specs.Sizes.{IsRequestSize, IsChunkSize};
 ghost use Rattle.chunk_tags.specs.Tunables.{IsTuned};
 ghost use Rattle.thread_cache.specs.Caches.{CacheValue, structure_of};
@@ -72,7 +72,7 @@ fn search_arena<M: Moves, K: Kernel, P: FastPort + Dials>(
         (held (M.plain a.old.ground) port.old cache.old space.old a.old.journal.items)
         no_chunk (held (M.plain a.new.ground) port.new cache.new space.new a.new.journal.items)) }
     ensures full { OnErr result (a.new.journal.items ≡ a.old.journal.items
-        → vec_capacity a.old.journal ≤ vec_len a.old.journal) }
+        → a.old.journal.capacity ≤ length a.old.journal.items) }
     ensures replay { (start : Plain)
         → IsReplay t.now start a.old.journal.items (M.plain a.old.ground)
         → IsReplay t.now start a.new.journal.items (M.plain a.new.ground) }
@@ -118,8 +118,8 @@ pub fn search_lent<P: Places, K: Kernel>(
     ensures left { (places : P) → (a : ℕ) → IsLentTo P.ways t.now (in_cache cache.old)
         (standing places space.old) a hold (kept_of P.Ground.plain arena) p.old → OnErr result
         (SearchesShort (setting P.ways (means P.Hold.fast P.Hold.dials K.port) P.Dial.dials) t.now
-        who.now a act.now cache.old (standing places space.old) (vec_len arena.journal)
-        (vec_capacity arena.journal) (standing p.new space.new)) }
+        who.now a act.now cache.old (standing places space.old) (length arena.journal.items)
+        arena.journal.capacity (standing p.new space.new)) }
     ensures structure { structure_of cache.new ≡ structure_of cache.old }
 {
     cache.laws();

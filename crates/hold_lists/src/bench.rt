@@ -12,7 +12,7 @@ ghost use Rattle.hold_lists.specs.Kept.{IsKept, chunks_of};
 ghost use Rattle.hold_lists.specs.Ports.{port_dials};
 
 use address_space::{Budget, MAP_LIMIT, Space, Windows};
-use arena_core::{Arena, Take, Who};
+use arena_core::{Arena, Journal, Take, Who};
 use arena_ground::Ground;
 use chunk_tags::{Block, NoMemory, Size, Tunables, cache_index, fast_index, request_size};
 use fast_bins::{FastPort, PlainFast};
@@ -107,7 +107,7 @@ impl Bench {
         Ok(Bench {
             arena: Arena {
                 ground,
-                journal: Vec::new(alloc),
+                journal: Journal::new(alloc),
             },
             port: Both {
                 bins: PlainFast::new(alloc),

@@ -15,7 +15,7 @@ ghost use Rattle.std.specs.Prelude.{OnOk};
 ghost use Rattle.hold_lists.specs.Kept.{IsKept};
 
 use address_space::Budget;
-use arena_core::{Arena, Entry};
+use arena_core::{Arena, Journal};
 use arena_ground::Ground;
 use bench::{Bench, Halt};
 use chunk_tags::{Mode, NoMemory, Tile, TileKind, Tunables};
@@ -90,10 +90,13 @@ fn short(_e: NoMemory) -> io::Error {
 }
 
 /// Prints all holds.
-fn print_holds<R: Print>(rt: &R, alloc: Global, journal: &[Entry]) -> io::Result<()> {
-    for e in journal {
-        let text = texts::entry_text(alloc, e)?;
-        println!(rt; "{text}")?;
+fn print_holds<R: Print>(rt: &R, alloc: Global, journal: &Journal) -> io::Result<()> {
+    let mut entries = journal.entries();
+    for _ in 0..journal.len() {
+        if let Some(entry) = entries.next(alloc).map_err(short)? {
+            let text = texts::entry_text(alloc, &entry)?;
+            println!(rt; "{text}")?;
+        }
     }
     Ok(())
 }
@@ -147,7 +150,7 @@ fn run<R: Print>(rt: &R, alloc: Global, lines: &[String]) -> io::Result<()> {
         space: _,
         blocks: _,
     } = bench;
-    print_holds(rt, alloc, journal.as_slice())?;
+    print_holds(rt, alloc, &journal)?;
     println!(rt; "system {} max {}", ground.system(), ground.most())?;
     print_tiles(rt, ground.tiles(alloc).map_err(short)?.as_slice())?;
     print_bins(rt, alloc, &ground)?;

@@ -1,6 +1,6 @@
 //! A block whose user address is a multiple is taken from an arena.
 
-ghost use Rattle.std.specs.Prelude.{◌≡◌, ◌+◌, ◌-◌, ◌^◌, ◌<◌, ◌≤◌, [], IfOk, IfErr, vec_len, vec_capacity};
+ghost use Rattle.std.specs.Prelude.{◌≡◌, ◌+◌, ◌-◌, ◌^◌, ◌<◌, ◌≤◌, [], IfOk, IfErr, length};
 ghost use Rattle.chunk_tags.specs.Sizes.{IsRequestSize};
 ghost use Rattle.address_space.specs.Ports.{Rose};
 ghost use Rattle.address_space.specs.Spaces.{space_refusals};
@@ -16,11 +16,10 @@ ghost use Rattle.realloc_align.specs.Calls.{AlignsBlock, FailsAlign, FitsTake, a
 
 use crate::aligning::{align_in_arena, lead_of};
 use address_space::{Kernel, Space};
-use arena_core::{Act, Arena, Ended, GiveShort, Take, Who, append};
+use arena_core::{Act, Arena, Ended, GiveShort, Take, Who};
 use arena_growth::Found;
 use arena_rules::Moves;
 use chunk_tags::{Addr, Block, Chunk, NoMemory, Size, Tunables};
-use consolidate_trim::make_room;
 use fast_bins::FastPort;
 use mapped_chunks::Dials;
 use std::alloc::Global;
@@ -119,7 +118,7 @@ pub fn aligned<M: Moves, K: Kernel, P: FastPort + Dials>(
 
     // The journal stays as it was only where it had no room for the entry.
     ensures full { IfErr result (λ _. a.new.journal.items ≡ a.old.journal.items
-        → vec_capacity a.old.journal ≤ vec_len a.old.journal) }
+        → a.old.journal.capacity ≤ length a.old.journal.items) }
 
     // Nothing is taken only where the system refused an ask.
     ensures refused { IfOk result (λ take. take ≡ Take.Refused
@@ -131,26 +130,20 @@ pub fn aligned<M: Moves, K: Kernel, P: FastPort + Dials>(
         → IsReplay t.now start a.new.journal.items (M.plain a.new.ground) }
 {
     a.ground.top_law();
-    if make_room(&mut a.journal).is_err() {
+    let Ok(mut said) = a.journal.begin(alloc) else {
         return Err(GiveShort { back: None });
-    }
-    let mut said = Vec::new(alloc);
+    };
     let number = a.ground.number();
     let act = Act::Align { align, nb };
     match align_in_arena(&mut a.ground, align, nb, cache, port, space, t, &mut said) {
         Ok(found) => {
             let found = &found;
-            append(
-                &mut a.journal,
-                who,
-                act,
-                said,
-                aligned_end(align, nb, found),
-            );
+            a.journal
+                .append(who, act, said, aligned_end(align, nb, found));
             Ok(take_aligned(align, nb, number, found))
         }
         Err(NoMemory) => {
-            append(&mut a.journal, who, act, said, Ended::Short);
+            a.journal.append(who, act, said, Ended::Short);
             Err(GiveShort { back: None })
         }
     }

@@ -1,6 +1,6 @@
 //! A block of an arena gets another size.
 
-ghost use Rattle.std.specs.Prelude.{◌≡◌, ◌≤◌, [], IfOk, IfErr, vec_len, vec_capacity};
+ghost use Rattle.std.specs.Prelude.{◌≡◌, ◌≤◌, [], IfOk, IfErr, length};
 ghost use Rattle.chunk_tags.specs.Sizes.{IsRequestSize};
 ghost use Rattle.address_space.specs.Ports.{Rose};
 ghost use Rattle.address_space.specs.Spaces.{space_refusals};
@@ -15,11 +15,10 @@ ghost use Rattle.realloc_align.specs.Calls.{ResizesBlock, FailsResize, FitsResiz
 
 use crate::resizing::{Stranded, resize_in};
 use address_space::{Kernel, Space};
-use arena_core::{Act, Arena, Ended, GiveShort, Who, append, ended_by};
+use arena_core::{Act, Arena, Ended, GiveShort, Who, ended_by};
 use arena_growth::Found;
 use arena_rules::Moves;
 use chunk_tags::{Block, Chunk, Size, Tunables};
-use consolidate_trim::make_room;
 use fast_bins::FastPort;
 use mapped_chunks::Dials;
 use std::alloc::Global;
@@ -111,7 +110,7 @@ pub fn resize<M: Moves, K: Kernel, P: FastPort + Dials>(
 
     // The journal stays as it was only where it had no room for the entry.
     ensures full { IfErr result (λ _. a.new.journal.items ≡ a.old.journal.items
-        → vec_capacity a.old.journal ≤ vec_len a.old.journal) }
+        → a.old.journal.capacity ≤ length a.old.journal.items) }
 
     // It is refused only where the system refused an ask.
     ensures refused { IfOk result (λ r. r ≡ Resized.Refused b
@@ -122,10 +121,9 @@ pub fn resize<M: Moves, K: Kernel, P: FastPort + Dials>(
         → IsReplay t.now start a.old.journal.items (M.plain a.old.ground)
         → IsReplay t.now start a.new.journal.items (M.plain a.new.ground) }
 {
-    if make_room(&mut a.journal).is_err() {
+    let Ok(mut said) = a.journal.begin(alloc) else {
         return Err(GiveShort { back: Some(b) });
-    }
-    let mut said = Vec::new(alloc);
+    };
     let number = a.ground.number();
     let Block { addr, size, .. } = b;
     let act = Act::Resize { addr, size, nb };
@@ -133,11 +131,11 @@ pub fn resize<M: Moves, K: Kernel, P: FastPort + Dials>(
     match resize_in(&mut a.ground, c, nb, cache, port, space, t, &mut said) {
         Ok(found) => {
             let found = &found;
-            append(&mut a.journal, who, act, said, ended_by(found));
+            a.journal.append(who, act, said, ended_by(found));
             Ok(resize_to(number, b, found))
         }
         Err(Stranded { found }) => {
-            append(&mut a.journal, who, act, said, Ended::Short);
+            a.journal.append(who, act, said, Ended::Short);
             Err(GiveShort {
                 back: Some(block_found(number, b, &found)),
             })

@@ -12,7 +12,7 @@ use crate::end::{SerialEnd, split_slots};
 use crate::slot::Slot;
 use crate::trays::Trays;
 use arena_choice::{Book, Choice};
-use arena_core::{Arena, Entry};
+use arena_core::{Arena, Journal};
 use arena_ground::Ground;
 use arena_holds::{Empty, Full, Places};
 use arena_rules::Moves;
@@ -83,7 +83,7 @@ impl Serial {
         let main = Slot {
             arena: Arena {
                 ground: first_ground(alloc)?,
-                journal: Vec::new(alloc),
+                journal: Journal::new(alloc),
             },
             bins: PlainFast::new(alloc),
         };
@@ -126,12 +126,12 @@ impl Serial {
     }
 
     /// The journal of an arena that is there.
-    pub fn journal(&self, a: u8) -> &[Entry]
+    pub fn journal(&self, a: u8) -> &Journal
         requires { IsTrue (is_there self.now a) }
-        ensures { option_map (λ s. s.kept.journal) (slot_in self.now.slots a) ≡ Some result.now }
+        ensures { option_map (λ s. s.kept.journal) (slot_in self.now.slots a) ≡ Some result.now.items }
     {
         let slot = &self.arenas[usize::from(a)];
-        slot.as_ref().unwrap().arena.journal.as_slice()
+        &slot.as_ref().unwrap().arena.journal
     }
 
     /// What it has at the end.

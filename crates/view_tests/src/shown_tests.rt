@@ -7,7 +7,7 @@ ghost use Rattle.block_names.specs.Blocks.{IsHeld};
 
 use address_space::{Always, HEAPS_START, MAP_START, Space, Windows};
 use arena_choice::{Book, Choice};
-use arena_core::Arena;
+use arena_core::{Arena, Journal};
 use arena_ground::Ground;
 use arena_rules::Moves;
 use chunk_tags::{Addr, Block, Mode, NoMemory, Size, Tunables};
@@ -149,7 +149,7 @@ fn threads(alloc: Global, named: Option<Block>) -> Result<Vec<Thread<Always>>, N
 fn arena(alloc: Global, ground: Ground) -> Arena<Ground> {
     Arena {
         ground,
-        journal: Vec::new(alloc),
+        journal: Journal::new(alloc),
     }
 }
 

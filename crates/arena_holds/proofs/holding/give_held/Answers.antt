@@ -3,7 +3,7 @@ use Rattle.std.specs.Prelude.{option_map}
 use Rattle.consolidate_trim.specs.Outside.{means}
 use Rattle.arena_core.specs.Arenas.{held}
 use Rattle.arena_holds.specs.Places.{setting, kept_of, both_of}
-use Rattle.arena_holds.proofs.Holds.{left_given, is_return}
+use Rattle.arena_holds.proofs.Holds.{backed, left_given, is_return}
 use Rattle.arena_holds.proofs.Taken.{gives_held, gives_short}
 use Rattle.arena_holds.proofs.holding.give_held.Goals as goal
 
@@ -14,6 +14,13 @@ lock-hold-requires g c = record {
       laws.known c.args.p.now c.args.b (λ _. 0) c.args.a
       (laws.same _ c.args.p.now (λ weigh. weigh c.args.b) (both_of (λ weigh. weigh c.args.b) (λ _. 0)) (λ w. omega arith) c.requires.served.served) c.requires.arena;
 }
+
+pub give-gave-requires-clause-backed : goal.give-gave-requires-clause-backed
+give-gave-requires-clause-backed g c κs within =
+    let k = kept_of g.P.Ground.Moves.plain c.unwrap-arena.result in
+    let e : c.lock-hold.result.1 ≡ Some c.unwrap-arena.result = cc in
+    let lent = subst (λ o. g.P.Places.ways.lent c.args.p.now c.args.a c.lock-hold.result.0 (option_map (kept_of g.P.Ground.Moves.plain) o) c.lock-hold.new.self) e c.lock-hold.ensures.lent in
+    backed c.args.b c.requires.arena (g.met.P.Places.laws.lends c.args.p.now c.lock-hold.new.self c.args.a c.lock-hold.result.0 k lent) c.requires.served
 
 pub returns-in-Ok-clause-gives : goal.returns-in-Ok-clause-gives
 returns-in-Ok-clause-gives g c = λ cache.

@@ -1,15 +1,30 @@
-use Rattle.std.proofs.Common.{◌≡◌, Some, length, subst, arith}
+use Rattle.std.proofs.Common.{◌≡◌, refl, Some, length, subst, arith}
 use Rattle.std.specs.Prelude.{option_map}
 use Rattle.consolidate_trim.specs.Outside.{means}
 use Rattle.arena_core.specs.Arenas.{held}
 use Rattle.arena_holds.specs.Places.{setting, kept_of, in_cache}
-use Rattle.arena_holds.proofs.Holds.{left_resized, is_return}
+use Rattle.arena_holds.proofs.Holds.{ready, backed_beside, left_resized, is_return}
 use Rattle.arena_holds.proofs.Taken.{resizes_held, resizes_short, structure_resized, structure_unresized}
 use Rattle.arena_holds.proofs.RunningShort.{short_resize}
 use Rattle.arena_holds.proofs.holding.resize_held.Goals as goal
 
 pub lock-hold-requires : goal.lock-hold-requires
 lock-hold-requires g c = record { there = g.met.P.Places.laws.known c.args.p.now c.args.b (in_cache c.args.cache.now) c.args.a c.requires.served.served c.requires.arena }
+
+pub resize-done-requires-clause-ready : goal.resize-done-requires-clause-ready
+resize-done-requires-clause-ready g c κs within =
+    let k = kept_of g.P.Ground.Moves.plain c.unwrap-arena.result in
+    let m = means g.P.Hold.FastPort.fast g.P.Hold.Dials.dials g.K.Kernel.port in
+    let e : c.lock-hold.result.1 ≡ Some c.unwrap-arena.result = cc in
+    let lent = subst (λ o. g.P.Places.ways.lent c.args.p.now c.args.a c.lock-hold.result.0 (option_map (kept_of g.P.Ground.Moves.plain) o) c.lock-hold.new.self) e c.lock-hold.ensures.lent in
+    ready m refl (g.met.P.Places.laws.lends c.args.p.now c.lock-hold.new.self c.args.a c.lock-hold.result.0 k lent) c.requires.served c.args.cache.now
+
+pub resize-done-requires-clause-backed : goal.resize-done-requires-clause-backed
+resize-done-requires-clause-backed g c κs within =
+    let k = kept_of g.P.Ground.Moves.plain c.unwrap-arena.result in
+    let e : c.lock-hold.result.1 ≡ Some c.unwrap-arena.result = cc in
+    let lent = subst (λ o. g.P.Places.ways.lent c.args.p.now c.args.a c.lock-hold.result.0 (option_map (kept_of g.P.Ground.Moves.plain) o) c.lock-hold.new.self) e c.lock-hold.ensures.lent in
+    backed_beside c.args.b (in_cache c.args.cache.now) c.requires.arena (g.met.P.Places.laws.lends c.args.p.now c.lock-hold.new.self c.args.a c.lock-hold.result.0 k lent) c.requires.served
 
 pub returns-in-Ok-clause-resizes : goal.returns-in-Ok-clause-resizes
 returns-in-Ok-clause-resizes g c =

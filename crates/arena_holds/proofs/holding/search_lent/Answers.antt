@@ -1,7 +1,8 @@
-use Rattle.std.proofs.Common.{◌≡◌, length, arith, vec_len}
-use Rattle.std.specs.Prelude.{vec_capacity}
+use Rattle.std.proofs.Common.{◌≡◌, length, arith}
 use Rattle.consolidate_trim.specs.Outside.{means}
+use Rattle.arena_core.specs.Arenas.{held}
 use Rattle.arena_holds.specs.Places.{setting, kept_of}
+use Rattle.arena_holds.proofs.Holds.{left_searched, is_return}
 use Rattle.arena_holds.proofs.Taken.{searches_held, searches_short, structure_searched, structure_short}
 use Rattle.arena_holds.proofs.RunningShort.{short_search}
 use Rattle.arena_holds.proofs.holding.search_lent.Goals as goal
@@ -32,5 +33,24 @@ pub returns-in-Err-clause-left : goal.returns-in-Err-clause-left
 returns-in-Err-clause-left g c = λ places a l.
     let plain = g.P.Ground.Moves.plain in
     short_search (setting g.P.Places.ways (means g.P.Hold.FastPort.fast g.P.Hold.Dials.dials g.K.Kernel.port) g.P.Dial.Dials.dials)
-    (kept_of plain c.args.arena) (kept_of plain c.search_arena-searched.new.a) (vec_len c.args.arena.journal) (vec_capacity c.args.arena.journal) l.lent c.unlock.ensures.gave
+    (kept_of plain c.args.arena) (kept_of plain c.search_arena-searched.new.a) (length c.args.arena.journal.items) c.args.arena.journal.capacity l.lent c.unlock.ensures.gave
     c.in-Err.ensures.short c.in-Err.ensures.full
+
+pub unlock-requires : goal.unlock-requires
+unlock-requires g c =
+    let plain = g.P.Ground.Moves.plain in
+    let laws = g.met.P.Places.laws in
+    let m = means g.P.Hold.FastPort.fast g.P.Hold.Dials.dials g.K.Kernel.port in
+    let k = kept_of plain c.args.arena in
+    let k' = kept_of plain c.search_arena-searched.new.a in
+    let places = c.requires.lent.0 in
+    let a = c.requires.lent.1 in
+    let l = c.requires.lent.2 in
+    let is = laws.lends places c.args.p.now a c.args.hold k l.lent in
+    record {
+      lent = is_return g.P.Places.ways g.P.Hold.FastPort.fast g.P.Hold.Dials.dials g.P.Dial.Dials.dials places c.args.p.now a c.args.hold k k' c.args.t.now laws l.lent l.served.tunables
+          (left_searched m c.args.t.now c.args.who.now c.args.act.now (held k.arena c.args.hold c.args.cache.now c.args.space.now k.journal)
+          (held k'.arena c.search_arena-searched.new.port c.search_arena-searched.new.cache c.search_arena-searched.new.space k'.journal) c.search_arena-searched.result is.sound is.placed
+          c.search_arena-searched.ensures.searches c.search_arena-searched.ensures.short)
+          c.search_arena-searched.ensures.replay;
+    }

@@ -5,22 +5,22 @@ use Rattle.arena_core.proofs.arena.Arena.take.Goals as goal
 
 pub returns-in-Ok-clause-taken : goal.returns-in-Ok-clause-taken
 returns-in-Ok-clause-taken g c =
-    let found = rw c.new-said.ensures.items at c.in-Ok.ensures.finds in
-    let added = rw (c.in_ok-make_room.ensures.answers, c.ended_by.ensures) at c.append.ensures in
+    let found = rw c.in_ok-said.ensures.empty at c.in-Ok.ensures.finds in
+    let added = rw (c.in_ok-said.ensures.items, c.ended_by.ensures) at c.append.ensures in
     let is = rw c.number.ensures at c.take_found.ensures in
     takes _ c.args.t.now c.args.who c.args.nb _ _ _ _ _ _ _ _ _ _ _ c.in-Ok.found c.take_found.result found added is
 
 pub returns-in-Ok-clause-replay : goal.returns-in-Ok-clause-replay
 returns-in-Ok-clause-replay g c = λ start old.
-    let found = rw c.new-said.ensures.items at c.in-Ok.ensures.finds in
-    let added = rw (c.in_ok-make_room.ensures.answers, c.ended_by.ensures) at c.append.ensures in
+    let found = rw c.in_ok-said.ensures.empty at c.in-Ok.ensures.finds in
+    let added = rw (c.in_ok-said.ensures.items, c.ended_by.ensures) at c.append.ensures in
     let is = rw c.number.ensures at c.take_found.ensures in
     records_replay start (can_take _ c.args.nb _ c.top_law.ensures c.requires.size c.requires.apart c.requires.ready.backed) (takes _ c.args.t.now c.args.who c.args.nb _ _ _ _ _ _ _ _ _ _ _ c.in-Ok.found c.take_found.result found added is).records old
 
 pub returns-in-Err-clause-replay : goal.returns-in-Err-clause-replay
 returns-in-Err-clause-replay g c = λ start old.
-    let found = rw c.new-said.ensures.items at c.in-Err.ensures.finds in
-    let added = rw c.in_ok-make_room.ensures.answers at c.append-in-Err.ensures in
+    let found = rw c.in_ok-said.ensures.empty at c.in-Err.ensures.finds in
+    let added = rw c.in_ok-said.ensures.items at c.append-in-Err.ensures in
     short_replay start (can_take _ c.args.nb _ c.top_law.ensures c.requires.size c.requires.apart c.requires.ready.backed) (inr (takes_short _ c.args.t.now c.args.who c.args.nb _ _ _ _ _ _ _ _ _ _ _ c.in-Err.field-0 found added)) old
 
 pub returns-in-Ok-clause-fits : goal.returns-in-Ok-clause-fits

@@ -7,7 +7,7 @@ main_of c = record { arena = record { ground = c.in_ok-first_ground.field-0; jou
 
 new_main : (c : goal.After-result-2-1) → IsNewMain (main_of c)
 unfolding main_of
-new_main c = record { ground = c.in_ok-first_ground.ensures; journal = c.new.ensures.items; bins_empty = c.new-2.ensures }
+new_main c = record { ground = c.in_ok-first_ground.ensures; journal = c.new.ensures; bins_empty = c.new-2.ensures }
 
 pub invariant_of-result : goal.invariant_of-result
 unfolding main_of

@@ -1,0 +1,85 @@
+-- How a journal is kept (this project's own): most entries and answers need few bytes, and the others are kept whole.
+use Rattle.std.specs.Prelude.{◌≡◌, ℕ, ◌+◌, Bool, ◌&&◌, nat_lt, nat_le, cond, List, [], ◌∷◌, ◌++◌, take, drop, length, Some, None, Vec, vec_len, vec_capacity}
+use Rattle.arena_rules.specs.declared.said.Said.{Said}
+use Rattle.arena_rules.specs.declared.said.Said.TheVariants as told
+use Rattle.arena_core.specs.declared.journal.Act.{Act}
+use Rattle.arena_core.specs.declared.journal.Act.TheVariants.{Take, Give}
+use Rattle.arena_core.specs.declared.journal.Ended.{Ended}
+use Rattle.arena_core.specs.declared.journal.Ended.TheVariants.{Got, Done}
+use Rattle.arena_core.specs.declared.journal.Who.{Who}
+use Rattle.arena_core.specs.declared.brief.Brief.{Brief}
+use Rattle.arena_core.specs.declared.brief.Brief.TheVariants as briefs
+use Rattle.arena_core.specs.declared.brief.Deed.{Deed}
+use Rattle.arena_core.specs.declared.brief.Deed.TheVariants.{Took, Gave, Whole}
+use Rattle.arena_core.specs.declared.brief.Row.{Row}
+use Rattle.arena_core.specs.Arenas.{recorded}
+use Rattle.arena_core.specs.Journal.{Recorded}
+
+-- the answer that a brief one stands for
+abbrev pub said_of : Brief → Said
+said_of (briefs.Flag up) = told.Flag up
+said_of briefs.NonePopped = told.Popped None
+said_of (briefs.Popped at) = told.Popped (Some at)
+said_of briefs.NoOwn = told.Own None
+said_of (briefs.Own at) = told.Own (Some at)
+said_of (briefs.Room is_there) = told.Room is_there
+said_of (briefs.Dial number) = told.Dial number
+
+-- how many brief answers, and how many whole entries, belong to a deed
+abbrev pub told_of : Deed → ℕ
+told_of (Took nb addr size mapped told) = told
+told_of (Gave addr size told) = told
+told_of Whole = 0
+
+abbrev pub wholes_of : Deed → ℕ
+wholes_of (Took nb addr size mapped told) = 0
+wholes_of (Gave addr size told) = 0
+wholes_of Whole = 1
+
+-- the entry of a row: with the next answers, or the next whole one
+abbrev pub entry_in : Who → Deed → List Said → List Recorded → List Recorded
+entry_in who (Took nb addr size mapped told) ss es = recorded who (Take nb) (take told ss) (Got addr size mapped) ∷ []
+entry_in who (Gave addr size told) ss es = recorded who (Give addr size) (take told ss) Done ∷ []
+entry_in who Whole ss es = take 1 es
+
+-- the entries of rows, with their brief answers, and those that are kept whole
+abbrev pub entries_of : List Row → List Said → List Recorded → List Recorded
+entries_of [] ss es = []
+entries_of (r ∷ rs) ss es = entry_in r.who r.deed ss es ++ entries_of rs (drop (told_of r.deed) ss) (drop (wholes_of r.deed) es)
+
+abbrev pub told_in : List Row → ℕ
+told_in [] = 0
+told_in (r ∷ rs) = told_of r.deed + told_in rs
+
+abbrev pub wholes_in : List Row → ℕ
+wholes_in [] = 0
+wholes_in (r ∷ rs) = wholes_of r.deed + wholes_in rs
+
+-- the brief answers and the whole entries are those of the rows
+pub record AreKept (rows : List Row) (said : List Said) (whole : List Recorded) : Type 0 where
+  pub told : told_in rows ≡ length said
+  pub wholes : wholes_in rows ≡ length whole
+
+-- a deed stands for an act that ended so, with so many answers
+pub record IsDeedOf (act : Act) (ended : Ended) (count : ℕ) (deed : Deed) : Type 0 where
+  pub told : told_of deed ≡ count
+  pub brief : wholes_of deed ≡ 0
+  pub entry : (who : Who) (ss : List Said) (es : List Recorded) → entry_in who deed ss es ≡ recorded who act (take count ss) ended ∷ []
+
+-- A journal: its entries, and for how many there is room, of which the next one alone counts.
+pub record JournalValue : Type 0 where
+  pub items : List Recorded
+  pub capacity : ℕ
+
+-- an entry with so many answers is kept briefly at most
+abbrev pub most_brief : ℕ
+most_brief = 8
+
+-- whether there is room for one more entry, whichever way it is kept
+abbrev pub has_room : {A B C G : Type 0} → Vec A G → Vec B G → Vec C G → Bool
+has_room rows answers whole =
+    nat_lt (vec_len rows) (vec_capacity rows) && nat_le (vec_len answers + most_brief) (vec_capacity answers) && nat_lt (vec_len whole) (vec_capacity whole)
+
+abbrev pub journal_of : {A B C G : Type 0} → Vec A G → Vec B G → Vec C G → List Recorded → JournalValue
+journal_of rows answers whole entries =
+    record { items = entries; capacity = length entries + cond (has_room rows answers whole) 1 0 }

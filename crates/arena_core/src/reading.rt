@@ -1,0 +1,151 @@
+//! The entries of a journal, one by one.
+
+ghost use Rattle.std.specs.Prelude.{◌≡◌, ◌∷◌, [], ◌++◌, length, map, IfOk, OnOk, MatchOption};
+ghost use Rattle.arena_core.specs.Kept.{AreKept, said_of, told_of, wholes_of, entry_in, entries_of};
+
+use crate::brief::{Brief, Deed, Row, whole_of};
+use crate::entry::Entry;
+use crate::journal::{Act, Ended};
+use arena_rules::Said;
+use chunk_tags::NoMemory;
+use consolidate_trim::{make_room, tell};
+use std::alloc::Global;
+use std::marker::Model;
+
+/// The entries of a journal that are still to come (this project's own).
+#[derive(Drop)]
+pub struct Entries<'a> {
+    rows: &'a [Row],
+    answers: &'a [Brief],
+    whole: &'a [Entry],
+}
+
+impl<'a> Model for Entries<'a> {
+    ghost use Rattle.std.specs.Prelude.{List, map};
+    ghost use Rattle.arena_core.specs.Journal.{Recorded};
+    ghost use Rattle.arena_core.specs.Kept.{AreKept, entries_of, said_of};
+
+    ghost Value = { List Recorded };
+
+    ghost view = { λ e. entries_of e.rows.now (map said_of e.answers.now) e.whole.now };
+
+    ghost invariant = { λ e. AreKept e.rows.now (map said_of e.answers.now) e.whole.now };
+}
+
+/// Appends brief answers as they were told.
+fn tell_all(said: &mut Vec<Said>, answers: &[Brief]) -> Result<(), NoMemory>
+    ensures { OnOk result (said.new.items ≡ said.old.items ++ map said_of answers.now) }
+{
+    for brief in answers {
+        make_room(said)?;
+        tell(said, &whole_of(brief));
+    }
+    Ok(())
+}
+
+/// Brief answers as they were told.
+fn told(alloc: Global, answers: &[Brief]) -> Result<Vec<Said>, NoMemory>
+    ensures { IfOk result (λ said. said.items ≡ map said_of answers.now) }
+{
+    let mut said = Vec::new(alloc);
+    tell_all(&mut said, answers)?;
+    Ok(said)
+}
+
+/// An entry again.
+fn copy_of(alloc: Global, entry: &Entry) -> Result<Entry, NoMemory>
+    ensures { IfOk result (λ copy. copy ≡ entry.now) }
+{
+    Ok(Entry {
+        who: entry.who,
+        act: entry.act,
+        said: Vec::from_slice(alloc, entry.said.as_slice())?,
+        ended: entry.ended,
+    })
+}
+
+/// How many brief answers belong to a deed.
+fn told_count(deed: &Deed) -> usize
+    ensures { result ≡ told_of deed.now }
+{
+    match deed {
+        Deed::Took { told, .. } => usize::from(*told),
+        Deed::Gave { told, .. } => usize::from(*told),
+        Deed::Whole => 0,
+    }
+}
+
+/// How many whole entries belong to a deed.
+fn whole_count(deed: &Deed) -> usize
+    ensures { result ≡ wholes_of deed.now }
+{
+    match deed {
+        Deed::Whole => 1,
+        _ => 0,
+    }
+}
+
+/// The entry of a row, with its own answers or its whole entry.
+fn entry_of(alloc: Global, row: &Row, answers: &[Brief], whole: &[Entry]) -> Result<Entry, NoMemory>
+    requires answers { length answers.now ≡ told_of row.now.deed }
+    requires whole { length whole.now ≡ wholes_of row.now.deed }
+    ensures { IfOk result (λ entry. entry ∷ []
+        ≡ entry_in row.now.who row.now.deed (map said_of answers.now) whole.now) }
+{
+    match row.deed {
+        Deed::Took {
+            nb,
+            addr,
+            size,
+            mapped,
+            told: _,
+        } => Ok(Entry {
+            who: row.who,
+            act: Act::Take { nb },
+            said: told(alloc, answers)?,
+            ended: Ended::Got { addr, size, mapped },
+        }),
+        Deed::Gave {
+            addr,
+            size,
+            told: _,
+        } => Ok(Entry {
+            who: row.who,
+            act: Act::Give { addr, size },
+            said: told(alloc, answers)?,
+            ended: Ended::Done,
+        }),
+        Deed::Whole => copy_of(alloc, &whole[0]),
+    }
+}
+
+impl<'a> Entries<'a> {
+    /// The entries of these rows, with their answers and whole entries.
+    pub(crate) fn of(rows: &'a [Row], answers: &'a [Brief], whole: &'a [Entry]) -> Entries<'a>
+        requires { AreKept rows.now (map said_of answers.now) whole.now }
+        ensures { result ≡ entries_of rows.now (map said_of answers.now) whole.now }
+    {
+        Entries {
+            rows,
+            answers,
+            whole,
+        }
+    }
+
+    /// The next entry; `None` exactly where there is none left.
+    pub fn next(&mut self, alloc: Global) -> Result<Option<Entry>, NoMemory>
+        ensures { IfOk result (λ next. MatchOption next
+            (self.old ≡ []) (λ entry. self.old ≡ entry ∷ self.new)) }
+    {
+        let Some((row, rows)) = self.rows.split_first() else {
+            return Ok(None);
+        };
+        let (own, answers) = self.answers.split_at(told_count(&row.deed));
+        let (first, whole) = self.whole.split_at(whole_count(&row.deed));
+        let entry = entry_of(alloc, row, own, first)?;
+        self.rows = rows;
+        self.answers = answers;
+        self.whole = whole;
+        Ok(Some(entry))
+    }
+}
