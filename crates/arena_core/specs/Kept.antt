@@ -73,7 +73,7 @@ pub record JournalValue : Type 0 where
 
 -- an entry with so many answers is kept briefly at most
 abbrev pub most_brief : ℕ
-most_brief = 8
+most_brief = 32
 
 -- whether there is room for one more entry, whichever way it is kept
 abbrev pub has_room : {A B C G : Type 0} → Vec A G → Vec B G → Vec C G → Bool

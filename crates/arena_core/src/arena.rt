@@ -240,7 +240,7 @@ impl<M: Moves + Drop> Arena<M> {
         ensures replay { IfOk result (λ o. IfSome o (λ a.
             IsReplay t.now (closed_arena t.now number) a.journal.items (M.plain a.ground))) }
     {
-        let mut journal = Journal::new(alloc);
+        let mut journal = Journal::new(alloc)?;
         let mut said = journal.begin(alloc)?;
         match open_ground(alloc, number, bytes, space, t, &mut said)? {
             Some(ground) => {

@@ -1,125 +1,52 @@
 //! The journal of an arena's holds.
 
-ghost use Rattle.std.specs.Prelude.{◌≡◌, ◌<◌, ◌≤◌, ◌+◌, [], ◌∷◌, ◌++◌, true, false, length, map, OnOk, OnErr, OnSome, IfOk, IfSome, IfNone, vec_len, vec_capacity};
+ghost use Rattle.std.specs.Prelude.{◌≡◌, ◌<◌, ◌≤◌, [], ◌∷◌, ◌++◌, length, OnOk, OnErr, IfOk};
 ghost use Rattle.arena_core.specs.Arenas.{recorded};
-ghost use Rattle.arena_core.specs.Kept.{said_of, most_brief, IsDeedOf};
 
-use crate::brief::{Brief, Deed, Row, brief_of, deed_of};
-use crate::entry::Entry;
 use crate::journal::{Act, Ended, Who};
+use crate::lists::JournalLists;
 use crate::reading::Entries;
 use arena_rules::Said;
 use chunk_tags::NoMemory;
-use consolidate_trim::make_room;
 use std::alloc::Global;
 use std::marker::Model;
-use std::mem;
 
-/// An entry with more answers is kept whole (this project's own).
-const MOST_BRIEF: usize = 8;
-
-/// The journal of an arena: an entry for each of its holds, in order (this project's own). Most holds are told little and
-/// nothing of the system, so their entries are kept in few bytes, and their answers one behind the other for all of them.
+/// The journal of an arena: an entry for each of its holds, in order (this project's own). It stands behind a pointer, so an
+/// arena that is lent moves at the cost of two of them.
 #[derive(Drop)]
 pub struct Journal {
-    rows: Vec<Row>,
-    answers: Vec<Brief>,
-    whole: Vec<Entry>,
-    /// An empty list for the answers of the next hold, which keeps its room from hold to hold.
-    said: Vec<Said>,
+    lists: Box<JournalLists>,
 }
 
 impl Model for Journal {
-    ghost use Rattle.std.specs.Prelude.{map};
-    ghost use Rattle.arena_core.specs.Kept.{JournalValue, AreKept, entries_of, journal_of, said_of};
+    ghost use Rattle.arena_core.specs.Kept.{JournalValue};
 
     ghost Value = { JournalValue };
 
-    ghost view = { λ j. journal_of j.rows j.answers j.whole
-        (entries_of j.rows.items (map said_of j.answers.items) j.whole.items) };
-
-    ghost invariant = { λ j. AreKept j.rows.items (map said_of j.answers.items) j.whole.items };
-}
-
-/// Makes room for the answers of one more brief entry.
-fn make_brief_room(answers: &mut Vec<Brief>) -> Result<(), NoMemory>
-    ensures items { answers.new.items ≡ answers.old.items }
-    ensures room { OnOk result (vec_len answers.new + most_brief ≤ vec_capacity answers.new) }
-    ensures full { OnErr result (vec_capacity answers.old < vec_len answers.old + most_brief) }
-{
-    Ok(answers.reserve(MOST_BRIEF)?)
-}
-
-/// Appends answers in their brief form, where each has one and there aren't too many; else nothing changes.
-fn append_brief(answers: &mut Vec<Brief>, said: &[Said]) -> bool
-    requires { vec_len answers.old + most_brief ≤ vec_capacity answers.old }
-    ensures all { result ≡ true → map said_of answers.new.items
-        ≡ map said_of answers.old.items ++ said.now }
-    ensures none { result ≡ false → answers.new.items ≡ answers.old.items }
-{
-    if said.len() > MOST_BRIEF {
-        return false;
-    }
-    let before = answers.len();
-    for answer in said {
-        let Some(brief) = brief_of(answer) else {
-            answers.truncate(before);
-            return false;
-        };
-        answers.push(brief).unwrap();
-    }
-    true
-}
-
-/// Keeps the answers of a hold in their brief form, and gives the deed for its row; where it has none nothing changes.
-fn keep_brief(answers: &mut Vec<Brief>, act: &Act, said: &[Said], ended: &Ended) -> Option<Deed>
-    requires { vec_len answers.old + most_brief ≤ vec_capacity answers.old }
-    ensures deed { IfSome result (IsDeedOf act.now ended.now (length said.now)) }
-    ensures told { OnSome result (map said_of answers.new.items
-        ≡ map said_of answers.old.items ++ said.now) }
-    ensures none { IfNone result (answers.new.items ≡ answers.old.items) }
-{
-    let deed = deed_of(act, ended, said.len())?;
-    if append_brief(answers, said) {
-        Some(deed)
-    } else {
-        None
-    }
-}
-
-/// Puts an item behind the others, where room was made for it. No memory is asked for.
-fn put<T>(items: &mut Vec<T>, item: T)
-    requires { vec_len items.old < vec_capacity items.old }
-    ensures { items.new.items ≡ items.old.items ++ item ∷ [] }
-{
-    items.push(item).unwrap();
+    ghost view = { λ j. j.lists.value };
 }
 
 impl Journal {
     /// No entries.
-    pub fn new(alloc: Global) -> Journal
-        ensures { result.items ≡ [] }
+    pub fn new(alloc: Global) -> Result<Journal, NoMemory>
+        ensures { IfOk result (λ j. j.items ≡ []) }
     {
-        Journal {
-            rows: Vec::new(alloc),
-            answers: Vec::new(alloc),
-            whole: Vec::new(alloc),
-            said: Vec::new(alloc),
-        }
+        let lists = Box::new(alloc, JournalLists::new(alloc))?;
+        Ok(Journal { lists })
     }
 
     /// How many entries there are.
     pub fn len(&self) -> usize
         ensures { result ≡ length self.now.items }
     {
-        self.rows.len()
+        self.lists.as_ref().len()
     }
 
     /// The entries, from the first on.
     pub fn entries(&self) -> Entries<'_>
         ensures { result ≡ self.now.items }
     {
-        Entries::of(&self.rows, &self.answers, &self.whole)
+        self.lists.as_ref().entries()
     }
 
     /// Makes room for the entry of a hold that begins, and gives the list for its answers.
@@ -129,12 +56,7 @@ impl Journal {
         ensures full { OnErr result (self.old.capacity ≤ length self.old.items) }
         ensures empty { IfOk result (λ said. said.items ≡ []) }
     {
-        make_room(&mut self.rows)?;
-        make_brief_room(&mut self.answers)?;
-        make_room(&mut self.whole)?;
-        let mut said = mem::replace(&mut self.said, Vec::new(alloc));
-        said.clear();
-        Ok(said)
+        self.lists.as_mut().begin(alloc)
     }
 
     /// Appends the entry of a hold, for which room was made. No memory is asked for.
@@ -142,22 +64,6 @@ impl Journal {
         requires { length self.old.items < self.old.capacity }
         ensures { self.new.items ≡ self.old.items ++ recorded who act said.items ended ∷ [] }
     {
-        match keep_brief(&mut self.answers, &act, &said, &ended) {
-            Some(deed) => {
-                put(&mut self.rows, Row { who, deed });
-                self.said = said;
-            }
-            None => {
-                let deed = Deed::Whole;
-                put(&mut self.rows, Row { who, deed });
-                let entry = Entry {
-                    who,
-                    act,
-                    said,
-                    ended,
-                };
-                put(&mut self.whole, entry);
-            }
-        }
+        self.lists.as_mut().append(who, act, said, ended);
     }
 }

@@ -11,6 +11,7 @@ mod entry;
 #[cfg(test)]
 mod examples;
 mod journal;
+mod lists;
 mod reading;
 mod searching;
 mod take;

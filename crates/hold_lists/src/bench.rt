@@ -107,7 +107,7 @@ impl Bench {
         Ok(Bench {
             arena: Arena {
                 ground,
-                journal: Journal::new(alloc),
+                journal: Journal::new(alloc)?,
             },
             port: Both {
                 bins: PlainFast::new(alloc),

@@ -83,7 +83,7 @@ impl Serial {
         let main = Slot {
             arena: Arena {
                 ground: first_ground(alloc)?,
-                journal: Journal::new(alloc),
+                journal: Journal::new(alloc)?,
             },
             bins: PlainFast::new(alloc),
         };

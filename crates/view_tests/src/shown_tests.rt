@@ -146,11 +146,11 @@ fn threads(alloc: Global, named: Option<Block>) -> Result<Vec<Thread<Always>>, N
 }
 
 /// An arena that had no hold yet.
-fn arena(alloc: Global, ground: Ground) -> Arena<Ground> {
-    Arena {
+fn arena(alloc: Global, ground: Ground) -> Result<Arena<Ground>, NoMemory> {
+    Ok(Arena {
         ground,
-        journal: Journal::new(alloc),
-    }
+        journal: Journal::new(alloc)?,
+    })
 }
 
 /// Main without a byte, arena 1 with a used chunk before top, and arena 2 with top alone.
@@ -161,9 +161,9 @@ fn arenas(alloc: Global) -> Result<Vec<Arena<Ground>>, NoMemory>
     first.cut_top(Size(1024));
     let second = Ground::open(alloc, 2, 65_536, 2, 4096)?;
     let mut arenas = Vec::new(alloc);
-    arenas.push(arena(alloc, Ground::main(alloc)?))?;
-    arenas.push(arena(alloc, first))?;
-    arenas.push(arena(alloc, second))?;
+    arenas.push(arena(alloc, Ground::main(alloc)?)?)?;
+    arenas.push(arena(alloc, first)?)?;
+    arenas.push(arena(alloc, second)?)?;
     Ok(arenas)
 }
 

@@ -1,5 +1,5 @@
 use Rattle.arena_core.proofs.Kept.{kept-brief, kept-whole, entries-brief, entries-whole}
-use Rattle.arena_core.proofs.entries.Journal.append.Goals as goal
+use Rattle.arena_core.proofs.lists.JournalLists.append.Goals as goal
 
 pub invariant_of-self : goal.invariant_of-self
 invariant_of-self c = rw (c.put.ensures, c.in-Some.ensures.told) (kept-brief _ c.args.who c.args.act c.args.ended c.in-Some.deed _ _ _ c.self.invariant c.in-Some.ensures.deed)

@@ -1,6 +1,6 @@
 use Rattle.std.proofs.Common.{◌≡◌, ◌≤◌, ◌+◌, ◌++◌, take, map, vec_len, vec_capacity}
 use Rattle.arena_core.specs.Kept.{said_of, most_brief}
-use Rattle.arena_core.proofs.entries.append_brief.Given as goal
+use Rattle.arena_core.proofs.lists.append_brief.Given as goal
 
 abbrev pub invariant-loop-answer : goal.invariant-loop-answer
 invariant-loop-answer l =
