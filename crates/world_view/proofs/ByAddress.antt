@@ -1,50 +1,29 @@
 -- What is put by address is there.
 use Rattle.std.proofs.Common.{◌≡◌, ℕ, ◌<◌, Bool, true, false, cond, List, [], ◌∷◌, Some, is_some, Ordering, ◌⊎◌, inl, inr, sum_by, fold, suc, refl, sym, ap, ◌∙◌, arith, nat_cmp}
-use Rattle.std.specs.Prelude.{nat_eq, Contains}
+use Rattle.std.specs.Prelude.{nat_eq, Contains, if◌then◌else◌}
 use Rattle.std.specs.declared.cmp.Ordering.TheVariants.{Less, Equal, Greater}
 use Rattle.std.specs.Ordering.{match_ordering, MatchOrdering, is_eq}
 use Rattle.std.specs.Cmp.{ranks}
 use Rattle.std.specs.BTreeMap.{is_at, insert_entry}
 use Rattle.std.specs.Map.{values_of}
-use Rattle.std.proofs.lemmas.Bool.{eqb-true}
+use Rattle.std.proofs.lemmas.Bool.{eq-eqb, eqb-true}
 use Rattle.std.proofs.lemmas.List.Sums.{sum_by-cons}
 use Rattle.list_laws.specs.Rising.{at}
-use Rattle.stats_text.specs.declared.views.Place.{Place}
-use Rattle.world_view.specs.Places.{Placed, put_found, found_by_address}
+use Rattle.world_view.specs.Places.{Placed, FoundAt, nothing_found, put_found, found_by_address}
 
 -- ---- something is there
 
--- something is at an address
-abbrev pub IsThere : ℕ → List Placed → Type 0
-IsThere n es = is_some (at n es) ≡ true
+-- something is found at an address
+abbrev pub IsThere : ℕ → FoundAt → Type 0
+IsThere n found = is_some (found n) ≡ true
 
-there_first : (n k : ℕ) (v : Place) (es : List Placed) → (n ≡ k) ⊎ IsThere n es → IsThere n ((k, v) ∷ es)
-there_first n k v es either =
-    let step : (o : Ordering) → MatchOrdering o (n < k) (n ≡ k) (k < n) → is_some (cond (is_eq o) (Some v) (at n es)) ≡ true = elim [
-      | Less ↦ λ lt. elim either [ inl same ↦ let no : ⊥ = omega arith in absurd no | inr there ↦ there ]
-      | Equal ↦ λ eq. refl
-      | Greater ↦ λ gt. elim either [ inl same ↦ let no : ⊥ = omega arith in absurd no | inr there ↦ there ]
+there_with : (n : ℕ) (found : FoundAt) (f : Placed) → (f.0 ≡ n) ⊎ IsThere n found → IsThere n (put_found found f)
+there_with n found f either =
+    let cases : (b : Bool) → nat_eq f.0 n ≡ b → is_some (if b then Some f.1 else found n) ≡ true = elim [
+      | true ↦ λ e. refl
+      | false ↦ λ e. elim either [ inl same ↦ let yes = eq-eqb f.0 n same in let no : ⊥ = cc in absurd no | inr there ↦ there ]
     ] in
-    step (nat_cmp n k) (ranks n k)
-
-there_same : (n : ℕ) (e : Placed) (v : Place) (es : List Placed) → IsThere n (e ∷ es) → IsThere n ((e.0, v) ∷ es)
-there_same n e v es =
-    elim (is_at (nat_cmp n) e.0) as (λ b. is_some (cond b (Some e.1) (at n es)) ≡ true → is_some (cond b (Some v) (at n es)) ≡ true) [ true ↦ λ h. refl | false ↦ λ h. h ]
-
-there_with : (n : ℕ) (es : List Placed) (k : ℕ) (v : Place) → (n ≡ k) ⊎ IsThere n es → IsThere n (insert_entry nat_cmp es k v)
-there_with n [] k v either = there_first n k v [] either
-there_with n (e ∷ es) k v either =
-    let later : List Placed = insert_entry nat_cmp es k v in
-    let step : (o : Ordering) → MatchOrdering o (k < e.0) (k ≡ e.0) (e.0 < k) → IsThere n (match_ordering o ((k, v) ∷ e ∷ es) ((e.0, v) ∷ es) (e ∷ later)) = elim [
-      | Less ↦ λ lt. there_first n k v (e ∷ es) either
-      | Equal ↦ λ eq. elim either [ inl same ↦ there_first n e.0 v es (inl (same ∙ eq)) | inr there ↦ there_same n e v es there ]
-      | Greater ↦ λ gt.
-          elim (is_at (nat_cmp n) e.0) as (λ b. (n ≡ k) ⊎ (is_some (cond b (Some e.1) (at n es)) ≡ true) → is_some (cond b (Some e.1) (at n later)) ≡ true) [
-            | true ↦ λ h. refl
-            | false ↦ there_with n es k v
-          ] either
-    ] in
-    step (nat_cmp k e.0) (ranks k e.0)
+    cases (nat_eq f.0 n) refl
 
 -- 1 for what is found at an address, and how much is
 abbrev pub stands_at : ℕ → Placed → ℕ
@@ -53,21 +32,21 @@ stands_at n f = cond (nat_eq n f.0) 1 0
 abbrev pub times_found : ℕ → List Placed → ℕ
 times_found n fs = sum_by (stands_at n) fs
 
-all_there : (n : ℕ) (es fs : List Placed) → IsThere n es ⊎ (0 < times_found n fs) → IsThere n (fold put_found es fs)
-all_there n es [] either = elim either [ inl there ↦ there | inr some ↦ let no : ⊥ = omega arith in absurd no ]
-all_there n es (f ∷ fs) either =
-    let cases : (b : Bool) → nat_eq n f.0 ≡ b → IsThere n (fold put_found (put_found es f) fs) = elim [
-      | true ↦ λ e. all_there n (put_found es f) fs (inl (there_with n es f.0 f.1 (inl (eqb-true n f.0 e))))
+all_there : (n : ℕ) (found : FoundAt) (fs : List Placed) → IsThere n found ⊎ (0 < times_found n fs) → IsThere n (fold put_found found fs)
+all_there n found [] either = elim either [ inl there ↦ there | inr some ↦ let no : ⊥ = omega arith in absurd no ]
+all_there n found (f ∷ fs) either =
+    let cases : (b : Bool) → nat_eq n f.0 ≡ b → IsThere n (fold put_found (put_found found f) fs) = elim [
+      | true ↦ λ e. all_there n (put_found found f) fs (inl (there_with n found f (inl (sym (eqb-true n f.0 e)))))
       | false ↦ λ e. elim either [
-        | inl there ↦ all_there n (put_found es f) fs (inl (there_with n es f.0 f.1 (inr there)))
-        | inr some ↦ all_there n (put_found es f) fs (inr (omega (arith, sum_by-cons (stands_at n) f fs, ap (λ b. cond {A = ℕ} b 1 0) e)))
+        | inl there ↦ all_there n (put_found found f) fs (inl (there_with n found f (inr there)))
+        | inr some ↦ all_there n (put_found found f) fs (inr (omega (arith, sum_by-cons (stands_at n) f fs, ap (λ b. cond {A = ℕ} b 1 0) e)))
       ]
     ] in
     cases (nat_eq n f.0) refl
 
 pub found_there : (n : ℕ) (fs : List Placed) → 0 < times_found n fs → IsThere n (found_by_address fs)
 unfolding found_by_address
-found_there n fs some = all_there n [] fs (inr some)
+found_there n fs some = all_there n nothing_found fs (inr some)
 
 -- ---- this is there
 

@@ -7,7 +7,6 @@ use Rattle.std.proofs.Math.Seq.{get_or-append_seam}
 use Rattle.std.proofs.lemmas.Bool.{eq-eqb, and_from}
 use Rattle.std.proofs.lemmas.List.{map-append, map-id, length-append, length-map}
 use Rattle.std.proofs.lemmas.List.Sums.{sum_by-cons, sum_by-append}
-use Rattle.list_laws.specs.Rising.{at}
 use Rattle.chunk_tags.specs.BinOrder.{same_chunk, times_in, fast_chunk}
 use Rattle.chunk_tags.specs.declared.block.Block.{Block}
 use Rattle.chunk_tags.specs.declared.tiles.Chunk.{Chunk}
@@ -28,7 +27,7 @@ use Rattle.own_blocks.specs.Own.{in_names, in_own}
 use Rattle.stats_text.specs.declared.views.Place.{Place}
 use Rattle.stats_text.specs.declared.views.Place.TheVariants as places
 use Rattle.world_view.specs.declared.finds.Find.{Find}
-use Rattle.world_view.specs.Places.{named_from, held_find, far_finds, named_finds, cached_find, structure_finds, thread_finds, threads_finds, tray_find, finds_of, fast_lists, ten_lists, fast_of, bins_of, Placed, placed_in, binned, finds_found, found_by_address, place_in, shown_at, shown_tiles}
+use Rattle.world_view.specs.Places.{named_from, held_find, far_finds, named_finds, cached_find, structure_finds, thread_finds, threads_finds, tray_find, finds_of, fast_lists, ten_lists, fast_of, bins_of, Placed, FoundAt, placed_in, binned, finds_found, found_by_address, place_in, shown_at, shown_tiles}
 use Rattle.world_view.specs.Scenes.{ArenaScene, Scene, all_binned, all_found, arena_shown, shown_arena}
 use Rattle.world_view.specs.Shows.{in_threads, in_trays, in_scene, times_fast, IsWholeArena, tile_span, view_span}
 use Rattle.world_view.proofs.ByAddress.{IsThere, stands_at, times_found, found_there}
@@ -269,12 +268,12 @@ arena_among n (b ∷ arenas) (suc i) a is =
 
 -- ---- each tile is shown
 
-place_there : (found : List Placed) (t : Tile) → (is_used t ≡ true → IsThere t.addr found) → (is_free t ≡ true → IsThere t.addr found) → is_some (place_in found t) ≡ true
+place_there : (found : FoundAt) (t : Tile) → (is_used t ≡ true → IsThere t.addr found) → (is_free t ≡ true → IsThere t.addr found) → is_some (place_in found t) ≡ true
 place_there found t =
     elim t.kind as (λ (k : TileKind).
     (elim k [ Used ↦ true | Free ↦ false | Top ↦ false | Fence ↦ false ] ≡ true → IsThere t.addr found) →
     (elim k [ Used ↦ false | Free ↦ true | Top ↦ false | Fence ↦ false ] ≡ true → IsThere t.addr found) →
-    is_some (elim k [ Used ↦ at t.addr found | Free ↦ at t.addr found | Top ↦ Some places.Top | Fence ↦ Some places.Fence ]) ≡ true) [
+    is_some (elim k [ Used ↦ found t.addr | Free ↦ found t.addr | Top ↦ Some places.Top | Fence ↦ Some places.Fence ]) ≡ true) [
       | Used ↦ λ used free. used refl
       | Free ↦ λ used free. free refl
       | Top ↦ λ used free. refl
@@ -291,7 +290,7 @@ tile_counts kind t ts a among is =
     let one : weight kind c t ≡ 1 = ap (λ (b : Bool). cond {A = ℕ} b 1 0) (and_from (kind t) (is_chunk c t) is (and_from (nat_eq t.addr t.addr) (nat_eq t.size t.size) (eq-eqb t.addr t.addr refl) (eq-eqb t.size t.size refl))) in
     omega (arith, among kind c, sum_by-cons (weight kind c) t ts, one)
 
-all_shown : (found : List Placed) (a : Plain) (ts : List Tile) → ((c : Chunk) → 0 < times_used c a → IsThere c.at found) → ((c : Chunk) → 0 < times_tiled is_free c a → IsThere c.at found) → Among ts a →
+all_shown : (found : FoundAt) (a : Plain) (ts : List Tile) → ((c : Chunk) → 0 < times_used c a → IsThere c.at found) → ((c : Chunk) → 0 < times_tiled is_free c a → IsThere c.at found) → Among ts a →
     map view_span (shown_tiles found ts) ≡ map tile_span ts
 all_shown found a [] used free among = refl
 all_shown found a (t ∷ ts) used free among =

@@ -8,11 +8,11 @@ use Rattle.arena_ground.specs.Grounds.{GroundView}
 use Rattle.arena_core.specs.declared.arena.Arena.{Arena}
 use Rattle.stats_text.specs.Totals.{AreWithinSystem, idle_bytes_of, system_bytes_of}
 use Rattle.stats_text.specs.Views.{Arena as Shown}
-use Rattle.world_view.specs.Places.{Placed}
+use Rattle.world_view.specs.Places.{FoundAt}
 use Rattle.world_view.specs.Scenes.{arena_shown}
 use Rattle.world_view.specs.Rows.{fast_at, arenas_from, plains_of}
 
-pub record ShowsSoFar (found : List Placed) (list : List ℕ) (lists : List (List ℕ)) (all : List Plain) (index : ℕ) (rest : List Plain) (views : List Shown) : Type 0 where
+pub record ShowsSoFar (found : FoundAt) (list : List ℕ) (lists : List (List ℕ)) (all : List Plain) (index : ℕ) (rest : List Plain) (views : List Shown) : Type 0 where
   pub shown : views ++ arenas_from found list lists index rest ≡ arenas_from found list lists 0 all
   pub idle : AreWithinSystem views
   pub fits : system_bytes_of views ≤ index * 2 ^ 32
@@ -21,7 +21,7 @@ bytes_more : (views : List Shown) (v : Shown) → system_bytes_of (views ++ v �
 unfolding system_bytes_of
 bytes_more views v = omega (arith, sum_by-append (λ (a : Shown). a.system) views (v ∷ []), sum_by-cons (λ (a : Shown). a.system) v [])
 
-pub one_more : (found : List Placed) (list : List ℕ) (lists : List (List ℕ)) (all : List Plain) (index : ℕ) (a : Plain) (left rest : List Plain) (views after : List Shown) (v : Shown) →
+pub one_more : (found : FoundAt) (list : List ℕ) (lists : List (List ℕ)) (all : List Plain) (index : ℕ) (a : Plain) (left rest : List Plain) (views after : List Shown) (v : Shown) →
     ShowsSoFar found list lists all index left views → left ≡ a ∷ rest → after ≡ views ++ v ∷ [] → v ≡ arena_shown found list (fast_at lists index) a → idle_bytes_of v.tiles ≤ v.system → v.system ≤ 2 ^ 32 →
     ShowsSoFar found list lists all (index + 1) rest after
 one_more found list lists all index a left rest views after v s is pushed view idle fits =
@@ -34,7 +34,7 @@ one_more found list lists all index a left rest views after v s is pushed view i
       fits = rw pushed (omega (arith, s.fits, fits, bytes_more views v));
     }
 
-pub none_yet : (found : List Placed) (list : List ℕ) (lists : List (List ℕ)) (all : List Plain) → ShowsSoFar found list lists all 0 all []
+pub none_yet : (found : FoundAt) (list : List ℕ) (lists : List (List ℕ)) (all : List Plain) → ShowsSoFar found list lists all 0 all []
 unfolding system_bytes_of
 none_yet found list lists all = record {
   shown = refl;

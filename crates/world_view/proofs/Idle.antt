@@ -16,7 +16,7 @@ use Rattle.arena_rules.specs.PlainArena.{Plain, HeapWindows, is_main}
 use Rattle.stats_text.specs.declared.views.Place.{Place}
 use Rattle.stats_text.specs.declared.views.TileView.{TileView}
 use Rattle.stats_text.specs.Totals.{is_idle_place, tile_bytes_of, idle_bytes_of}
-use Rattle.world_view.specs.Places.{Placed, view_of_tile, place_in, shown_at, shown_tiles}
+use Rattle.world_view.specs.Places.{FoundAt, view_of_tile, place_in, shown_at, shown_tiles}
 
 -- a chunk's bytes, where it is idle
 abbrev idle_of : TileView → ℕ
@@ -45,7 +45,7 @@ shown_most t (Some place) rest =
     omega (arith, idle-cons v rest, idle_most v)
 
 -- what is shown of tiles has at most their bytes
-pub idle_tiles : (found : List Placed) (ts : List Tile) → idle_bytes_of (shown_tiles found ts) ≤ sum_by (λ t. t.size) ts
+pub idle_tiles : (found : FoundAt) (ts : List Tile) → idle_bytes_of (shown_tiles found ts) ≤ sum_by (λ t. t.size) ts
 idle_tiles found [] = omega (arith, idle-nil)
 idle_tiles found (t ∷ ts) =
     omega (arith, sum_by-cons (λ (x : Tile). x.size) t ts, idle_tiles found ts, shown_most t (place_in found t) (shown_tiles found ts))
@@ -59,7 +59,7 @@ filled_cases P a main heaps one other =
     ] in
     cases (is_main a) refl
 
-pub idle_in_arena : (a : Plain) (found : List Placed) → IsPlaced a → (is_main a ≡ false → (closed : List ℕ) × IsHeapPlaced a closed) → idle_bytes_of (shown_tiles found a.tiles) ≤ a.system
+pub idle_in_arena : (a : Plain) (found : FoundAt) → IsPlaced a → (is_main a ≡ false → (closed : List ℕ) × IsHeapPlaced a closed) → idle_bytes_of (shown_tiles found a.tiles) ≤ a.system
 idle_in_arena a found main heaps =
     filled_cases (idle_bytes_of (shown_tiles found a.tiles) ≤ a.system) a main heaps
     (λ p. omega (arith, idle_tiles found a.tiles, p.tiled))

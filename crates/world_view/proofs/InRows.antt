@@ -6,7 +6,7 @@ use Rattle.fast_bins.specs.PlainBins.{listed}
 use Rattle.arena_rules.specs.PlainArena.{Plain}
 use Rattle.stats_text.specs.Views.{Arena}
 use Rattle.world_view.specs.declared.finds.Find.{Find}
-use Rattle.world_view.specs.Places.{Placed, finds_of, fast_lists, fast_of, ten_lists, bins_of, binned, finds_found, found_by_address}
+use Rattle.world_view.specs.Places.{Placed, FoundAt, finds_of, fast_lists, fast_of, ten_lists, bins_of, binned, finds_found, found_by_address}
 use Rattle.world_view.specs.Scenes.{ArenaScene, Scene, AreArenas, all_binned, all_found, arena_shown, shown_arena}
 use Rattle.world_view.specs.Rows.{fast_at, fast_bin_at, binned_from, arenas_from}
 
@@ -57,7 +57,7 @@ binned_rows front index (s ∷ scenes) before ten =
     ap (λ fast. binned fast (bins_of s.arena) ++ rest) (first_ten front index s scenes before ten.0)
     ∙ ap (λ found. binned (fast_of s.fast) (bins_of s.arena) ++ found) later
 
-shown_rows : (found : List Placed) (list : List ℕ) (front : List (List ℕ)) (index : ℕ) (scenes : List ArenaScene) → length front ≡ 10 * index → HaveTen scenes →
+shown_rows : (found : FoundAt) (list : List ℕ) (front : List (List ℕ)) (index : ℕ) (scenes : List ArenaScene) → length front ≡ 10 * index → HaveTen scenes →
     arenas_from found list (front ++ all_lists scenes) index (plains scenes) ≡ map (λ s. arena_shown found list (fast_of s.fast) s.arena) scenes
 shown_rows found list front index [] before ten = refl
 shown_rows found list front index (s ∷ scenes) before ten =
@@ -75,7 +75,7 @@ rows_binned scenes arenas lists are =
     ∙ ap (λ ps. binned_from (all_lists scenes) 0 ps) (sym are.arenas_are)
     ∙ binned_rows [] 0 scenes refl are.ten
 
-rows_shown : (found : List Placed) (list : List ℕ) (scenes : List ArenaScene) (arenas : List Plain) (lists : List (List ℕ)) → AreArenas scenes arenas lists →
+rows_shown : (found : FoundAt) (list : List ℕ) (scenes : List ArenaScene) (arenas : List Plain) (lists : List (List ℕ)) → AreArenas scenes arenas lists →
     arenas_from found list lists 0 arenas ≡ map (λ s. arena_shown found list (fast_of s.fast) s.arena) scenes
 rows_shown found list scenes arenas lists are =
     ap (λ ls. arenas_from found list ls 0 arenas) (sym are.lists_are)

@@ -1,11 +1,11 @@
 -- Where a report shows each chunk (this project's own). A place is where a chunk is found: under a name of a thread, in its
 -- cache, as the structure of that, in a tray, in a fast bin or in another bin. Top and fences say so themselves.
-use Rattle.std.specs.Prelude.{ℕ, ◌+◌, false, not, List, [], ◌∷◌, ◌++◌, map, filter, fold, Option, Some, None, is_some, slice_index_or}
+use Rattle.std.specs.Prelude.{ℕ, ◌+◌, false, not, nat_eq, if◌then◌else◌, List, [], ◌∷◌, ◌++◌, map, filter, fold, Option, Some, None, is_some, slice_index_or}
 use Rattle.std.specs.List.{flat_map, range_with_len}
 use Rattle.std.specs.Ordering.{nat_cmp}
 use Rattle.std.specs.BTreeMap.{insert_entry}
+use Rattle.std.specs.HashMap.{get}
 use Rattle.std.specs.Map.{values_of}
-use Rattle.list_laws.specs.Rising.{at}
 use Rattle.chunk_tags.specs.declared.block.Block.{Block}
 use Rattle.chunk_tags.specs.declared.tiles.Tile.{Tile}
 use Rattle.chunk_tags.specs.declared.tiles.TileKind.TheVariants as kinds
@@ -19,6 +19,7 @@ use Rattle.stats_text.specs.declared.views.Place.{Place}
 use Rattle.stats_text.specs.declared.views.Place.TheVariants as places
 use Rattle.stats_text.specs.declared.views.TileView.{TileView}
 use Rattle.world_view.specs.declared.finds.Find.{Find}
+use Rattle.world_view.specs.declared.table.PlaceTable.{PlaceTable}
 
 -- ---- the blocks of threads and trays
 
@@ -115,18 +116,30 @@ binned fast bins = placed_in places.Fast fast ++ placed_in places.Bin bins
 abbrev pub finds_found : List Find → List Placed
 finds_found finds = map (λ f. (f.tile.addr, f.tile.place)) finds
 
--- what is found, by address
-abbrev pub put_found : List Placed → Placed → List Placed
-put_found found f = insert_entry nat_cmp found f.0 f.1
+-- what is found at each address
+abbrev pub FoundAt : Type 0
+FoundAt = ℕ → Option Place
 
-unfoldable pub found_by_address : List Placed → List Placed
-found_by_address fs = fold put_found [] fs
+-- what stands in a table of it
+unfoldable pub found_at : PlaceTable → FoundAt
+found_at found n = get nat_eq found.places n
+
+-- nothing is found anywhere
+abbrev pub nothing_found : FoundAt
+nothing_found n = None
+
+-- at an address the last that was put there is found
+abbrev pub put_found : FoundAt → Placed → FoundAt
+put_found found f n = if nat_eq f.0 n then Some f.1 else found n
+
+unfoldable pub found_by_address : List Placed → FoundAt
+found_by_address fs = fold put_found nothing_found fs
 
 -- where a tile of an arena is
-abbrev pub place_in : List Placed → Tile → Option Place
+abbrev pub place_in : FoundAt → Tile → Option Place
 place_in found t = elim t.kind [
-  | kinds.Used ↦ at t.addr found
-  | kinds.Free ↦ at t.addr found
+  | kinds.Used ↦ found t.addr
+  | kinds.Free ↦ found t.addr
   | kinds.Top ↦ Some places.Top
   | kinds.Fence ↦ Some places.Fence
 ]
@@ -136,10 +149,10 @@ abbrev pub shown_at : Tile → Option Place → List TileView
 shown_at t None = []
 shown_at t (Some place) = view_of_tile t.addr t.size 0 place ∷ []
 
-abbrev pub shown_tile : List Placed → Tile → List TileView
+abbrev pub shown_tile : FoundAt → Tile → List TileView
 shown_tile found t = shown_at t (place_in found t)
 
-abbrev pub shown_tiles : List Placed → List Tile → List TileView
+abbrev pub shown_tiles : FoundAt → List Tile → List TileView
 shown_tiles found tiles = flat_map (shown_tile found) tiles
 
 -- ---- mapped chunks

@@ -6,7 +6,7 @@ use Rattle.arena_rules.specs.PlainArena.{Plain}
 use Rattle.arena_ground.specs.Grounds.{GroundView}
 use Rattle.arena_core.specs.declared.arena.Arena as held
 use Rattle.stats_text.specs.Views.{Arena}
-use Rattle.world_view.specs.Places.{Placed, bins_of, binned}
+use Rattle.world_view.specs.Places.{Placed, FoundAt, bins_of, binned}
 use Rattle.world_view.specs.Scenes.{arena_shown}
 
 -- the lists of the fast chunks of the arena at an index, where there are ten lists an arena
@@ -27,7 +27,7 @@ binned_from lists index (a ∷ arenas) =
     binned (fast_at lists index) (bins_of a) ++ binned_from lists (index + 1) arenas
 
 -- the arenas as they are shown
-abbrev pub arenas_from : List Placed → List ℕ → List (List ℕ) → ℕ → List Plain → List Arena
+abbrev pub arenas_from : FoundAt → List ℕ → List (List ℕ) → ℕ → List Plain → List Arena
 arenas_from found list lists index [] = []
 arenas_from found list lists index (a ∷ arenas) =
     arena_shown found list (fast_at lists index) a ∷ arenas_from found list lists (index + 1) arenas

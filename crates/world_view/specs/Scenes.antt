@@ -12,7 +12,7 @@ use Rattle.own_blocks.specs.declared.own.Own.{Own}
 use Rattle.stats_text.specs.declared.views.TileView.{TileView}
 use Rattle.stats_text.specs.declared.views.DialsView.{DialsView}
 use Rattle.stats_text.specs.Views.{Arena, CacheList, Shown}
-use Rattle.world_view.specs.Places.{Placed, finds_of, fast_lists, fast_of, bins_of, binned, finds_found, found_by_address, shown_tiles, by_address, mapped_finds}
+use Rattle.world_view.specs.Places.{Placed, finds_of, fast_lists, fast_of, bins_of, binned, finds_found, FoundAt, found_by_address, shown_tiles, by_address, mapped_finds}
 
 -- an arena, and the chunks in its fast bins
 pub record ArenaScene : Type 0 where
@@ -41,8 +41,8 @@ pub record AreArenas (scenes : List ArenaScene) (arenas : List Plain) (lists : L
 abbrev pub all_binned : List ArenaScene → List Placed
 all_binned arenas = flat_map (λ s. binned (fast_of s.fast) (bins_of s.arena)) arenas
 
--- all that is found, by address: the blocks of threads and trays, and the chunks in bins
-unfoldable pub all_found : Scene → List Placed
+-- all that is found: the blocks of threads and trays, and the chunks in bins
+unfoldable pub all_found : Scene → FoundAt
 all_found s = found_by_address (finds_found (finds_of s.owns s.trays) ++ all_binned s.arenas)
 
 -- ---- the parts of a report
@@ -53,7 +53,7 @@ place_in_list number [] = 0
 place_in_list number (other ∷ others) = if other == number then 0 else place_in_list number others + 1
 
 -- an arena with its fast bins, by what is found, and by the list of arenas
-unfoldable pub arena_shown : List Placed → List ℕ → List (ℕ × List ℕ) → Plain → Arena
+unfoldable pub arena_shown : FoundAt → List ℕ → List (ℕ × List ℕ) → Plain → Arena
 arena_shown found list fast a = record {
   number = a.number;
   system = a.system;

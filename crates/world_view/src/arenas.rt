@@ -1,21 +1,21 @@
-//! The arenas, each tile at the place where it is found. All arenas share one map of what is found: first the chunks of all
+//! The arenas, each tile at the place where it is found. All arenas share one table of what is found: first the chunks of all
 //! bins go into it, then each tile is looked up once.
 
 ghost use Rattle.std.specs.Prelude.{◌≡◌, ◌<◌, ◌≤◌, ◌*◌, ◌^◌, ◌++◌, length, map, fold, IfOk, OnOk};
 ghost use Rattle.stats_text.specs.Totals.{AreWithinSystem, idle_bytes_of, system_bytes_of};
-ghost use Rattle.world_view.specs.Places.{binned, bins_of, finds_found, put_found, found_by_address};
+ghost use Rattle.world_view.specs.Places.{found_at, binned, bins_of, finds_found, put_found, found_by_address};
 ghost use Rattle.world_view.specs.Scenes.{arena_shown, place_in_list};
 ghost use Rattle.world_view.specs.Rows.{fast_at, binned_from, arenas_from, plains_of};
 
 use crate::finds::Find;
 use crate::places::{bins, fast_bins, put_bins, put_fast, put_finds, tile_views};
+use crate::table::PlaceTable;
 use arena_core::Arena;
 use arena_ground::Ground;
 use arena_rules::Moves;
 use chunk_tags::{Addr, NoMemory};
-use stats_text::{ArenaView, Place};
+use stats_text::ArenaView;
 use std::alloc::Global;
-use std::collections::BTreeMap;
 
 /// How many arenas stand before one in the list of arenas.
 fn place_in_list(list: &[u8], number: u8) -> u8
@@ -34,13 +34,13 @@ fn place_in_list(list: &[u8], number: u8) -> u8
 #[tactic(auto, unfolding(crate::specs::Places::binned))]
 fn put_binned(
     alloc: Global,
-    found: &mut BTreeMap<u64, Place>,
+    found: &mut PlaceTable,
     ground: &Ground,
     lists: &[Vec<Addr>],
     index: usize,
 ) -> Result<(), NoMemory>
     requires { index < 64 }
-    ensures { OnOk result (found.new.entries ≡ fold put_found found.old.entries
+    ensures { OnOk result (found_at found.new ≡ fold put_found (found_at found.old)
         (binned (fast_at (map (λ l. l.items) lists.now) index) (bins_of ground.now.arena))) }
 {
     let fast = fast_bins(alloc, lists, index)?;
@@ -52,12 +52,12 @@ fn put_binned(
 /// Puts those of all arenas.
 fn put_arenas(
     alloc: Global,
-    found: &mut BTreeMap<u64, Place>,
+    found: &mut PlaceTable,
     arenas: &[Arena<Ground>],
     lists: &[Vec<Addr>],
 ) -> Result<(), NoMemory>
     requires { length arenas.now ≤ 64 }
-    ensures { OnOk result (found.new.entries ≡ fold put_found found.old.entries
+    ensures { OnOk result (found_at found.new ≡ fold put_found (found_at found.old)
         (binned_from (map (λ l. l.items) lists.now) 0 (plains_of arenas.now))) }
 {
     for (index, arena) in arenas.iter().enumerate() {
@@ -73,13 +73,13 @@ fn all_found(
     finds: &[Find],
     arenas: &[Arena<Ground>],
     lists: &[Vec<Addr>],
-) -> Result<BTreeMap<u64, Place>, NoMemory>
+) -> Result<PlaceTable, NoMemory>
     requires { length arenas.now ≤ 64 }
-    ensures { IfOk result (λ m. m.entries ≡ found_by_address
+    ensures { IfOk result (λ m. found_at m ≡ found_by_address
         (finds_found finds.now
         ++ binned_from (map (λ l. l.items) lists.now) 0 (plains_of arenas.now))) }
 {
-    let mut found = BTreeMap::new(alloc);
+    let mut found = PlaceTable::new(alloc, finds.len())?;
     put_finds(&mut found, finds)?;
     put_arenas(alloc, &mut found, arenas, lists)?;
     Ok(found)
@@ -89,7 +89,7 @@ fn all_found(
 #[tactic(auto, unfolding(crate::specs::Scenes::arena_shown))]
 fn arena_view(
     alloc: Global,
-    found: &BTreeMap<u64, Place>,
+    found: &PlaceTable,
     list: &[u8],
     ground: &Ground,
     lists: &[Vec<Addr>],
@@ -97,7 +97,7 @@ fn arena_view(
 ) -> Result<ArenaView, NoMemory>
     requires index { index < 64 }
     requires list { length list.now ≤ 64 }
-    ensures shown { IfOk result (λ a. a ≡ arena_shown found.now.entries list.now
+    ensures shown { IfOk result (λ a. a ≡ arena_shown (found_at found.now) list.now
         (fast_at (map (λ l. l.items) lists.now) index) ground.now.arena) }
     ensures idle { IfOk result (λ a. idle_bytes_of a.tiles ≤ a.system) }
     ensures fits { IfOk result (λ a. a.system ≤ 2 ^ 32) }
@@ -120,14 +120,14 @@ fn arena_view(
 /// All arenas, by what is found.
 fn shown_arenas(
     alloc: Global,
-    found: &BTreeMap<u64, Place>,
+    found: &PlaceTable,
     list: &[u8],
     arenas: &[Arena<Ground>],
     lists: &[Vec<Addr>],
 ) -> Result<Vec<ArenaView>, NoMemory>
     requires arenas { length arenas.now ≤ 64 }
     requires list { length list.now ≤ 64 }
-    ensures shown { IfOk result (λ v. v.items ≡ arenas_from found.now.entries list.now
+    ensures shown { IfOk result (λ v. v.items ≡ arenas_from (found_at found.now) list.now
         (map (λ l. l.items) lists.now) 0 (plains_of arenas.now)) }
     ensures idle { IfOk result (λ v. AreWithinSystem v.items) }
     ensures fits { IfOk result (λ v. system_bytes_of v.items ≤ 2 ^ 38) }

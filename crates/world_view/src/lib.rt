@@ -8,6 +8,7 @@ mod finds;
 mod law;
 mod places;
 mod shown;
+mod table;
 
 pub use law::laws;
 pub use shown::snapshot;

@@ -3,15 +3,15 @@
 ghost use Rattle.std.specs.Prelude.{◌≡◌, ◌<◌, ◌+◌, ◌*◌, [], map, fold, slice_index_or, IfOk, OnOk};
 ghost use Rattle.stats_text.specs.Views.{lists_of};
 ghost use Rattle.stats_text.specs.declared.views.Place.TheVariants as places;
-ghost use Rattle.world_view.specs.Places.{bins_of, placed_in, put_found, place_in, shown_tiles, finds_found};
+ghost use Rattle.world_view.specs.Places.{found_at, bins_of, placed_in, put_found, place_in, shown_tiles, finds_found};
 ghost use Rattle.world_view.specs.Rows.{fast_at};
 
 use crate::finds::{Find, tile};
+use crate::table::PlaceTable;
 use arena_ground::Ground;
 use chunk_tags::{Addr, NoMemory, Tile, TileKind};
 use stats_text::{Place, TileView};
 use std::alloc::Global;
-use std::collections::BTreeMap;
 
 /// How many fast bins an arena has, and how many other bins, with the one that isn't used.
 const FAST_BINS: usize = 10;
@@ -59,31 +59,31 @@ pub fn bins(alloc: Global, ground: &Ground) -> Result<Vec<(u8, Vec<Addr>)>, NoMe
 }
 
 /// Puts the blocks of threads and trays in their places by address.
-pub fn put_finds(found: &mut BTreeMap<u64, Place>, finds: &[Find]) -> Result<(), NoMemory>
-    ensures { OnOk result (found.new.entries
-        ≡ fold put_found found.old.entries (finds_found finds.now)) }
+pub fn put_finds(found: &mut PlaceTable, finds: &[Find]) -> Result<(), NoMemory>
+    ensures { OnOk result (found_at found.new
+        ≡ fold put_found (found_at found.old) (finds_found finds.now)) }
 {
     for find in finds {
-        found.insert(find.tile.addr.0, find.tile.place)?;
+        found.put(find.tile.addr, find.tile.place)?;
     }
     Ok(())
 }
 
 /// Puts the chunks of a list at a place.
-fn put_list(found: &mut BTreeMap<u64, Place>, addrs: &[Addr], place: Place) -> Result<(), NoMemory>
-    ensures { OnOk result (found.new.entries
-        ≡ fold put_found found.old.entries (map (λ addr. (addr, place)) addrs.now)) }
+fn put_list(found: &mut PlaceTable, addrs: &[Addr], place: Place) -> Result<(), NoMemory>
+    ensures { OnOk result (found_at found.new
+        ≡ fold put_found (found_at found.old) (map (λ addr. (addr, place)) addrs.now)) }
 {
     for addr in addrs {
-        found.insert(addr.0, place)?;
+        found.put(*addr, place)?;
     }
     Ok(())
 }
 
 /// Puts the chunks of fast bins.
-pub fn put_fast(found: &mut BTreeMap<u64, Place>, bins: &[(u8, Vec<Addr>)]) -> Result<(), NoMemory>
-    ensures { OnOk result (found.new.entries
-        ≡ fold put_found found.old.entries (placed_in places.Fast (lists_of bins.now))) }
+pub fn put_fast(found: &mut PlaceTable, bins: &[(u8, Vec<Addr>)]) -> Result<(), NoMemory>
+    ensures { OnOk result (found_at found.new
+        ≡ fold put_found (found_at found.old) (placed_in places.Fast (lists_of bins.now))) }
 {
     for bin in bins {
         put_list(found, bin.1.as_slice(), Place::Fast { bin: bin.0 })?;
@@ -92,9 +92,9 @@ pub fn put_fast(found: &mut BTreeMap<u64, Place>, bins: &[(u8, Vec<Addr>)]) -> R
 }
 
 /// Puts the chunks of other bins.
-pub fn put_bins(found: &mut BTreeMap<u64, Place>, bins: &[(u8, Vec<Addr>)]) -> Result<(), NoMemory>
-    ensures { OnOk result (found.new.entries
-        ≡ fold put_found found.old.entries (placed_in places.Bin (lists_of bins.now))) }
+pub fn put_bins(found: &mut PlaceTable, bins: &[(u8, Vec<Addr>)]) -> Result<(), NoMemory>
+    ensures { OnOk result (found_at found.new
+        ≡ fold put_found (found_at found.old) (placed_in places.Bin (lists_of bins.now))) }
 {
     for bin in bins {
         put_list(found, bin.1.as_slice(), Place::Bin { bin: bin.0 })?;
@@ -103,11 +103,11 @@ pub fn put_bins(found: &mut BTreeMap<u64, Place>, bins: &[(u8, Vec<Addr>)]) -> R
 }
 
 /// Where a tile of an arena is.
-fn place(found: &BTreeMap<u64, Place>, t: &Tile) -> Option<Place>
-    ensures { result ≡ place_in found.now.entries t.now }
+fn place(found: &PlaceTable, t: &Tile) -> Option<Place>
+    ensures { result ≡ place_in (found_at found.now) t.now }
 {
     match t.kind {
-        TileKind::Used | TileKind::Free => found.get(&t.addr.0).copied(),
+        TileKind::Used | TileKind::Free => found.at(t.addr),
         TileKind::Top => Some(Place::Top),
         TileKind::Fence => Some(Place::Fence),
     }
@@ -116,10 +116,10 @@ fn place(found: &BTreeMap<u64, Place>, t: &Tile) -> Option<Place>
 /// The tiles of an arena, as they are shown.
 pub fn tile_views(
     alloc: Global,
-    found: &BTreeMap<u64, Place>,
+    found: &PlaceTable,
     tiles: &[Tile],
 ) -> Result<Vec<TileView>, NoMemory>
-    ensures { IfOk result (λ v. v.items ≡ shown_tiles found.now.entries tiles.now) }
+    ensures { IfOk result (λ v. v.items ≡ shown_tiles (found_at found.now) tiles.now) }
 {
     let mut views = Vec::new(alloc);
     for t in tiles {
