@@ -24,6 +24,7 @@ const STRUCTURE_BYTES: u64 = 640;
 /// Opens a cache where it is closed, in a chunk of an arena; where that is refused it stays closed (glibc's `tcache_init`). After
 /// `NoMemory` it is closed still, and a chunk that was found for the structure is in nobody's hand; it never comes where the
 /// cache is open, and then nothing changes.
+#[inline(always)]
 pub fn open_cache<P: Places, K: Kernel>(
     cache: &mut OwnCache,
     alloc: Global,

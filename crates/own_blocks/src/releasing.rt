@@ -96,6 +96,7 @@ pub fn release_past_cache<P: Places, K: Kernel>(
 
 /// Releases a chunk of an arena: into the cache where that takes it, else past it (glibc's `_int_free`). Where memory is short
 /// it comes back, or its arena has it, and the cache is as it was.
+#[inline(always)]
 pub fn release<P: Places, K: Kernel>(
     cache: &mut OwnCache,
     alloc: Global,

@@ -204,6 +204,7 @@ fn put_freed(text: &mut [u8], end: usize, to: Sink3, by_realloc: bool, threads: 
 }
 
 /// Puts a block behind a word, in front of where it came from.
+#[inline(always)]
 fn put_from(
     text: &mut [u8],
     end: usize,

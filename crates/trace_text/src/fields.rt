@@ -36,6 +36,7 @@ fn cut(text: &[u8], byte: u8) -> Option<(&[u8], &[u8])>
 }
 
 /// The bytes before the first newline, and those behind it.
+#[inline(always)]
 pub(crate) fn cut_line(text: &[u8]) -> Option<(&[u8], &[u8])>
     ensures parts { MatchOption result
         (slice_split (λ b. b == 10) text.now ≡ text.now ∷ [])
@@ -100,6 +101,7 @@ impl<'a> Fields<'a> {
     }
 
     /// The number that the next field stands for, if it stands for one. Its digits are passed over once, unless it is long.
+    #[inline(always)]
     #[tactic(auto, using(crate::proofs::Cuts::number_cases))]
     pub(crate) fn take_number(&mut self) -> Result<Option<u64>, BadWhy>
         ensures { MatchResult result

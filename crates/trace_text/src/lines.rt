@@ -147,6 +147,7 @@ impl Lines {
     }
 
     /// Puts a line behind the others; its number is its place. After `NoMemory`, which may come at any time, nothing changed.
+    #[inline(always)]
     pub fn push(&mut self, line: Line) -> Result<(), NoMemory>
         requires { line.number ≡ place_after self.old }
         ensures ok { OnOk result (self.new ≡ self.old ++ line ∷ []) }
