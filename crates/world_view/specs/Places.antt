@@ -84,14 +84,14 @@ finds_of owns trays = threads_finds 0 owns ++ map tray_find trays
 abbrev pub fast_lists : FastState → List (List ℕ)
 fast_lists s = map listed s.bins
 
--- ten lists by number; behind the last one there is none
+-- ten lists by number; what isn't there is empty
 unfoldable pub ten_lists : List (List ℕ) → List (ℕ × List ℕ)
 ten_lists lists = map (λ number. (number, slice_index_or lists number [])) (range_with_len 0 fast_bin_count)
 
 abbrev pub fast_of : FastState → List (ℕ × List ℕ)
 fast_of s = ten_lists (fast_lists s)
 
--- the other bins; none has the number 0
+-- the other bins by number; the one with the number 0 isn't used, and empty
 abbrev pub numbered_bin : Plain → ℕ → ℕ × List ℕ
 numbered_bin a number = (number, map (λ c. c.at) (bin_at a number))
 

@@ -18,7 +18,7 @@ const FAST_BINS: usize = 10;
 
 const BINS: u8 = 127;
 
-/// The list at an index; there is none behind the last one.
+/// The list at an index; behind the last one an empty one.
 fn list(alloc: Global, lists: &[Vec<Addr>], index: usize) -> Result<Vec<Addr>, NoMemory>
     ensures { IfOk result (λ v. v.items ≡ slice_index_or (map (λ l. l.items) lists.now) index []) }
 {

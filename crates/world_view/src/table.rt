@@ -1,6 +1,6 @@
 //! What is found at addresses.
 
-ghost use Rattle.std.specs.Prelude.{◌≡◌, IfOk, OnOk};
+ghost use Rattle.std.specs.Prelude.{◌≡◌, IfOk, OnOk, OnErr};
 ghost use Rattle.world_view.specs.Places.{found_at, nothing_found, put_found};
 
 use chunk_tags::{Addr, NoMemory};
@@ -15,7 +15,7 @@ pub struct PlaceTable {
 }
 
 impl PlaceTable {
-    /// Nothing is found anywhere. There is room for what stands at so many addresses.
+    /// Nothing is found anywhere. `capacity` tells how many addresses there will be, about.
     #[tactic(auto, unfolding(crate::specs::Places::found_at))]
     pub fn new(alloc: Global, capacity: usize) -> Result<PlaceTable, NoMemory>
         ensures { IfOk result (λ found. found_at found ≡ nothing_found) }
@@ -24,10 +24,11 @@ impl PlaceTable {
         Ok(PlaceTable { places })
     }
 
-    /// Puts something at an address. What was there goes.
+    /// Puts something at an address. What was there goes. After `NoMemory` nothing changed.
     #[tactic(auto, unfolding(crate::specs::Places::found_at))]
     pub fn put(&mut self, at: Addr, place: Place) -> Result<(), NoMemory>
-        ensures { OnOk result (found_at self.new ≡ put_found (found_at self.old) (at, place)) }
+        ensures ok { OnOk result (found_at self.new ≡ put_found (found_at self.old) (at, place)) }
+        ensures err { OnErr result (found_at self.new ≡ found_at self.old) }
     {
         self.places.insert(at.0, place)?;
         Ok(())
