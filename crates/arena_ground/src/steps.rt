@@ -19,7 +19,6 @@ use arena_rules::HeapEnd;
 use bin_links::LinkWords;
 use chunk_image::TileWords;
 use chunk_tags::{Addr, Chunk, NoMemory, Size, Tile, TileKind, is_small, large_index, small_index};
-use ordinary_bins::first_bin_from;
 use std::alloc::Global;
 
 /// The bin of unsorted chunks (glibc's `unsorted_chunks`).
@@ -220,7 +219,7 @@ pub(crate) fn first_oldest_from(tiles: &TileWords, links: &LinkWords, bin: u8) -
     ensures { result ≡ first_oldest (drop bin (bins_at tiles.now.tiles links.now.lists)) }
 {
     links.laws();
-    match first_bin_from(links, bin) {
+    match links.first_filled(bin) {
         None => None,
         Some(found) => oldest_in(tiles, links, found),
     }

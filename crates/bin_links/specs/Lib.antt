@@ -1,4 +1,5 @@
 pub use Rattle.part_words.specs.Extents
+pub mod BinMaps
 pub mod Codes
 pub mod Lists
 pub mod NodeWords

@@ -1,6 +1,7 @@
 -- The lists of the bins: glibc 2.31 malloc/malloc.c, the bins of malloc_state as unlink_chunk and the insertions of
 -- _int_malloc and _int_free leave them, seen as lists of chunk addresses, front first.
-use Rattle.std.specs.Prelude.{ℕ, ◌/◌, not, nat_eq, List, [], ◌∷◌, Option, Some, None, if◌then◌else◌, count_by, sum_by, filter, replicate, slice_index_or, slice_set}
+use Rattle.std.specs.Prelude.{ℕ, ◌/◌, Bool, not, nat_eq, List, [], ◌∷◌, Option, Some, None, if◌then◌else◌, count_by, sum_by, filter, drop, length, replicate, slice_index_or, slice_set}
+use Rattle.std.specs.List.{position_from}
 use Rattle.part_words.specs.Extents.{Extent}
 
 -- The lists by the indexes of their bins: 1 is unsorted, 2 to 63 are small, 64 to 126 large; 0 stays empty. And the
@@ -37,6 +38,13 @@ abbrev pub last_of : {X : Type 0} → List X → Option X
 last_of [] = None
 last_of (x ∷ []) = Some x
 last_of (x ∷ y ∷ ys) = last_of (y ∷ ys)
+
+abbrev pub has_chunk : List ℕ → Bool
+has_chunk xs = not (nat_eq (length xs) 0)
+
+-- the first bin from an index on that isn't empty
+abbrev pub first_filled : ℕ → List (List ℕ) → Option ℕ
+first_filled bin lists = position_from has_chunk bin (drop bin lists)
 
 -- a chunk in front of a bin
 abbrev pub put_front : ℕ → ℕ → List (List ℕ) → List (List ℕ)

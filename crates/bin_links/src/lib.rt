@@ -3,6 +3,7 @@
 //! back, and from back to front, spells each list.
 #![tactic(auto)]
 
+mod bin_map;
 mod links;
 mod nodes;
 

@@ -3,7 +3,7 @@
 ghost use Rattle.std.specs.Prelude.{◌≡◌, ◌≢◌, ℕ, ◌+◌, ◌<◌, ◌≤◌, [], ◌∷◌, ◌++◌, List, nat_eq, length, map, slice_set, OnOk, OnErr, IfOk};
 ghost use Rattle.part_words.specs.Extents.{IsOpen, IsWithinPart, extended};
 ghost use Rattle.bin_links.specs.Rings.{chunk_at_node};
-ghost use Rattle.bin_links.specs.Lists.{bin_count, empty_lists, no_extent, list_at, times_listed, first_of, last_of, put_front, without};
+ghost use Rattle.bin_links.specs.Lists.{bin_count, empty_lists, no_extent, list_at, times_listed, first_of, last_of, first_filled, put_front, without};
 
 use crate::nodes::{BINS, Nodes};
 use chunk_tags::{Addr, NoMemory};
@@ -69,6 +69,15 @@ impl LinkWords {
         ensures { result ≡ nat_eq (length (list_at bin self.now.lists)) 0 }
     {
         self.nodes.links(u64::from(bin)).fd < BINS
+    }
+
+    /// The first bin from an index on that has a chunk (the search over larger bins of glibc's `_int_malloc`, by its
+    /// binmap). `None` exactly where all of them are empty.
+    pub fn first_filled(&self, bin: u8) -> Option<u8>
+        requires { bin ≤ bin_count }
+        ensures { result ≡ first_filled bin self.now.lists }
+    {
+        self.nodes.next_filled(bin)
     }
 
     /// Whether a bin has exactly one chunk.

@@ -4,7 +4,9 @@
 ghost use Rattle.std.specs.Prelude.{◌≡◌, ℕ, ◌^◌, ◌<◌, ◌≤◌, vec_len};
 ghost use Rattle.part_words.specs.Parts.{extent_of};
 ghost use Rattle.bin_links.specs.Codes.{AreCoded};
+ghost use Rattle.bin_links.specs.BinMaps.{AreMarked};
 
+use crate::bin_map::BinMap;
 use part_words::Words;
 use std::alloc::{AllocError, Global};
 
@@ -40,16 +42,19 @@ const NEAR_WORDS: u64 = FAR - BINS;
 #[derive(Debug, Drop)]
 pub struct Nodes {
     own: Vec<LinkCodes>,
+    /// Which of the bins' own nodes lead to a chunk.
+    map: BinMap,
     base: u64,
     /// The words from the beginning of one part to that of the next.
     width: u64,
     words: Words<LinkCodes>,
     ghost whole: { vec_len own ≡ 127 },
     ghost coded: { AreCoded base width (extent_of words) },
+    ghost marks: { AreMarked map base width own.items },
 }
 
 impl Nodes {
-    ghost use Rattle.std.specs.Prelude.{◌≢◌, true, false, OnOk, OnErr, IfOk};
+    ghost use Rattle.std.specs.Prelude.{◌≢◌, true, false, OnOk, OnErr, IfOk, IfSome, IfNone};
     ghost use Rattle.part_words.specs.Extents.{IsWithinPart, extended};
     ghost use Rattle.bin_links.specs.Lists.{bin_count, no_extent};
     ghost use Rattle.bin_links.specs.Rings.{IsNode, Redirects, Skips, Splices};
@@ -67,6 +72,7 @@ impl Nodes {
         }
         Ok(Nodes {
             own,
+            map: BinMap::new(),
             base,
             width: stride / 16,
             words: Words::new(alloc, base, stride),
@@ -83,6 +89,19 @@ impl Nodes {
             fd: self.node_of(codes.fd),
             bk: self.node_of(codes.bk),
         }
+    }
+
+    /// The first bin from an index on whose node leads to a chunk.
+    pub fn next_filled(&self, bin: u8) -> Option<u8>
+        requires { bin ≤ bin_count }
+        ensures filled { IfSome result (λ b. (bin ≤ b) × (b < bin_count)
+            × (bin_count ≤ ahead self.now b)) }
+        ensures before { IfSome result
+            (λ b. (n : ℕ) → bin ≤ n → n < b → ahead self.now n < bin_count) }
+        ensures none { IfNone result
+            ((n : ℕ) → bin ≤ n → n < bin_count → ahead self.now n < bin_count) }
+    {
+        self.map.next(bin)
     }
 
     /// The links of a node as they are kept.
@@ -135,6 +154,8 @@ impl Nodes {
         ensures extent { extent self.new ≡ extent self.old }
     {
         if node < BINS {
+            let is_filled = self.node_of(codes.fd) >= BINS;
+            self.map.set(node as u8, is_filled);
             self.own[node as usize] = codes;
         } else {
             self.words.set(node, codes);

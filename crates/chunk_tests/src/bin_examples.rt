@@ -2,8 +2,8 @@
 
 ghost use Rattle.std.specs.Prelude.{◌≡◌, ◌^◌, [], ◌∷◌, Some, None};
 ghost use Rattle.chunk_tags.specs.Sizes.{bin_of};
-ghost use Rattle.bin_links.specs.Lists.{put_front};
-ghost use Rattle.ordinary_bins.specs.BinLists.{oldest_in, first_filled};
+ghost use Rattle.bin_links.specs.Lists.{put_front, first_filled};
+ghost use Rattle.ordinary_bins.specs.BinLists.{oldest_in};
 
 /// A bin gives its oldest chunk first, and the search skips empty bins.
 fn chunks_in_bins()

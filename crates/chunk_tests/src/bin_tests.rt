@@ -2,9 +2,7 @@
 
 use bin_links::LinkWords;
 use chunk_tags::{Addr, Size};
-use ordinary_bins::{
-    first_bin_from, oldest_unsorted, only_unsorted, push_unsorted, put_small, take_small,
-};
+use ordinary_bins::{oldest_unsorted, only_unsorted, push_unsorted, put_small, take_small};
 use std::test::Fail;
 
 #[test]
@@ -17,10 +15,10 @@ fn bins_of_two_chunks(rt: HostRuntime) -> Result<(), Fail> {
         (true, Some(Addr(4096)))
     );
     put_small(&mut links, Addr(4128), Size(32));
-    let filled = first_bin_from(&links, 2);
+    let filled = links.first_filled(2);
     let taken = take_small(&mut links, Size(32));
     assert_eq!(rt;
-        (filled, taken, first_bin_from(&links, 2)),
+        (filled, taken, links.first_filled(2)),
         (Some(2), Some(Addr(4128)), None)
     );
     Ok(())

@@ -1,7 +1,6 @@
 -- The order of unsorted and of the small bins: glibc 2.31 malloc/malloc.c, the unsorted chunks and small bins of
 -- _int_malloc and _int_free. A chunk is put in front, and the last chunk is the oldest.
-use Rattle.std.specs.Prelude.{ℕ, Bool, not, nat_eq, List, Option, Some, None, map, drop, length}
-use Rattle.std.specs.List.{position_from}
+use Rattle.std.specs.Prelude.{ℕ, List, Option, Some, None, map}
 use Rattle.bin_links.specs.Lists.{list_at, last_of, without}
 
 -- the bin of chunks that aren't sorted yet (unsorted_chunks)
@@ -19,10 +18,3 @@ oldest_in bin lists = last_of (list_at bin lists)
 abbrev pub lists_without : Option ℕ → List (List ℕ) → List (List ℕ)
 lists_without None lists = lists
 lists_without (Some at) lists = map (without at) lists
-
-abbrev pub has_chunk : List ℕ → Bool
-has_chunk xs = not (nat_eq (length xs) 0)
-
--- the first bin from an index on that isn't empty
-abbrev pub first_filled : ℕ → List (List ℕ) → Option ℕ
-first_filled bin lists = position_from has_chunk bin (drop bin lists)

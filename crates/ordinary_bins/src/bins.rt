@@ -4,16 +4,13 @@ ghost use Rattle.std.specs.Prelude.{◌≡◌, ◌<◌, ◌≤◌, nat_eq, lengt
 ghost use Rattle.bin_links.specs.Extents.{IsOpen};
 ghost use Rattle.chunk_tags.specs.Sizes.{small_index_of, IsChunkSize};
 ghost use Rattle.bin_links.specs.Lists.{bin_count, times_listed, put_front};
-ghost use Rattle.ordinary_bins.specs.BinLists.{unsorted_bin, unsorted_of, oldest_in, lists_without, first_filled};
+ghost use Rattle.ordinary_bins.specs.BinLists.{unsorted_bin, unsorted_of, oldest_in, lists_without};
 
 use bin_links::LinkWords;
 use chunk_tags::{Addr, Size, small_index};
 
 /// The bin of chunks that aren't sorted yet (glibc's `unsorted_chunks`).
 const UNSORTED: u8 = 1;
-
-/// One more than the last bin.
-const BINS: u8 = 127;
 
 /// Puts a free chunk in front of unsorted (as glibc's `_int_free` and `malloc_consolidate` do).
 pub fn push_unsorted(links: &mut LinkWords, at: Addr)
@@ -65,19 +62,4 @@ pub fn take_small(links: &mut LinkWords, size: Size) -> Option<Addr>
     let at = links.last(small_index(size))?;
     links.unlink(at);
     Some(at)
-}
-
-/// The first bin from an index on that has a chunk (the search over larger bins of glibc's `_int_malloc`; its binmap
-/// is not kept). `None` exactly where all of them are empty.
-pub fn first_bin_from(links: &LinkWords, bin: u8) -> Option<u8>
-    requires { bin ≤ bin_count }
-    ensures { result ≡ first_filled bin links.now.lists }
-{
-    links.laws();
-    for index in bin..BINS {
-        if !links.is_empty(index) {
-            return Some(index);
-        }
-    }
-    None
 }
