@@ -4,6 +4,7 @@
 
 mod far;
 mod names;
+mod near;
 mod slot;
 
 pub use far::FarNames;

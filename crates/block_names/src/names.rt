@@ -5,6 +5,7 @@ ghost use Rattle.block_names.specs.Blocks.{IsHeld};
 ghost use Rattle.block_names.specs.Names.{IsTable, FarNamesRise, no_names, has_place, block_at, with_place, with_block, without_block, tidied};
 
 use crate::far::FarNames;
+use crate::near::NearNames;
 use chunk_tags::{Block, NoMemory};
 use std::alloc::Global;
 use std::marker::Model;
@@ -16,7 +17,7 @@ const NEAR_NAMES: u32 = 65536;
 /// largest that was made ready, and of the others one for each that was (this project's own).
 #[derive(Debug, Drop)]
 pub struct Names {
-    near: Vec<Option<Block>>,
+    near: NearNames,
     far: FarNames,
 }
 
@@ -25,21 +26,9 @@ impl Model for Names {
 
     ghost Value = { NameTable };
 
-    ghost view = { λ n. record { near = n.near.items; far = n.far } };
+    ghost view = { λ n. record { near = n.near; far = n.far } };
 
-    ghost invariant = { λ n. IsTable (record { near = n.near.items; far = n.far }) };
-}
-
-/// Appends so many places without a block. After `NoMemory` nothing changed.
-fn append_empty(slots: &mut Vec<Option<Block>>, count: usize) -> Result<(), NoMemory>
-    ensures ok { OnOk result (slots.new.items ≡ slots.old.items ++ replicate count None) }
-    ensures err { OnErr result (slots.new.items ≡ slots.old.items) }
-{
-    slots.reserve(count)?;
-    for _n in 0..count {
-        slots.push(None).unwrap();
-    }
-    Ok(())
+    ghost invariant = { λ n. IsTable (record { near = n.near; far = n.far }) };
 }
 
 impl Names {
@@ -49,7 +38,7 @@ impl Names {
         ensures { result ≡ no_names }
     {
         Names {
-            near: Vec::new(alloc),
+            near: NearNames::new(alloc),
             far: FarNames::new(alloc),
         }
     }
@@ -87,7 +76,7 @@ impl Names {
         }
         if name < NEAR_NAMES {
             let missing = name as usize + 1 - self.near.len();
-            append_empty(&mut self.near, missing)
+            self.near.append(missing)
         } else {
             self.far.make(name)?;
             Ok(())
@@ -112,7 +101,7 @@ impl Names {
     pub fn in_row(&self, name: u32) -> Option<&Block>
         ensures { option_copied result ≡ slice_index_or self.now.near name None }
     {
-        self.near.get(name as usize)?.as_ref()
+        self.near.get(name as usize)
     }
 
     /// The block of a name. `None` exactly where the name holds nothing.
@@ -122,7 +111,7 @@ impl Names {
         ensures held { IfSome result (λ b. IsHeld b.now) }
     {
         if name < NEAR_NAMES {
-            self.near.get(name as usize)?.as_ref()
+            self.near.get(name as usize)
         } else {
             self.far.get(name)
         }
@@ -137,7 +126,7 @@ impl Names {
         ensures { self.new ≡ with_block name block self.old }
     {
         if name < NEAR_NAMES {
-            self.near[name as usize] = Some(block);
+            self.near.put(name as usize, block);
         } else {
             self.far.put(name, block);
         }
@@ -151,13 +140,10 @@ impl Names {
         ensures held { IfSome result IsHeld }
     {
         if name < NEAR_NAMES {
-            let place = name as usize;
-            if place < self.near.len() {
-                return self.near[place].take();
-            }
-            return None;
+            self.near.take(name as usize)
+        } else {
+            self.far.take(name)
         }
-        self.far.take(name)
     }
 
     /// Lets the place of a name go, where that is one of its own and empty; nothing else changes.
