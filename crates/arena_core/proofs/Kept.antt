@@ -15,8 +15,8 @@ use Rattle.arena_core.specs.Kept.{AreKept, IsDeedOf, told_of, wholes_of, told_in
 
 -- a row's entry is the same where more follows
 entry-more : (who : Who) (d : Deed) (ss ts : List Said) (es ms : List Recorded) → told_of d ≤ length ss → wholes_of d ≤ length es → entry_in who d (ss ++ ts) (es ++ ms) ≡ entry_in who d ss es
-entry-more who (Took nb addr size mapped told) ss ts es ms few one = rw (take-append-le told ss ts few) refl
-entry-more who (Gave addr size told) ss ts es ms few one = rw (take-append-le told ss ts few) refl
+entry-more who (Took mapped told nb addr size) ss ts es ms few one = rw (take-append-le told ss ts few) refl
+entry-more who (Gave told addr size) ss ts es ms few one = rw (take-append-le told ss ts few) refl
 entry-more who Whole ss ts es ms few one = take-append-le 1 es ms one
 
 -- the rows behind the first, with their answers and whole entries
@@ -61,8 +61,8 @@ pub kept-whole : (rs : List Row) (who : Who) (ss : List Said) (es : List Recorde
 kept-whole rs who ss es e k = rw (append-nil ss) at (kept_push rs (record { who = who; deed = Whole }) ss [] es (e ∷ []) k refl refl)
 
 one_entry : (who : Who) (d : Deed) (ss : List Said) (es : List Recorded) → wholes_of d ≤ length es → length (entry_in who d ss es) ≡ 1
-one_entry who (Took nb addr size mapped told) ss es one = refl
-one_entry who (Gave addr size told) ss es one = refl
+one_entry who (Took mapped told nb addr size) ss es one = refl
+one_entry who (Gave told addr size) ss es one = refl
 one_entry who Whole ss [] one = absurd (omega (arith, one))
 one_entry who Whole ss (e ∷ es) one = refl
 

@@ -27,19 +27,19 @@ said_of (briefs.Dial number) = told.Dial number
 
 -- how many brief answers, and how many whole entries, belong to a deed
 abbrev pub told_of : Deed → ℕ
-told_of (Took nb addr size mapped told) = told
-told_of (Gave addr size told) = told
+told_of (Took mapped told nb addr size) = told
+told_of (Gave told addr size) = told
 told_of Whole = 0
 
 abbrev pub wholes_of : Deed → ℕ
-wholes_of (Took nb addr size mapped told) = 0
-wholes_of (Gave addr size told) = 0
+wholes_of (Took mapped told nb addr size) = 0
+wholes_of (Gave told addr size) = 0
 wholes_of Whole = 1
 
 -- the entry of a row: with the next answers, or the next whole one
 abbrev pub entry_in : Who → Deed → List Said → List Recorded → List Recorded
-entry_in who (Took nb addr size mapped told) ss es = recorded who (Take nb) (take told ss) (Got addr size mapped) ∷ []
-entry_in who (Gave addr size told) ss es = recorded who (Give addr size) (take told ss) Done ∷ []
+entry_in who (Took mapped told nb addr size) ss es = recorded who (Take nb) (take told ss) (Got addr size mapped) ∷ []
+entry_in who (Gave told addr size) ss es = recorded who (Give addr size) (take told ss) Done ∷ []
 entry_in who Whole ss es = take 1 es
 
 -- the entries of rows, with their brief answers, and those that are kept whole

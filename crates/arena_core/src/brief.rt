@@ -51,20 +51,20 @@ pub fn whole_of(brief: &Brief) -> Said
 }
 
 /// What a hold was for and how it ended, with how many answers it had, which are brief; or that its entry is kept whole
-/// (this project's own).
+/// (this project's own). The small fields come first, so that they lie beside the number of the variant.
 #[derive(Clone, Copy, Debug, PartialEq, Eq)]
 pub enum Deed {
     Took {
+        mapped: bool,
+        told: u8,
         nb: Size,
         addr: Addr,
         size: Size,
-        mapped: bool,
-        told: u8,
     },
     Gave {
+        told: u8,
         addr: Addr,
         size: Size,
-        told: u8,
     },
     Whole,
 }

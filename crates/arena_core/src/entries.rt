@@ -11,8 +11,8 @@ use chunk_tags::NoMemory;
 use std::alloc::Global;
 use std::marker::Model;
 
-/// The journal of an arena: an entry for each of its holds, in order (this project's own). It stands behind a pointer, so an
-/// arena that is lent moves at the cost of two of them.
+/// The journal of an arena: an entry for each of its holds, in order (this project's own). It stands behind a pointer, so that
+/// an arena which is lent moves in two pointers.
 #[derive(Drop)]
 pub struct Journal {
     lists: Box<JournalLists>,

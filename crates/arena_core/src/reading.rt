@@ -1,6 +1,6 @@
 //! The entries of a journal, one by one.
 
-ghost use Rattle.std.specs.Prelude.{◌≡◌, ◌∷◌, [], ◌++◌, length, map, IfOk, OnOk, MatchOption};
+ghost use Rattle.std.specs.Prelude.{◌≡◌, ◌∷◌, [], ◌++◌, length, map, IfOk, OnOk, OnErr, MatchOption};
 ghost use Rattle.arena_core.specs.Kept.{AreKept, said_of, told_of, wholes_of, entry_in, entries_of};
 
 use crate::brief::{Brief, Deed, Row, whole_of};
@@ -132,10 +132,11 @@ impl<'a> Entries<'a> {
         }
     }
 
-    /// The next entry; `None` exactly where there is none left.
+    /// The next entry; `None` exactly where there is none left. After `NoMemory` it is still to come.
     pub fn next(&mut self, alloc: Global) -> Result<Option<Entry>, NoMemory>
-        ensures { IfOk result (λ next. MatchOption next
+        ensures next { IfOk result (λ next. MatchOption next
             (self.old ≡ []) (λ entry. self.old ≡ entry ∷ self.new)) }
+        ensures err { OnErr result (self.new ≡ self.old) }
     {
         let Some((row, rows)) = self.rows.split_first() else {
             return Ok(None);
