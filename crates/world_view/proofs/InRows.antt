@@ -1,12 +1,12 @@
 -- Arenas one after another are those of a scene.
-use Rattle.std.proofs.Common.{◌≡◌, ℕ, zero, suc, ◌+◌, ◌*◌, ◌<◌, ◌≤◌, List, [], ◌∷◌, ◌++◌, map, length, get_or, refl, sym, ap, ◌∙◌, append_assoc, arith}
+use Rattle.std.proofs.Common.{◌≡◌, ℕ, zero, suc, ◌+◌, ◌*◌, ◌<◌, ◌≤◌, List, [], ◌∷◌, ◌++◌, map, length, get_or, fold, refl, sym, ap, ◌∙◌, append_assoc, arith}
 use Rattle.std.specs.List.{AllByRecursion, flat_map, range_with_len}
+use Rattle.std.proofs.lemmas.List.Sums.{fold-append}
 use Rattle.std.proofs.lemmas.List.{get_or-append-add, get_or_append_left, length-append, length-map}
 use Rattle.fast_bins.specs.PlainBins.{listed}
 use Rattle.arena_rules.specs.PlainArena.{Plain}
 use Rattle.stats_text.specs.Views.{Arena}
-use Rattle.world_view.specs.declared.finds.Find.{Find}
-use Rattle.world_view.specs.Places.{Placed, FoundAt, finds_of, fast_lists, fast_of, ten_lists, bins_of, binned, finds_found, found_by_address}
+use Rattle.world_view.specs.Places.{Placed, FoundAt, finds_of, fast_lists, fast_of, ten_lists, bins_of, binned, finds_found, nothing_found, put_found, found_by_address}
 use Rattle.world_view.specs.Scenes.{ArenaScene, Scene, AreArenas, all_binned, all_found, arena_shown, shown_arena}
 use Rattle.world_view.specs.Rows.{fast_at, fast_bin_at, binned_from, arenas_from}
 
@@ -83,13 +83,15 @@ rows_shown found list scenes arenas lists are =
     ∙ shown_rows found list [] 0 scenes refl are.ten
 
 -- the arenas of a scene, as the code shows them
-pub arenas_shown : (s : Scene) (arenas : List Plain) (lists : List (List ℕ)) (finds : List Find) (list : List ℕ) (views : List Arena) → AreArenas s.arenas arenas lists → finds ≡ finds_of s.owns s.trays → list ≡ s.book.list →
-    views ≡ arenas_from (found_by_address (finds_found finds ++ binned_from lists 0 arenas)) list lists 0 arenas → views ≡ map (shown_arena s) s.arenas
-unfolding all_found
-arenas_shown s arenas lists finds list views are found order shown =
-    let all : List Find = finds_of s.owns s.trays in
+pub arenas_shown : (s : Scene) (arenas : List Plain) (lists : List (List ℕ)) (list : List ℕ) (found : FoundAt) (views : List Arena) → AreArenas s.arenas arenas lists →
+    found ≡ found_by_address (finds_found (finds_of s.owns s.trays)) → list ≡ s.book.list →
+    views ≡ arenas_from (fold put_found found (binned_from lists 0 arenas)) list lists 0 arenas → views ≡ map (shown_arena s) s.arenas
+unfolding all_found found_by_address
+arenas_shown s arenas lists list found views are before order shown =
+    let blocks : List Placed = finds_found (finds_of s.owns s.trays) in
     shown
-    ∙ ap (λ fs. arenas_from (found_by_address (finds_found fs ++ binned_from lists 0 arenas)) list lists 0 arenas) found
-    ∙ ap (λ ns. arenas_from (found_by_address (finds_found all ++ binned_from lists 0 arenas)) ns lists 0 arenas) order
-    ∙ ap (λ binned. arenas_from (found_by_address (finds_found all ++ binned)) s.book.list lists 0 arenas) (rows_binned s.arenas arenas lists are)
-    ∙ rows_shown (found_by_address (finds_found all ++ all_binned s.arenas)) s.book.list s.arenas arenas lists are
+    ∙ ap (λ at. arenas_from (fold put_found at (binned_from lists 0 arenas)) list lists 0 arenas) before
+    ∙ ap (λ ns. arenas_from (fold put_found (fold put_found nothing_found blocks) (binned_from lists 0 arenas)) ns lists 0 arenas) order
+    ∙ ap (λ binned. arenas_from (fold put_found (fold put_found nothing_found blocks) binned) s.book.list lists 0 arenas) (rows_binned s.arenas arenas lists are)
+    ∙ ap (λ at. arenas_from at s.book.list lists 0 arenas) (sym (fold-append put_found nothing_found blocks (all_binned s.arenas)))
+    ∙ rows_shown (found_by_address (blocks ++ all_binned s.arenas)) s.book.list s.arenas arenas lists are

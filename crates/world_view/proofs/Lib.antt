@@ -4,6 +4,7 @@ mod Going
 mod InRows
 mod ByAddress
 mod FarFinds
+mod Seeing
 mod Finding
 mod InUse
 mod MappedShown

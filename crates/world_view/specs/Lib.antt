@@ -4,4 +4,5 @@ pub use Rattle.malloc_calls.specs.Threads
 pub mod Places
 pub mod Scenes
 pub mod Rows
+pub mod Sights
 pub mod Shows

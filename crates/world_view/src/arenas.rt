@@ -1,14 +1,13 @@
-//! The arenas, each tile at the place where it is found. All arenas share one table of what is found: first the chunks of all
-//! bins go into it, then each tile is looked up once.
+//! The arenas, each tile at the place where it is found. All arenas share one table of what is found, which has the blocks of
+//! threads and trays: first the chunks of all bins go into it, then each tile is looked up once.
 
-ghost use Rattle.std.specs.Prelude.{◌≡◌, ◌<◌, ◌≤◌, ◌*◌, ◌^◌, ◌++◌, length, map, fold, IfOk, OnOk};
+ghost use Rattle.std.specs.Prelude.{◌≡◌, ◌<◌, ◌≤◌, ◌^◌, length, map, fold, IfOk, OnOk};
 ghost use Rattle.stats_text.specs.Totals.{AreWithinSystem, idle_bytes_of, system_bytes_of};
-ghost use Rattle.world_view.specs.Places.{found_at, binned, bins_of, finds_found, put_found, found_by_address};
+ghost use Rattle.world_view.specs.Places.{found_at, binned, bins_of, put_found};
 ghost use Rattle.world_view.specs.Scenes.{arena_shown, place_in_list};
 ghost use Rattle.world_view.specs.Rows.{fast_at, binned_from, arenas_from, plains_of};
 
-use crate::finds::Find;
-use crate::places::{bins, fast_bins, put_bins, put_fast, put_finds, tile_views};
+use crate::places::{bins, fast_bins, put_bins, put_fast, tile_views};
 use crate::table::PlaceTable;
 use arena_core::Arena;
 use arena_ground::Ground;
@@ -66,25 +65,6 @@ fn put_arenas(
     Ok(())
 }
 
-/// All that is found, by address.
-#[tactic(auto, unfolding(crate::specs::Places::found_by_address))]
-fn all_found(
-    alloc: Global,
-    finds: &[Find],
-    arenas: &[Arena<Ground>],
-    lists: &[Vec<Addr>],
-) -> Result<PlaceTable, NoMemory>
-    requires { length arenas.now ≤ 64 }
-    ensures { IfOk result (λ m. found_at m ≡ found_by_address
-        (finds_found finds.now
-        ++ binned_from (map (λ l. l.items) lists.now) 0 (plains_of arenas.now))) }
-{
-    let mut found = PlaceTable::new(alloc, finds.len())?;
-    put_finds(&mut found, finds)?;
-    put_arenas(alloc, &mut found, arenas, lists)?;
-    Ok(found)
-}
-
 /// The arena at an index.
 #[tactic(auto, unfolding(crate::specs::Scenes::arena_shown))]
 fn arena_view(
@@ -139,23 +119,22 @@ fn shown_arenas(
     Ok(views)
 }
 
-/// All arenas, by the blocks of threads and trays.
+/// All arenas, by what is found beside their bins.
 pub fn arena_views(
     alloc: Global,
-    finds: &[Find],
+    found: &mut PlaceTable,
     list: &[u8],
     arenas: &[Arena<Ground>],
     lists: &[Vec<Addr>],
 ) -> Result<Vec<ArenaView>, NoMemory>
     requires arenas { length arenas.now ≤ 64 }
     requires list { length list.now ≤ 64 }
-    ensures shown { IfOk result (λ v. v.items ≡ arenas_from (found_by_address
-        (finds_found finds.now
-        ++ binned_from (map (λ l. l.items) lists.now) 0 (plains_of arenas.now)))
+    ensures shown { IfOk result (λ v. v.items ≡ arenas_from (fold put_found (found_at found.old)
+        (binned_from (map (λ l. l.items) lists.now) 0 (plains_of arenas.now)))
         list.now (map (λ l. l.items) lists.now) 0 (plains_of arenas.now)) }
     ensures idle { IfOk result (λ v. AreWithinSystem v.items) }
     ensures fits { IfOk result (λ v. system_bytes_of v.items ≤ 2 ^ 38) }
 {
-    let found = all_found(alloc, finds, arenas, lists)?;
-    shown_arenas(alloc, &found, list, arenas, lists)
+    put_arenas(alloc, found, arenas, lists)?;
+    shown_arenas(alloc, found, list, arenas, lists)
 }

@@ -1,10 +1,13 @@
-//! The blocks of threads and trays, each with the place where it is found.
+//! The blocks of threads and trays, each seen at the place where it is found.
 
-ghost use Rattle.std.specs.Prelude.{◌≡◌, ◌≤◌, ◌++◌, length, map, not, is_some, IfOk, OnOk};
+ghost use Rattle.std.specs.Prelude.{◌≡◌, ◌≤◌, length, map, fold, IfOk, OnOk};
+ghost use Rattle.std.specs.Map.{values_of};
 ghost use Rattle.thread_cache.specs.Caches.{cached_tiles, structure_of};
 ghost use Rattle.malloc_calls.specs.Threads.{own_of, names_of};
-ghost use Rattle.world_view.specs.Places.{view_of_tile, block_find, named_from, far_finds, cached_find, structure_finds, thread_finds, threads_finds, tray_find, finds_of};
+ghost use Rattle.world_view.specs.Places.{view_of_tile, block_find, named_from, far_finds, cached_find, structure_finds, thread_finds, threads_finds, tray_find, finds_of, finds_found, found_at, found_by_address, mapped_finds, by_address};
+ghost use Rattle.world_view.specs.Sights.{seen_in, put_seen};
 
+use crate::sights::Sights;
 use address_space::Kernel;
 use chunk_tags::{Addr, Block, NoMemory, Size};
 use malloc_calls::Thread;
@@ -41,14 +44,10 @@ fn block_at_place(block: &Block, place: Place) -> Find
     }
 }
 
-/// Appends the blocks of a thread that are in the row.
-fn append_row<K: Kernel>(
-    finds: &mut Vec<Find>,
-    number: u8,
-    thread: &Thread<K>,
-) -> Result<(), NoMemory>
-    ensures { OnOk result (finds.new.items
-        ≡ finds.old.items ++ named_from number 0 (names_of thread.now).near) }
+/// Sees the blocks of a thread that are in the row.
+fn see_row<K: Kernel>(sights: &mut Sights, number: u8, thread: &Thread<K>) -> Result<(), NoMemory>
+    ensures { OnOk result (seen_in sights.new
+        ≡ fold put_seen (seen_in sights.old) (named_from number 0 (names_of thread.now).near)) }
 {
     for name in 0..thread.row() {
         if let Some(block) = thread.in_row(name) {
@@ -56,21 +55,17 @@ fn append_row<K: Kernel>(
                 thread: number,
                 name,
             };
-            finds.push(block_at_place(block, place))?;
+            sights.put(&block_at_place(block, place))?;
         }
     }
     Ok(())
 }
 
-/// Appends those whose names have places of their own.
-#[tactic(auto, using(crate::proofs::FarFinds::found_behind))]
-fn append_far<K: Kernel>(
-    finds: &mut Vec<Find>,
-    number: u8,
-    thread: &Thread<K>,
-) -> Result<(), NoMemory>
-    ensures { OnOk result (finds.new.items
-        ≡ finds.old.items ++ far_finds number (names_of thread.now).far) }
+/// Sees those whose names have places of their own.
+#[tactic(auto, using(crate::proofs::FarFinds::seen_by_name))]
+fn see_far<K: Kernel>(sights: &mut Sights, number: u8, thread: &Thread<K>) -> Result<(), NoMemory>
+    ensures { OnOk result (seen_in sights.new
+        ≡ fold put_seen (seen_in sights.old) (far_finds number (names_of thread.now).far)) }
 {
     for name in thread.far().names() {
         if let Some(block) = thread.far().get(*name) {
@@ -78,26 +73,27 @@ fn append_far<K: Kernel>(
                 thread: number,
                 name: *name,
             };
-            finds.push(block_at_place(block, place))?;
+            sights.put(&block_at_place(block, place))?;
         }
     }
     Ok(())
 }
 
-/// Appends the chunks of a thread's cache.
-fn append_cached<K: Kernel>(
+/// Sees the chunks of a thread's cache.
+fn see_cached<K: Kernel>(
     alloc: Global,
-    finds: &mut Vec<Find>,
+    sights: &mut Sights,
     number: u8,
     thread: &Thread<K>,
 ) -> Result<(), NoMemory>
-    ensures { OnOk result (finds.new.items
-        ≡ finds.old.items ++ map (cached_find number) (cached_tiles (own_of thread.now).cache)) }
+    ensures { OnOk result (seen_in sights.new
+        ≡ fold put_seen (seen_in sights.old)
+        (map (cached_find number) (cached_tiles (own_of thread.now).cache))) }
 {
     let cached = thread.cache().tiles(alloc)?;
     for chunk in &cached {
         let place = Place::Cache { thread: number };
-        finds.push(Find {
+        sights.put(&Find {
             tile: tile(chunk.addr, chunk.size, 0, place),
             mapped: false,
         })?;
@@ -105,78 +101,92 @@ fn append_cached<K: Kernel>(
     Ok(())
 }
 
-/// Appends the chunk of an open cache's structure.
-fn append_structure<K: Kernel>(
-    finds: &mut Vec<Find>,
+/// Sees the chunk of an open cache's structure.
+fn see_structure<K: Kernel>(
+    sights: &mut Sights,
     number: u8,
     thread: &Thread<K>,
 ) -> Result<(), NoMemory>
-    ensures { OnOk result (finds.new.items
-        ≡ finds.old.items ++ structure_finds number (structure_of (own_of thread.now).cache)) }
+    ensures { OnOk result (seen_in sights.new
+        ≡ fold put_seen (seen_in sights.old)
+        (structure_finds number (structure_of (own_of thread.now).cache))) }
 {
     if let Some(block) = thread.cache().structure() {
         let place = Place::Structure { thread: number };
-        finds.push(block_at_place(block, place))?;
+        sights.put(&block_at_place(block, place))?;
     }
     Ok(())
 }
 
-/// Appends all blocks of a thread.
+/// Sees all blocks of a thread.
 #[tactic(auto, unfolding(crate::specs::Places::thread_finds))]
-fn append_thread<K: Kernel>(
+fn see_thread<K: Kernel>(
     alloc: Global,
-    finds: &mut Vec<Find>,
+    sights: &mut Sights,
     number: u8,
     thread: &Thread<K>,
 ) -> Result<(), NoMemory>
-    ensures { OnOk result (finds.new.items
-        ≡ finds.old.items ++ thread_finds number (own_of thread.now)) }
+    ensures { OnOk result (seen_in sights.new
+        ≡ fold put_seen (seen_in sights.old) (thread_finds number (own_of thread.now))) }
 {
-    append_row(finds, number, thread)?;
-    append_far(finds, number, thread)?;
-    append_cached(alloc, finds, number, thread)?;
-    append_structure(finds, number, thread)
+    see_row(sights, number, thread)?;
+    see_far(sights, number, thread)?;
+    see_cached(alloc, sights, number, thread)?;
+    see_structure(sights, number, thread)
 }
 
-/// Appends those of all threads.
-fn append_threads<K: Kernel>(
+/// Sees those of all threads.
+fn see_threads<K: Kernel>(
     alloc: Global,
-    finds: &mut Vec<Find>,
+    sights: &mut Sights,
     threads: &[Thread<K>],
 ) -> Result<(), NoMemory>
     requires { length threads.now ≤ 64 }
-    ensures { OnOk result (finds.new.items
-        ≡ finds.old.items ++ threads_finds 0 (map own_of threads.now)) }
+    ensures { OnOk result (seen_in sights.new
+        ≡ fold put_seen (seen_in sights.old) (threads_finds 0 (map own_of threads.now))) }
 {
     for (number, thread) in threads.iter().enumerate() {
-        append_thread(alloc, finds, number as u8, thread)?;
+        see_thread(alloc, sights, number as u8, thread)?;
     }
     Ok(())
 }
 
-/// Appends the blocks in trays.
-fn append_trays(finds: &mut Vec<Find>, trays: &[(u32, Block)]) -> Result<(), NoMemory>
-    ensures { OnOk result (finds.new.items ≡ finds.old.items ++ map tray_find trays.now) }
+/// Sees the blocks in trays.
+fn see_trays(sights: &mut Sights, trays: &[(u32, Block)]) -> Result<(), NoMemory>
+    ensures { OnOk result (seen_in sights.new
+        ≡ fold put_seen (seen_in sights.old) (map tray_find trays.now)) }
 {
     for tray in trays {
         let place = Place::Tray { tray: tray.0 };
-        finds.push(block_at_place(&tray.1, place))?;
+        sights.put(&block_at_place(&tray.1, place))?;
     }
     Ok(())
 }
 
+/// How many places the names of all threads have. No more blocks have names.
+fn places_of_names<K: Kernel>(threads: &[Thread<K>]) -> usize {
+    let mut places: usize = 0;
+    for thread in threads {
+        places = places.saturating_add(thread.row() as usize);
+        places = places.saturating_add(thread.far().len());
+    }
+    places
+}
+
 /// The blocks of all threads and of all full trays.
-#[tactic(auto, unfolding(crate::specs::Places::finds_of))]
-pub fn finds<K: Kernel>(
+pub fn sights<K: Kernel>(
     alloc: Global,
     threads: &[Thread<K>],
     trays: &[(u32, Block)],
-) -> Result<Vec<Find>, NoMemory>
+) -> Result<Sights, NoMemory>
     requires { length threads.now ≤ 64 }
-    ensures { IfOk result (λ v. v.items ≡ finds_of (map own_of threads.now) trays.now) }
+    ensures found { IfOk result (λ s. found_at s.found
+        ≡ found_by_address (finds_found (finds_of (map own_of threads.now) trays.now))) }
+    ensures mapped { IfOk result (λ s. values_of s.mapped.entries
+        ≡ by_address (mapped_finds (finds_of (map own_of threads.now) trays.now))) }
 {
-    let mut finds = Vec::new(alloc);
-    append_threads(alloc, &mut finds, threads)?;
-    append_trays(&mut finds, trays)?;
-    Ok(finds)
+    let mut sights = Sights::new(alloc, places_of_names(threads))?;
+    see_threads(alloc, &mut sights, threads)?;
+    see_trays(&mut sights, trays)?;
+    Ok(sights)
 }

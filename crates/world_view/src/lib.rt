@@ -9,6 +9,7 @@ mod finds;
 mod law;
 mod places;
 mod shown;
+mod sights;
 mod table;
 
 pub use law::laws;

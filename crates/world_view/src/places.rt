@@ -1,12 +1,12 @@
 //! The chunks of arenas, each at the place where it is found.
 
-ghost use Rattle.std.specs.Prelude.{◌≡◌, ◌<◌, ◌+◌, ◌*◌, [], map, fold, slice_index_or, IfOk, OnOk};
+ghost use Rattle.std.specs.Prelude.{◌≡◌, ◌<◌, [], map, fold, slice_index_or, IfOk, OnOk};
 ghost use Rattle.stats_text.specs.Views.{lists_of};
 ghost use Rattle.stats_text.specs.declared.views.Place.TheVariants as places;
-ghost use Rattle.world_view.specs.Places.{found_at, bins_of, placed_in, put_found, place_in, shown_tiles, finds_found};
+ghost use Rattle.world_view.specs.Places.{found_at, bins_of, placed_in, put_found, place_in, shown_tiles};
 ghost use Rattle.world_view.specs.Rows.{fast_at};
 
-use crate::finds::{Find, tile};
+use crate::finds::tile;
 use crate::table::PlaceTable;
 use arena_ground::Ground;
 use chunk_tags::{Addr, NoMemory, Tile, TileKind};
@@ -56,17 +56,6 @@ pub fn bins(alloc: Global, ground: &Ground) -> Result<Vec<(u8, Vec<Addr>)>, NoMe
         bins.push((number, ground.bin(alloc, number)?))?;
     }
     Ok(bins)
-}
-
-/// Puts the blocks of threads and trays in their places by address.
-pub fn put_finds(found: &mut PlaceTable, finds: &[Find]) -> Result<(), NoMemory>
-    ensures { OnOk result (found_at found.new
-        ≡ fold put_found (found_at found.old) (finds_found finds.now)) }
-{
-    for find in finds {
-        found.put(find.tile.addr, find.tile.place)?;
-    }
-    Ok(())
 }
 
 /// Puts the chunks of a list at a place.
@@ -121,7 +110,7 @@ pub fn tile_views(
 ) -> Result<Vec<TileView>, NoMemory>
     ensures { IfOk result (λ v. v.items ≡ shown_tiles (found_at found.now) tiles.now) }
 {
-    let mut views = Vec::new(alloc);
+    let mut views = Vec::with_capacity(alloc, tiles.len())?;
     for t in tiles {
         if let Some(place) = place(found, t) {
             views.push(tile(t.addr, t.size, 0, place))?;

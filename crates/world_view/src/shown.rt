@@ -1,14 +1,14 @@
 //! What a report shows of threads, arenas and trays.
 
-ghost use Rattle.std.specs.Prelude.{◌≡◌, ◌≤◌, ◌<◌, ◌+◌, ◌^◌, ◌++◌, List, length, map, fold, IfOk, OnOk};
+ghost use Rattle.std.specs.Prelude.{◌≡◌, ◌≤◌, ◌<◌, ◌+◌, ◌^◌, ◌++◌, List, length, map, IfOk, OnOk};
+ghost use Rattle.std.specs.Map.{values_of};
 ghost use Rattle.arena_choice.specs.Books.{arena_of};
 ghost use Rattle.malloc_calls.specs.Threads.{own_of};
 ghost use Rattle.stats_text.specs.Totals.{HasTotals};
-ghost use Rattle.world_view.specs.Places.{put_tile, by_address, mapped_finds};
 ghost use Rattle.world_view.specs.Scenes.{ArenaScene, AreArenas, cache_lists, caches_from, dials_of, shown_of};
 
 use crate::arenas::arena_views;
-use crate::finds::{Find, finds};
+use crate::finds::sights;
 use address_space::Kernel;
 use arena_choice::Book;
 use arena_core::Arena;
@@ -20,27 +20,11 @@ use stats_text::{CacheView, DialsView, Snapshot, TileView};
 use std::alloc::Global;
 use std::collections::BTreeMap;
 
-/// Puts the mapped chunks in their places by address.
-fn place_mapped(finds: &[Find], placed: &mut BTreeMap<u64, TileView>) -> Result<(), NoMemory>
-    ensures { OnOk result (placed.new.entries
-        ≡ fold put_tile placed.old.entries (mapped_finds finds.now)) }
-{
-    for find in finds {
-        if find.mapped {
-            placed.insert(find.tile.addr.0, find.tile)?;
-        }
-    }
-    Ok(())
-}
-
 /// The mapped chunks by address.
-#[tactic(auto, unfolding(crate::specs::Places::by_address))]
-fn mapped_views(alloc: Global, finds: &[Find]) -> Result<Vec<TileView>, NoMemory>
-    ensures { IfOk result (λ v. v.items ≡ by_address (mapped_finds finds.now)) }
+fn mapped_views(alloc: Global, mapped: &BTreeMap<u64, TileView>) -> Result<Vec<TileView>, NoMemory>
+    ensures { IfOk result (λ v. v.items ≡ values_of mapped.now.entries) }
 {
-    let mut placed = BTreeMap::new(alloc);
-    place_mapped(finds, &mut placed)?;
-    Ok(placed.values().copied().collect(alloc)?)
+    Ok(mapped.values().copied().collect(alloc)?)
 }
 
 /// Appends the lists of a thread's cache.
@@ -133,10 +117,10 @@ pub fn snapshot<K: Kernel>(
     ensures totals { IfOk result HasTotals }
 {
     book.laws();
-    let finds = finds(alloc, threads, trays)?;
+    let mut sights = sights(alloc, threads, trays)?;
     Ok(Snapshot {
-        arenas: arena_views(alloc, finds.as_slice(), book.list(), arenas, fast)?,
-        mapped: mapped_views(alloc, finds.as_slice())?,
+        arenas: arena_views(alloc, &mut sights.found, book.list(), arenas, fast)?,
+        mapped: mapped_views(alloc, &sights.mapped)?,
         caches: cache_views(alloc, threads)?,
         threads: thread_views(alloc, book, lines)?,
         free: Vec::from_slice(alloc, book.free())?,

@@ -1,9 +1,8 @@
-use Rattle.std.proofs.Common.{◌≡◌, ℕ, List, map, Option, ap, ◌∙◌}
+use Rattle.std.proofs.Common.{◌≡◌, ℕ, List, map, Option, ◌∙◌}
 use Rattle.malloc_calls.specs.Threads.{own_of}
 use Rattle.stats_text.specs.declared.views.TileView.{TileView}
 use Rattle.stats_text.specs.declared.views.DialsView.{DialsView}
 use Rattle.stats_text.specs.Views.{Arena, CacheList, Shown}
-use Rattle.world_view.specs.Places.{by_address, mapped_finds}
 use Rattle.world_view.specs.Scenes.{Scene, shown_of, shown_arena}
 use Rattle.world_view.proofs.InRows.{arenas_shown}
 use Rattle.world_view.proofs.shown.snapshot.Goals as goal
@@ -26,7 +25,6 @@ returns-clause-shown g c = λ scenes are.
       lines = c.args.lines.now;
     } in
     let arenas : c.in_ok-arena_views.field-0.items ≡ map (shown_arena s) s.arenas =
-    arenas_shown s (map (λ a. a.ground.arena) c.args.arenas.now) (map (λ l. l.items) c.args.fast.now) c.as_slice.result.now c.list.result.now c.in_ok-arena_views.field-0.items are (c.as_slice.ensures.value ∙ c.in_ok-finds.ensures) c.list.ensures c.in_ok-arena_views.ensures.shown in
-    let mapped : c.in_ok-mapped_views.field-0.items ≡ by_address (mapped_finds c.in_ok-finds.finds.items) = c.in_ok-mapped_views.ensures ∙ ap (λ fs. by_address (mapped_finds fs)) c.as_slice-2.ensures.value in
-    same_parts _ _ _ _ _ _ _ _ _ _ _ _ _ _ _ _ arenas (mapped ∙ ap (λ fs. by_address (mapped_finds fs)) c.in_ok-finds.ensures) c.in_ok-cache_views.ensures c.in_ok-thread_views.ensures
+    arenas_shown s (map (λ a. a.ground.arena) c.args.arenas.now) (map (λ l. l.items) c.args.fast.now) c.list.result.now _ c.in_ok-arena_views.field-0.items are c.in_ok-sights.ensures.found c.list.ensures c.in_ok-arena_views.ensures.shown in
+    same_parts _ _ _ _ _ _ _ _ _ _ _ _ _ _ _ _ arenas (c.in_ok-mapped_views.ensures ∙ c.in_ok-sights.ensures.mapped) c.in_ok-cache_views.ensures c.in_ok-thread_views.ensures
     (c.in_ok-from_slice.ensures.items ∙ c.free.ensures) c.next.ensures c.limit.ensures c.dial_view.ensures

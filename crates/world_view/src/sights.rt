@@ -1,0 +1,45 @@
+//! What is seen of chunks.
+
+ghost use Rattle.std.specs.Prelude.{◌≡◌, IfOk, OnOk};
+ghost use Rattle.world_view.specs.Sights.{seen_in, nothing_seen, put_seen};
+
+use crate::finds::Find;
+use crate::table::PlaceTable;
+use chunk_tags::NoMemory;
+use stats_text::TileView;
+use std::alloc::Global;
+use std::collections::BTreeMap;
+
+/// The chunks that were seen (this project's own).
+#[derive(Drop)]
+pub struct Sights {
+    /// Where each chunk is found.
+    pub found: PlaceTable,
+    /// The mapped chunks by address.
+    pub mapped: BTreeMap<u64, TileView>,
+}
+
+impl Sights {
+    /// None was seen. There is room for `capacity` of them before the table of places grows.
+    #[tactic(auto, unfolding(crate::specs::Sights::seen_in))]
+    pub fn new(alloc: Global, capacity: usize) -> Result<Sights, NoMemory>
+        ensures { IfOk result (λ sights. seen_in sights ≡ nothing_seen) }
+    {
+        Ok(Sights {
+            found: PlaceTable::new(alloc, capacity)?,
+            mapped: BTreeMap::new(alloc),
+        })
+    }
+
+    /// A chunk is seen. After `NoMemory` it may stand in one of the two.
+    #[tactic(auto, unfolding(crate::specs::Sights::seen_in))]
+    pub fn put(&mut self, find: &Find) -> Result<(), NoMemory>
+        ensures { OnOk result (seen_in self.new ≡ put_seen (seen_in self.old) find.now) }
+    {
+        self.found.put(find.tile.addr, find.tile.place)?;
+        if find.mapped {
+            self.mapped.insert(find.tile.addr.0, find.tile)?;
+        }
+        Ok(())
+    }
+}
