@@ -8,7 +8,6 @@ use Rattle.bin_links.specs.Lists.{Linked, empty_lists, times_listed as times_lin
 use Rattle.part_words.specs.Extents.{Extent, AreOpen, IsWider, IsWithinPart, extended}
 use Rattle.part_words.proofs.Opening.{AreOpen-range, Covers-same, IsWithinPart-part}
 use Rattle.chunk_image.specs.Rows.{TileRow, no_tiles}
-use Rattle.ordinary_bins.specs.BinLists.{lists_without}
 use Rattle.arena_rules.specs.PlainArena.{Plain, HeapWindows, IsSound, empty_bins, is_main}
 use Rattle.arena_rules.specs.Moves.{chunk_of, left_of_top, top_end, top_size, with_top_size, Gains}
 use Rattle.arena_rules.specs.Heaps.{end_before_heap, heap_added, heap_extended, heap_shortened, heap_start, last_heap, last_length, opened_arena, unopened, without_free_part, without_heap}
@@ -25,7 +24,7 @@ use Rattle.heap_top.specs.HeapRanges.{IsHeapGrowth, IsNewHeap}
 use Rattle.heap_top.proofs.DropLaws.{IsHeapEnd, heap_end}
 use Rattle.heap_top.proofs.MainMoves.{but_tiles, moved_same, sized_same}
 use Rattle.heap_top.proofs.TopLaws.{knows_top}
-use Rattle.arena_ground.specs.Grounds.{arena_with, bins_at, part_bytes, words_start, IsGround, IsPlacedIn}
+use Rattle.arena_ground.specs.Grounds.{arena_with, bins_at, part_bytes, words_start, IsGround, IsPlacedIn, lists_without}
 use Rattle.arena_ground.proofs.Bridges.{bins_without}
 use Rattle.arena_ground.proofs.Joining.{free_linked}
 use Rattle.arena_ground.proofs.Keeping.{windows_of, IsDone, IsSoundGround, lists_of}

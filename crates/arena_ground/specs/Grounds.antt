@@ -1,6 +1,6 @@
 -- A plain arena as words say it: tiles by address, and bins of addresses, whose sizes are those of the tiles (this
 -- project's own).
-use Rattle.std.specs.Prelude.{◌≡◌, ℕ, ◌-◌, ◌/◌, ◌≤◌, false, List, Option, map, if◌then◌else◌, IsTrue, vec_capacity}
+use Rattle.std.specs.Prelude.{◌≡◌, ℕ, ◌-◌, ◌/◌, ◌≤◌, false, List, Option, Some, None, map, if◌then◌else◌, IsTrue, vec_capacity}
 use Rattle.chunk_tags.specs.declared.tiles.Chunk.{Chunk}
 use Rattle.chunk_tags.specs.declared.tiles.Tile.{Tile}
 use Rattle.chunk_tags.specs.Sizes.{is_small_size, small_index_of}
@@ -36,6 +36,11 @@ abbrev pub sorted_lists : List Tile → Chunk → List (List ℕ) → List (List
 sorted_lists ts c lists =
     let rest = map (without c.at) lists in
     if is_small_size c.size then put_front (small_index_of c.size) c.at rest else put_large ts c rest
+
+-- the lists without a chunk, where there is one
+abbrev pub lists_without : Option ℕ → List (List ℕ) → List (List ℕ)
+lists_without None lists = lists
+lists_without (Some at) lists = map (without at) lists
 
 -- the arena of these parts
 abbrev pub arena_with : Regions → TileRow → Linked → Option ℕ → Plain

@@ -9,10 +9,9 @@ ghost use Rattle.chunk_tags.specs.Tiles.{Row, is_edge, is_free as is_free_tile, 
 ghost use Rattle.part_words.specs.Extents.{IsWider};
 ghost use Rattle.bin_links.specs.Lists.{bin_count, list_at, put_front, times_listed, without};
 ghost use Rattle.large_bins.specs.SeenChunks.{large_chunks, HaveTiles};
-ghost use Rattle.ordinary_bins.specs.BinLists.{lists_without};
 ghost use Rattle.arena_rules.specs.Moves.{tile_of};
 ghost use Rattle.heap_top.specs.Regions.{address_of};
-ghost use Rattle.arena_ground.specs.Grounds.{bins_at, tile_chunk, chunks_at, sorted_lists};
+ghost use Rattle.arena_ground.specs.Grounds.{bins_at, tile_chunk, chunks_at, sorted_lists, lists_without};
 ghost use Rattle.arena_rules.specs.Search.{first_oldest};
 
 use arena_rules::HeapEnd;

@@ -1,14 +1,13 @@
-//! Worked examples: unsorted and small bins, stated on the definitions alone. Nothing runs; the check computes them.
+//! Worked examples: bins, stated on the definitions alone. Nothing runs; the check computes them.
 
 ghost use Rattle.std.specs.Prelude.{◌≡◌, ◌^◌, [], ◌∷◌, Some, None};
 ghost use Rattle.chunk_tags.specs.Sizes.{bin_of};
-ghost use Rattle.bin_links.specs.Lists.{put_front, first_filled};
-ghost use Rattle.ordinary_bins.specs.BinLists.{oldest_in};
+ghost use Rattle.bin_links.specs.Lists.{list_at, last_of, put_front, first_filled};
 
-/// A bin gives its oldest chunk first, and the search skips empty bins.
+/// The oldest chunk of a bin is its last, and the search skips empty bins.
 fn chunks_in_bins()
-    ensures oldest { oldest_in 1 (put_front 1 320 (put_front 1 160 ([] ∷ [] ∷ []))) ≡ Some 160 }
-    ensures none { oldest_in 1 ([] ∷ [] ∷ []) ≡ None }
+    ensures oldest { last_of (list_at 1 (put_front 1 320 (put_front 1 160 ([] ∷ [] ∷ [])))) ≡ Some 160 }
+    ensures none { last_of (list_at 1 ([] ∷ [] ∷ [])) ≡ None }
     ensures itself { first_filled 2 ([] ∷ [] ∷ (160 ∷ []) ∷ [] ∷ []) ≡ Some 2 }
     ensures above { first_filled 1 ([] ∷ [] ∷ [] ∷ (160 ∷ []) ∷ []) ≡ Some 3 }
     ensures below { first_filled 2 ([] ∷ (160 ∷ []) ∷ [] ∷ []) ≡ None }

@@ -6,8 +6,6 @@
 #[cfg(test)]
 mod bin_examples;
 #[cfg(test)]
-mod bin_tests;
-#[cfg(test)]
 mod cache_tests;
 #[cfg(test)]
 mod choice_tests;

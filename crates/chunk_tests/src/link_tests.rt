@@ -24,6 +24,20 @@ fn links_of_two_chunks(rt: HostRuntime) -> Result<(), Fail> {
     Ok(())
 }
 
+#[test]
+fn the_first_bin_with_a_chunk_is_found(rt: HostRuntime) -> Result<(), Fail> {
+    let mut links = LinkWords::new(rt.alloc(), 4096, 65_536)?;
+    links.open(rt.alloc(), Addr(4096), 64)?;
+    links.push_front(126, Addr(4096));
+    assert_eq!(rt;
+        (links.first_filled(2), links.first_filled(126), links.first_filled(127)),
+        (Some(126), Some(126), None)
+    );
+    links.unlink(Addr(4096));
+    assert_eq!(rt; links.first_filled(2), None);
+    Ok(())
+}
+
 /// Where main's two parts begin.
 const BREAK: u64 = 0x5555_5555_9000;
 
