@@ -135,7 +135,7 @@ impl<'a> Entries<'a> {
     /// The next entry; `None` exactly where there is none left. After `NoMemory` it is still to come.
     pub fn next(&mut self, alloc: Global) -> Result<Option<Entry>, NoMemory>
         ensures next { IfOk result (λ next. MatchOption next
-            (self.old ≡ []) (λ entry. self.old ≡ entry ∷ self.new)) }
+            ((self.old ≡ []) × (self.new ≡ [])) (λ entry. self.old ≡ entry ∷ self.new)) }
         ensures err { OnErr result (self.new ≡ self.old) }
     {
         let Some((row, rows)) = self.rows.split_first() else {
