@@ -34,7 +34,7 @@ filled_by nodes bin (Some b) set = elim (cases_lt b bin_count) [
   | inl lt ↦ (set.0, lt, leads nodes b lt set.2)
   | inr le ↦
       let last : b ≡ bin_count = omega (arith, set.1) in
-      absurd (omega (arith, set.2, ap (marked nodes.map) last, nodes.marks.others))
+      absurd (omega (arith, set.2, ap (marked nodes.map) last, nodes.marks.behind))
 ]
 
 pub empty_before : (nodes : Nodes) (bin : ℕ) (found : Option ℕ) → IfSome found (λ b. (bin ≤ b) × (b < 128) × (marked nodes.map b ≡ 1)) → IfSome found (λ b. (n : ℕ) → bin ≤ n → n < b → marked nodes.map n ≡ 0) →
@@ -53,7 +53,7 @@ fresh_marks m base width own none is = record {
   bins = λ bin lt.
       none bin
       ∙ sym (ap (λ c. mark_of (leads_on base width c)) (is bin lt) ∙ ap (λ n. mark_of (not (ltb n bin_count))) (node_of-own base width bin lt) ∙ ap (λ t. mark_of (not t)) (lt-ltb bin bin_count lt));
-  others = none bin_count;
+  behind = none bin_count;
 }
 
 same_mark : (base width lead : ℕ) (c : LinkCodes) → lead ≡ node_of base width c.fd → mark_of (leb bin_count lead) ≡ mark_of (leads_on base width c)
@@ -71,5 +71,5 @@ marks_set m after base width own node lead c inside low are is here others = rec
         ∙ sym (ap (λ d. mark_of (leads_on base width d)) (ap (λ n. get_or (set own node c) n no_codes) same ∙ get_or-set_same own node c no_codes inside))
     | inr other ↦ others bin (omega arith) other ∙ are.bins bin lt ∙ sym (ap (λ d. mark_of (leads_on base width d)) (get_or-set_other own node bin c no_codes other))
   ];
-  others = others bin_count (omega arith) (λ same. omega (arith, same, low)) ∙ are.others;
+  behind = others bin_count (omega arith) (λ same. omega (arith, same, low)) ∙ are.behind;
 }

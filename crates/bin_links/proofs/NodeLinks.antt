@@ -1,11 +1,13 @@
 -- Links that are written.
 use Rattle.std.proofs.Common.{◌≡◌, ℕ, ◌<◌, ◌≤◌, ltb, sym, ap, ◌∙◌, inl, inr, refl, set, get_or, length, true, false}
-use Rattle.std.proofs.lemmas.Bool.{cases_lt, lt-ltb, le-ltb}
+use Rattle.std.proofs.lemmas.Bool.{cases_lt, cases_eq, lt-ltb, le-ltb}
 use Rattle.std.proofs.lemmas.List.{get_or-set_same, get_or-set_other}
 use Rattle.part_words.specs.Parts.{word_at, update}
 use Rattle.part_words.proofs.Updates.{update_same, update_other}
 use Rattle.bin_links.specs.Lists.{bin_count}
-use Rattle.bin_links.specs.NodeWords.{codes_at, no_codes, node_in, Wrote, IsFresh}
+use Rattle.bin_links.specs.Codes.{node_of}
+use Rattle.bin_links.specs.Rings.{Redirects}
+use Rattle.bin_links.specs.NodeWords.{codes_at, no_codes, node_in, ahead, back, Wrote, IsFresh}
 use Rattle.bin_links.proofs.CodeLaws.{node_of-own}
 use Rattle.bin_links.specs.declared.nodes.LinkCodes.{LinkCodes}
 use Rattle.bin_links.specs.declared.nodes.Nodes.{Nodes}
@@ -51,4 +53,22 @@ fresh nodes own = record {
   own = λ n lt.
       let is = own_codes nodes n lt ∙ own n lt in
       (ap (λ (c : LinkCodes). node_in nodes c.fd) is ∙ node_of-own _ _ n lt, ap (λ (c : LinkCodes). node_in nodes c.bk) is ∙ node_of-own _ _ n lt);
+}
+
+-- nodes with another way back from one of them
+back_node : (old new : Nodes) → new.base ≡ old.base → new.width ≡ old.width → (code : ℕ) → node_in new code ≡ node_in old code
+back_node old new base width code = ap (λ b. node_of b new.width code) base ∙ ap (λ w. node_of old.base w code) width
+
+pub same_ahead : (old new : Nodes) (node fd to : ℕ) → fd ≡ (codes_at old node).fd → Wrote old new node (record { fd = fd; bk = to }) → (n : ℕ) → ahead new n ≡ ahead old n
+same_ahead old new node fd to kept wrote n =
+    back_node old new wrote.base wrote.width (codes_at new n).fd
+    ∙ ap (node_in old) (elim (cases_eq n node) [
+      | inl same ↦ ap (λ m. (codes_at new m).fd) same ∙ ap (λ (c : LinkCodes). c.fd) wrote.here ∙ kept ∙ ap (λ m. (codes_at old m).fd) (sym same)
+      | inr other ↦ ap (λ (c : LinkCodes). c.fd) (wrote.others n other)
+    ])
+
+pub led_back : (old new : Nodes) (node fd to : ℕ) → Wrote old new node (record { fd = fd; bk = to }) → Redirects (back old) (back new) node (node_in old to)
+led_back old new node fd to wrote = record {
+  here = back_node old new wrote.base wrote.width (codes_at new node).bk ∙ ap (λ (c : LinkCodes). node_in old c.bk) wrote.here;
+  others = λ n other. back_node old new wrote.base wrote.width (codes_at new n).bk ∙ ap (λ (c : LinkCodes). node_in old c.bk) (wrote.others n other);
 }

@@ -39,6 +39,7 @@ last_of [] = None
 last_of (x ∷ []) = Some x
 last_of (x ∷ y ∷ ys) = last_of (y ∷ ys)
 
+-- whether a list has a chunk
 abbrev pub has_chunk : List ℕ → Bool
 has_chunk xs = not (nat_eq (length xs) 0)
 

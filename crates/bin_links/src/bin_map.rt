@@ -4,7 +4,8 @@ ghost use Rattle.std.specs.Prelude.{◌≡◌, ℕ, ◌≢◌, ◌<◌, ◌≤�
 ghost use Rattle.std.specs.Int.{bit_at};
 ghost use Rattle.bin_links.specs.BinMaps.{marked, mark_of};
 
-/// A mark for each bin that has a chunk (glibc's `binmap`, in which a mark may also stay behind when a bin is emptied).
+/// A mark for each bin that has a chunk (glibc's `binmap`, in which only sorted chunks set marks, and one stays behind when a
+/// bin is emptied; this one is exact).
 #[derive(Debug, Drop)]
 pub struct BinMap {
     /// The marks of the bins below 64, by the places of bits.
@@ -23,7 +24,7 @@ fn with_bit(word: u64, place: u8, is_set: bool) -> u64
     if is_set { word | bit } else { word & !bit }
 }
 
-/// The first place from one on whose bit is set.
+/// The first place from `from` on whose bit is set.
 fn first_bit(word: u64, from: u8) -> Option<u8>
     requires { from < 64 }
     ensures set { IfSome result (λ b. (from ≤ b) × (b < 64) × (bit_at word b ≡ 1)) }
@@ -59,7 +60,7 @@ impl BinMap {
     }
 
     /// The first marked bin from an index on.
-    pub fn next(&self, bin: u8) -> Option<u8>
+    pub fn first_from(&self, bin: u8) -> Option<u8>
         requires { bin < 128 }
         ensures set { IfSome result (λ b. (bin ≤ b) × (b < 128) × (marked self.now b ≡ 1)) }
         ensures before { IfSome result (λ b. (n : ℕ) → bin ≤ n → n < b → marked self.now n ≡ 0) }

@@ -77,7 +77,7 @@ impl LinkWords {
         requires { bin ≤ bin_count }
         ensures { result ≡ first_filled bin self.now.lists }
     {
-        self.nodes.next_filled(bin)
+        self.nodes.first_filled(bin)
     }
 
     /// Whether a bin has exactly one chunk.

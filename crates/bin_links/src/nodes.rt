@@ -92,7 +92,7 @@ impl Nodes {
     }
 
     /// The first bin from an index on whose node leads to a chunk.
-    pub fn next_filled(&self, bin: u8) -> Option<u8>
+    pub fn first_filled(&self, bin: u8) -> Option<u8>
         requires { bin ≤ bin_count }
         ensures filled { IfSome result (λ b. (bin ≤ b) × (b < bin_count)
             × (bin_count ≤ ahead self.now b)) }
@@ -101,7 +101,7 @@ impl Nodes {
         ensures none { IfNone result
             ((n : ℕ) → bin ≤ n → n < bin_count → ahead self.now n < bin_count) }
     {
-        self.map.next(bin)
+        self.map.first_from(bin)
     }
 
     /// The links of a node as they are kept.
@@ -180,8 +180,12 @@ impl Nodes {
         ensures back { Redirects (back self.old) (back self.new) node (node_in self.old to) }
         ensures extent { extent self.new ≡ extent self.old }
     {
-        let fd = self.codes(node).fd;
-        self.put(node, LinkCodes { fd, bk: to });
+        if node < BINS {
+            self.own[node as usize].bk = to;
+        } else {
+            let fd = self.words.get(node).fd;
+            self.words.set(node, LinkCodes { fd, bk: to });
+        }
     }
 
     /// A node's neighbours lead past it (the end of glibc's `unlink_chunk`).
