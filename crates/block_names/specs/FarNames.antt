@@ -1,5 +1,5 @@
--- Where the blocks of far names lie (this project's own): a name has the number of a slot, the slots stand in a row, and
--- those of no name form a chain.
+-- What a slot has, and where the blocks of far names lie (this project's own): a far name has the number of a slot, the slots
+-- stand in a row, and those of no name form a chain.
 use Rattle.std.specs.Prelude.{◌≡◌, ℕ, ◌+◌, ◌-◌, ◌^◌, ◌≤◌, List, [], ◌∷◌, map, length, sum_by, Option, Some, None, nat_eq, slice_index_or, if◌then◌else◌}
 use Rattle.std.specs.Map.{values_of}
 use Rattle.chunk_tags.specs.declared.block.Block.{Block}

@@ -1,6 +1,6 @@
 //! The blocks of a thread, by name.
 
-ghost use Rattle.std.specs.Prelude.{◌≡◌, ◌-◌, ◌^◌, ◌<◌, ◌≤◌, [], ◌++◌, length, replicate, IsTrue, false, None, Some, IsSome, IfSome, OnOk, OnErr, option_copied, slice_set, slice_index_or};
+ghost use Rattle.std.specs.Prelude.{◌≡◌, length, IsTrue, false, None, IfSome, OnOk, OnErr, option_copied, slice_index_or};
 ghost use Rattle.block_names.specs.Blocks.{IsHeld};
 ghost use Rattle.block_names.specs.Names.{IsTable, FarNamesRise, no_names, has_place, block_at, with_place, with_block, without_block, tidied};
 
