@@ -30,7 +30,11 @@ fn the_first_bin_with_a_chunk_is_found(rt: HostRuntime) -> Result<(), Fail> {
     links.open(rt.alloc(), Addr(4096), 64)?;
     links.push_front(126, Addr(4096));
     assert_eq!(rt;
-        (links.first_filled(2), links.first_filled(126), links.first_filled(127)),
+        (
+            links.first_filled(2),
+            links.first_filled(126),
+            links.first_filled(127)
+        ),
         (Some(126), Some(126), None)
     );
     links.unlink(Addr(4096));
