@@ -1,3 +1,4 @@
+mod SlotLaws
 mod Idle
 mod Placing
 mod Going

@@ -10,6 +10,7 @@ mod law;
 mod places;
 mod shown;
 mod sights;
+mod slots;
 mod table;
 
 pub use law::laws;

@@ -3,6 +3,7 @@
 ghost use Rattle.std.specs.Prelude.{◌≡◌, IfOk, OnOk, OnErr};
 ghost use Rattle.world_view.specs.Places.{found_at, nothing_found, put_found};
 
+use crate::slots::PlaceSlots;
 use chunk_tags::{Addr, NoMemory};
 use stats_text::Place;
 use std::alloc::Global;
@@ -11,7 +12,9 @@ use std::collections::HashMap;
 /// What is found at each address (this project's own): the last that was put there.
 #[derive(Drop)]
 pub struct PlaceTable {
-    places: HashMap<u64, Place>,
+    slots: PlaceSlots,
+    /// What is found where the slots have no room, and at the address 0.
+    others: HashMap<u64, Place>,
 }
 
 impl PlaceTable {
@@ -20,8 +23,10 @@ impl PlaceTable {
     pub fn new(alloc: Global, capacity: usize) -> Result<PlaceTable, NoMemory>
         ensures { IfOk result (λ found. found_at found ≡ nothing_found) }
     {
-        let places = HashMap::with_capacity(alloc, capacity)?;
-        Ok(PlaceTable { places })
+        Ok(PlaceTable {
+            slots: PlaceSlots::new(alloc, capacity.saturating_add(capacity / 4))?,
+            others: HashMap::new(alloc),
+        })
     }
 
     /// Puts something at an address. What was there goes. After `NoMemory` nothing changed.
@@ -30,7 +35,10 @@ impl PlaceTable {
         ensures ok { OnOk result (found_at self.new ≡ put_found (found_at self.old) (at, place)) }
         ensures err { OnErr result (found_at self.new ≡ found_at self.old) }
     {
-        self.places.insert(at.0, place)?;
+        if self.slots.put(at.0, place) {
+            return Ok(());
+        }
+        self.others.insert(at.0, place)?;
         Ok(())
     }
 
@@ -39,6 +47,9 @@ impl PlaceTable {
     pub fn at(&self, at: Addr) -> Option<Place>
         ensures { result ≡ found_at self.now at }
     {
-        self.places.get(&at.0).copied()
+        match self.slots.at(at.0) {
+            None => self.others.get(&at.0).copied(),
+            Some(place) => Some(place),
+        }
     }
 }
