@@ -9,9 +9,8 @@ use Rattle.arena_core.specs.declared.journal.Ended.TheVariants.{Got, Done}
 use Rattle.arena_core.specs.declared.journal.Who.{Who}
 use Rattle.arena_core.specs.declared.brief.Brief.{Brief}
 use Rattle.arena_core.specs.declared.brief.Brief.TheVariants as briefs
-use Rattle.arena_core.specs.declared.brief.Deed.{Deed}
-use Rattle.arena_core.specs.declared.brief.Deed.TheVariants.{Took, Gave, Whole}
 use Rattle.arena_core.specs.declared.brief.Row.{Row}
+use Rattle.arena_core.specs.declared.brief.Row.TheVariants.{Took, Gave, Whole}
 use Rattle.arena_core.specs.Arenas.{recorded}
 use Rattle.arena_core.specs.Journal.{Recorded}
 
@@ -25,46 +24,52 @@ said_of (briefs.Own at) = told.Own (Some at)
 said_of (briefs.Room is_there) = told.Room is_there
 said_of (briefs.Dial number) = told.Dial number
 
--- how many brief answers, and how many whole entries, belong to a deed
-abbrev pub told_of : Deed → ℕ
-told_of (Took mapped told nb addr size) = told
-told_of (Gave told addr size) = told
+-- how many brief answers, and how many whole entries, belong to a row
+abbrev pub told_of : Row → ℕ
+told_of (Took thread mapped told line nb size addr) = told
+told_of (Gave thread told line size addr) = told
 told_of Whole = 0
 
-abbrev pub wholes_of : Deed → ℕ
-wholes_of (Took mapped told nb addr size) = 0
-wholes_of (Gave told addr size) = 0
+abbrev pub wholes_of : Row → ℕ
+wholes_of (Took thread mapped told line nb size addr) = 0
+wholes_of (Gave thread told line size addr) = 0
 wholes_of Whole = 1
 
+-- a line of a thread
+abbrev pub who_at : ℕ → ℕ → Who
+who_at thread line = record { thread = thread; line = line }
+
 -- the entry of a row: with the next answers, or the next whole one
-abbrev pub entry_in : Who → Deed → List Said → List Recorded → List Recorded
-entry_in who (Took mapped told nb addr size) ss es = recorded who (Take nb) (take told ss) (Got addr size mapped) ∷ []
-entry_in who (Gave told addr size) ss es = recorded who (Give addr size) (take told ss) Done ∷ []
-entry_in who Whole ss es = take 1 es
+abbrev pub entry_in : Row → List Said → List Recorded → List Recorded
+entry_in (Took thread mapped told line nb size addr) ss es =
+    recorded (who_at thread line) (Take nb) (take told ss) (Got addr size mapped) ∷ []
+entry_in (Gave thread told line size addr) ss es =
+    recorded (who_at thread line) (Give addr size) (take told ss) Done ∷ []
+entry_in Whole ss es = take 1 es
 
 -- the entries of rows, with their brief answers, and those that are kept whole
 abbrev pub entries_of : List Row → List Said → List Recorded → List Recorded
 entries_of [] ss es = []
-entries_of (r ∷ rs) ss es = entry_in r.who r.deed ss es ++ entries_of rs (drop (told_of r.deed) ss) (drop (wholes_of r.deed) es)
+entries_of (r ∷ rs) ss es = entry_in r ss es ++ entries_of rs (drop (told_of r) ss) (drop (wholes_of r) es)
 
 abbrev pub told_in : List Row → ℕ
 told_in [] = 0
-told_in (r ∷ rs) = told_of r.deed + told_in rs
+told_in (r ∷ rs) = told_of r + told_in rs
 
 abbrev pub wholes_in : List Row → ℕ
 wholes_in [] = 0
-wholes_in (r ∷ rs) = wholes_of r.deed + wholes_in rs
+wholes_in (r ∷ rs) = wholes_of r + wholes_in rs
 
 -- the brief answers and the whole entries are those of the rows
 pub record AreKept (rows : List Row) (said : List Said) (whole : List Recorded) : Type 0 where
   pub told : told_in rows ≡ length said
   pub wholes : wholes_in rows ≡ length whole
 
--- a deed stands for an act that ended so, with so many answers
-pub record IsDeedOf (act : Act) (ended : Ended) (count : ℕ) (deed : Deed) : Type 0 where
-  pub told : told_of deed ≡ count
-  pub brief : wholes_of deed ≡ 0
-  pub entry : (who : Who) (ss : List Said) (es : List Recorded) → entry_in who deed ss es ≡ recorded who act (take count ss) ended ∷ []
+-- a row stands for an act of that line that ended so, with so many answers
+pub record IsRowOf (who : Who) (act : Act) (ended : Ended) (count : ℕ) (row : Row) : Type 0 where
+  pub told : told_of row ≡ count
+  pub brief : wholes_of row ≡ 0
+  pub entry : (ss : List Said) (es : List Recorded) → entry_in row ss es ≡ recorded who act (take count ss) ended ∷ []
 
 -- A journal: its entries, and for how many there is room, of which the next one alone counts.
 pub record JournalValue : Type 0 where

@@ -1,7 +1,7 @@
 //! Answers and entries in the few bytes that most of them need.
 
 ghost use Rattle.std.specs.Prelude.{◌≡◌, IfSome};
-ghost use Rattle.arena_core.specs.Kept.{said_of, IsDeedOf};
+ghost use Rattle.arena_core.specs.Kept.{said_of, IsRowOf};
 
 use crate::journal::{Act, Ended, Who};
 use arena_rules::Said;
@@ -50,56 +50,63 @@ pub fn whole_of(brief: &Brief) -> Said
     }
 }
 
-/// What a hold was for and how it ended, with how many answers it had, which are brief; or that its entry is kept whole
-/// (this project's own). The small fields come first, so that they lie beside the number of the variant.
+/// An entry as it is kept: of which thread and line, what the hold was for and how it ended, with how many answers it had, which
+/// are brief; or that it is kept whole (this project's own). The small fields come first, so that they lie beside the number of
+/// the variant.
 #[derive(Clone, Copy, Debug, PartialEq, Eq)]
-pub enum Deed {
+pub enum Row {
     Took {
+        thread: u8,
         mapped: bool,
         told: u8,
-        nb: Size,
+        line: u32,
+        nb: u32,
+        size: u32,
         addr: Addr,
-        size: Size,
     },
     Gave {
+        thread: u8,
         told: u8,
+        line: u32,
+        size: u32,
         addr: Addr,
-        size: Size,
     },
     Whole,
 }
 
-/// An entry as it is kept.
-#[derive(Clone, Copy, Debug, PartialEq, Eq)]
-pub struct Row {
-    pub who: Who,
-    pub deed: Deed,
+const _: () = prove!(size_of::<Row>() == 24);
+
+/// A number in 32 bits, where it has so few.
+fn short(number: u64) -> Option<u32>
+    ensures { IfSome result (λ n. n ≡ number) }
+{
+    u32::try_from(number).ok()
 }
 
-/// The deed of an act that ended so, where it has a brief one.
-pub fn deed_of(act: &Act, ended: &Ended, told: usize) -> Option<Deed>
-    ensures { IfSome result (IsDeedOf act.now ended.now told) }
+/// The row of a hold for an act that ended so, where it has a brief one.
+pub fn row_of(who: &Who, act: &Act, ended: &Ended, told: usize) -> Option<Row>
+    ensures { IfSome result (IsRowOf who.now act.now ended.now told) }
 {
     let told = u8::try_from(told).ok()?;
-    match act {
-        Act::Take { nb } => match ended {
-            Ended::Got { addr, size, mapped } => Some(Deed::Took {
-                nb: *nb,
-                addr: *addr,
-                size: *size,
-                mapped: *mapped,
-                told,
-            }),
-            _ => None,
-        },
-        Act::Give { addr, size } => match ended {
-            Ended::Done => Some(Deed::Gave {
-                addr: *addr,
-                size: *size,
-                told,
-            }),
-            _ => None,
-        },
+    let thread = who.thread;
+    let line = short(who.line)?;
+    match (act, ended) {
+        (Act::Take { nb }, Ended::Got { addr, size, mapped }) => Some(Row::Took {
+            thread,
+            mapped: *mapped,
+            told,
+            line,
+            nb: short(nb.0)?,
+            size: short(size.0)?,
+            addr: *addr,
+        }),
+        (Act::Give { addr, size }, Ended::Done) => Some(Row::Gave {
+            thread,
+            told,
+            line,
+            size: short(size.0)?,
+            addr: *addr,
+        }),
         _ => None,
     }
 }

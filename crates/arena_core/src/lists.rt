@@ -2,9 +2,9 @@
 
 ghost use Rattle.std.specs.Prelude.{◌≡◌, ◌<◌, ◌≤◌, ◌+◌, [], ◌∷◌, ◌++◌, true, false, length, map, OnOk, OnErr, OnSome, IfOk, IfSome, IfNone, vec_len, vec_capacity};
 ghost use Rattle.arena_core.specs.Arenas.{recorded};
-ghost use Rattle.arena_core.specs.Kept.{said_of, most_brief, IsDeedOf};
+ghost use Rattle.arena_core.specs.Kept.{said_of, most_brief, IsRowOf};
 
-use crate::brief::{Brief, Deed, Row, brief_of, deed_of};
+use crate::brief::{Brief, Row, brief_of, row_of};
 use crate::entry::Entry;
 use crate::journal::{Act, Ended, Who};
 use crate::reading::Entries;
@@ -103,17 +103,23 @@ fn append_brief(answers: &mut Vec<Brief>, said: &[Said]) -> bool
     true
 }
 
-/// Keeps the answers of a hold in their brief form, and gives the deed for its row; where it has none nothing changes.
-fn keep_brief(answers: &mut Vec<Brief>, act: &Act, said: &[Said], ended: &Ended) -> Option<Deed>
+/// Keeps the answers of a hold in their brief form, and gives its row; where it has none nothing changes.
+fn keep_brief(
+    answers: &mut Vec<Brief>,
+    who: &Who,
+    act: &Act,
+    said: &[Said],
+    ended: &Ended,
+) -> Option<Row>
     requires { vec_len answers.old + most_brief ≤ vec_capacity answers.old }
-    ensures deed { IfSome result (IsDeedOf act.now ended.now (length said.now)) }
+    ensures row { IfSome result (IsRowOf who.now act.now ended.now (length said.now)) }
     ensures told { OnSome result (map said_of answers.new.items
         ≡ map said_of answers.old.items ++ said.now) }
     ensures none { IfNone result (answers.new.items ≡ answers.old.items) }
 {
-    let deed = deed_of(act, ended, said.len())?;
+    let row = row_of(who, act, ended, said.len())?;
     if append_brief(answers, said) {
-        Some(deed)
+        Some(row)
     } else {
         None
     }
@@ -174,14 +180,13 @@ impl JournalLists {
         requires { length self.old.items < self.old.capacity }
         ensures { self.new.items ≡ self.old.items ++ recorded who act said.items ended ∷ [] }
     {
-        match keep_brief(&mut self.answers, &act, &said, &ended) {
-            Some(deed) => {
-                put(&mut self.rows, Row { who, deed });
+        match keep_brief(&mut self.answers, &who, &act, &said, &ended) {
+            Some(row) => {
+                put(&mut self.rows, row);
                 self.said = said;
             }
             None => {
-                let deed = Deed::Whole;
-                put(&mut self.rows, Row { who, deed });
+                put(&mut self.rows, Row::Whole);
                 let entry = Entry {
                     who,
                     act,

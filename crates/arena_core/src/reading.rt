@@ -1,13 +1,13 @@
 //! The entries of a journal, one by one.
 
 ghost use Rattle.std.specs.Prelude.{◌≡◌, ◌∷◌, [], ◌++◌, length, map, IfOk, OnOk, OnErr, MatchOption};
-ghost use Rattle.arena_core.specs.Kept.{AreKept, said_of, told_of, wholes_of, entry_in, entries_of};
+ghost use Rattle.arena_core.specs.Kept.{AreKept, said_of, told_of, wholes_of, who_at, entry_in, entries_of};
 
-use crate::brief::{Brief, Deed, Row, whole_of};
+use crate::brief::{Brief, Row, whole_of};
 use crate::entry::Entry;
-use crate::journal::{Act, Ended};
+use crate::journal::{Act, Ended, Who};
 use arena_rules::Said;
-use chunk_tags::NoMemory;
+use chunk_tags::{NoMemory, Size};
 use consolidate_trim::{make_room, tell};
 use std::alloc::Global;
 use std::marker::Model;
@@ -64,58 +64,81 @@ fn copy_of(alloc: Global, entry: &Entry) -> Result<Entry, NoMemory>
     })
 }
 
-/// How many brief answers belong to a deed.
-fn told_count(deed: &Deed) -> usize
-    ensures { result ≡ told_of deed.now }
+/// How many brief answers belong to a row.
+fn told_count(row: &Row) -> usize
+    ensures { result ≡ told_of row.now }
 {
-    match deed {
-        Deed::Took { told, .. } => usize::from(*told),
-        Deed::Gave { told, .. } => usize::from(*told),
-        Deed::Whole => 0,
+    match row {
+        Row::Took { told, .. } => usize::from(*told),
+        Row::Gave { told, .. } => usize::from(*told),
+        Row::Whole => 0,
     }
 }
 
-/// How many whole entries belong to a deed.
-fn whole_count(deed: &Deed) -> usize
-    ensures { result ≡ wholes_of deed.now }
+/// How many whole entries belong to a row.
+fn whole_count(row: &Row) -> usize
+    ensures { result ≡ wholes_of row.now }
 {
-    match deed {
-        Deed::Whole => 1,
+    match row {
+        Row::Whole => 1,
         _ => 0,
+    }
+}
+
+/// A line of a thread.
+fn who(thread: u8, line: u32) -> Who
+    ensures { result ≡ who_at thread line }
+{
+    Who {
+        thread,
+        line: u64::from(line),
     }
 }
 
 /// The entry of a row, with its own answers or its whole entry.
 fn entry_of(alloc: Global, row: &Row, answers: &[Brief], whole: &[Entry]) -> Result<Entry, NoMemory>
-    requires answers { length answers.now ≡ told_of row.now.deed }
-    requires whole { length whole.now ≡ wholes_of row.now.deed }
+    requires answers { length answers.now ≡ told_of row.now }
+    requires whole { length whole.now ≡ wholes_of row.now }
     ensures { IfOk result (λ entry. entry ∷ []
-        ≡ entry_in row.now.who row.now.deed (map said_of answers.now) whole.now) }
+        ≡ entry_in row.now (map said_of answers.now) whole.now) }
 {
-    match row.deed {
-        Deed::Took {
-            nb,
-            addr,
-            size,
+    match *row {
+        Row::Took {
+            thread,
             mapped,
             told: _,
-        } => Ok(Entry {
-            who: row.who,
-            act: Act::Take { nb },
-            said: told(alloc, answers)?,
-            ended: Ended::Got { addr, size, mapped },
-        }),
-        Deed::Gave {
-            addr,
+            line,
+            nb,
             size,
-            told: _,
+            addr,
         } => Ok(Entry {
-            who: row.who,
-            act: Act::Give { addr, size },
+            who: who(thread, line),
+            act: Act::Take {
+                nb: Size(u64::from(nb)),
+            },
+            said: told(alloc, answers)?,
+            ended: Ended::Got {
+                addr,
+                size: Size(u64::from(size)),
+                mapped,
+            },
+        }),
+        Row::Gave {
+            thread,
+            told: _,
+            line,
+            size,
+            addr,
+        } => Ok(Entry {
+            who: who(thread, line),
+            act: Act::Give {
+                addr,
+                size: Size(u64::from(size)),
+            },
             said: told(alloc, answers)?,
             ended: Ended::Done,
         }),
-        Deed::Whole => copy_of(alloc, &whole[0]),
+        Row::Whole => copy_of(alloc, &whole[0]),
     }
 }
 
@@ -141,8 +164,8 @@ impl<'a> Entries<'a> {
         let Some((row, rows)) = self.rows.split_first() else {
             return Ok(None);
         };
-        let (own, answers) = self.answers.split_at(told_count(&row.deed));
-        let (first, whole) = self.whole.split_at(whole_count(&row.deed));
+        let (own, answers) = self.answers.split_at(told_count(row));
+        let (first, whole) = self.whole.split_at(whole_count(row));
         let entry = entry_of(alloc, row, own, first)?;
         self.rows = rows;
         self.answers = answers;
