@@ -10,7 +10,7 @@ use crate::journal::{Act, Ended, Who};
 use crate::reading::Entries;
 use arena_rules::Said;
 use chunk_tags::NoMemory;
-use consolidate_trim::make_room;
+use list_room::make_room_for;
 use std::alloc::Global;
 use std::marker::Model;
 use std::mem;
@@ -39,47 +39,6 @@ impl Model for JournalLists {
         (entries_of l.rows.items (map said_of l.answers.items) l.whole.items) };
 
     ghost invariant = { λ l. AreKept l.rows.items (map said_of l.answers.items) l.whole.items };
-}
-
-/// Where a list has grown past so many items, room is made for at least `LEAST_ROOM`, which takes more than 128 KiB. A C library
-/// maps as much by itself, so what isn't used takes no memory, and what grows isn't copied (this project's own).
-const FEW: usize = 512;
-
-const LEAST_ROOM: usize = 8192;
-
-/// For how many more items room is made, where it is made for so many at least.
-fn step(len: usize, count: usize) -> usize
-    ensures { count ≤ result }
-{
-    if len < FEW {
-        count
-    } else {
-        count.max(LEAST_ROOM.saturating_sub(len))
-    }
-}
-
-/// Makes room for the answers of one more brief entry.
-fn make_brief_room(answers: &mut Vec<Brief>) -> Result<(), NoMemory>
-    ensures items { answers.new.items ≡ answers.old.items }
-    ensures room { OnOk result (vec_len answers.new + most_brief ≤ vec_capacity answers.new) }
-    ensures full { OnErr result (vec_capacity answers.old < vec_len answers.old + most_brief) }
-{
-    if answers.capacity() - answers.len() < MOST_BRIEF {
-        answers.reserve(step(answers.len(), MOST_BRIEF))?;
-    }
-    Ok(())
-}
-
-/// Makes room for one more row.
-fn make_row_room(rows: &mut Vec<Row>) -> Result<(), NoMemory>
-    ensures items { rows.new.items ≡ rows.old.items }
-    ensures room { OnOk result (vec_len rows.new < vec_capacity rows.new) }
-    ensures full { OnErr result (vec_capacity rows.old ≤ vec_len rows.old) }
-{
-    if rows.len() == rows.capacity() {
-        rows.reserve(step(rows.len(), 1))?;
-    }
-    Ok(())
 }
 
 /// Appends answers in their brief form, where each has one and there aren't too many; else nothing changes.
@@ -167,9 +126,9 @@ impl JournalLists {
         ensures full { OnErr result (self.old.capacity ≤ length self.old.items) }
         ensures empty { IfOk result (λ said. said.items ≡ []) }
     {
-        make_row_room(&mut self.rows)?;
-        make_brief_room(&mut self.answers)?;
-        make_room(&mut self.whole)?;
+        make_room_for(&mut self.rows, 1)?;
+        make_room_for(&mut self.answers, MOST_BRIEF)?;
+        make_room_for(&mut self.whole, 1)?;
         let mut said = mem::replace(&mut self.said, Vec::new(alloc));
         said.clear();
         Ok(said)

@@ -4,14 +4,9 @@ ghost use Rattle.std.specs.Prelude.{◌≡◌, ◌<◌, [], ◌++◌, None, Some
 
 use crate::slot::Slot;
 use chunk_tags::{Block, NoMemory};
+use list_room::make_room_for;
 use std::alloc::Global;
 use std::marker::Model;
-
-/// Where there are more places than these, room is made for at least as many as take 128 KiB. A C library maps as much by itself,
-/// so what isn't used takes no memory, and what grows isn't copied (this project's own).
-const FEW: usize = 512;
-
-const LEAST_ROOM: usize = 4096;
 
 /// Places in a row, each empty or with a block.
 #[derive(Debug, Drop)]
@@ -58,12 +53,7 @@ impl NearNames {
         ensures ok { OnOk result (self.new ≡ self.old ++ replicate count None) }
         ensures err { OnErr result (self.new ≡ self.old) }
     {
-        let places = self.slots.len().saturating_add(count);
-        if places > self.slots.capacity() && places > FEW {
-            self.slots
-                .reserve(places.max(LEAST_ROOM) - self.slots.len())?;
-        }
-        self.slots.reserve(count)?;
+        make_room_for(&mut self.slots, count)?;
         for _n in 0..count {
             self.slots.push(Slot::empty(None)).unwrap();
         }

@@ -4,6 +4,7 @@ ghost use Rattle.std.specs.Prelude.{◌≡◌, ◌≢◌, ℕ, ◌*◌, ◌/◌,
 ghost use Rattle.part_words.specs.Extents.{extended, changed_at, IsOpen, IsWithinPart};
 ghost use Rattle.part_words.specs.Parts.{no_words, word_at, update, extent_of, filled};
 
+use list_room::make_room_for;
 use std::alloc::{AllocError, Global};
 use std::marker::Model;
 
@@ -175,20 +176,6 @@ fn add_parts<T: Copy>(
     Ok(())
 }
 
-/// Room is made for at least so many words, which is 128 KiB where a word has 8 bytes. A C library maps as much by itself, so what
-/// isn't written takes no memory, and what grows isn't copied (this project's own).
-const LEAST_ROOM: usize = 16384;
-
-/// Makes room for `end` words. No word changes.
-fn make_room<T: Copy>(words: &mut Vec<T>, end: usize) -> Result<(), AllocError>
-    ensures { words.new.items ≡ words.old.items }
-{
-    if words.capacity() < end {
-        words.reserve(end.max(LEAST_ROOM) - words.len())?;
-    }
-    Ok(())
-}
-
 /// Fills a part up to `end` words.
 fn fill_part<T: Copy>(words: &mut Vec<T>, end: usize, fill: T) -> Result<(), AllocError>
     ensures ok { OnOk result (words.new.items ≡ filled end fill words.old.items) }
@@ -196,7 +183,7 @@ fn fill_part<T: Copy>(words: &mut Vec<T>, end: usize, fill: T) -> Result<(), All
     ensures full { OnErr result (length words.old.items < end) }
 {
     if words.len() < end {
-        make_room(words, end)?;
+        make_room_for(words, end - words.len())?;
         words.resize(end, fill)
     } else {
         Ok(())

@@ -1,0 +1,29 @@
+//! Room in lists that grow large.
+#![tactic(auto)]
+
+ghost use Rattle.std.specs.Prelude.{◌≡◌, ◌<◌, ◌≤◌, ◌+◌, OnOk, OnErr, vec_len, vec_capacity};
+
+use std::alloc::AllocError;
+
+/// A list of so many items takes no more room than it asks for.
+const FEW: usize = 512;
+
+/// A larger one has room for so many at least, which is 128 KiB where an item has 8 bytes. A C library maps as much by itself, so
+/// what isn't written takes no memory, and what grows isn't copied.
+const LEAST_ROOM: usize = 16_384;
+
+/// Makes room for so many more items, where it isn't there (this project's own). The items stay.
+pub fn make_room_for<T>(list: &mut Vec<T>, count: usize) -> Result<(), AllocError>
+    ensures items { list.new.items ≡ list.old.items }
+    ensures room { OnOk result (vec_len list.new + count ≤ vec_capacity list.new) }
+    ensures full { OnErr result (vec_capacity list.old < vec_len list.old + count) }
+{
+    let len = list.len();
+    if count <= list.capacity() - len {
+        Ok(())
+    } else if count <= FEW.saturating_sub(len) {
+        list.reserve(count)
+    } else {
+        list.reserve(count.max(LEAST_ROOM.saturating_sub(len)))
+    }
+}
