@@ -4,9 +4,9 @@ use Rattle.std.specs.Prelude.{◌≡◌, ℕ, ◌==◌, nat_lt, nat_eq, Bool, no
 use Rattle.std.specs.List.{list_any}
 use Rattle.trace_text.specs.Marks.{has}
 
--- the names that a thread holds: marks of those below 65,536, and the others
+-- the names that a thread holds: the words with the marks of those below 65,536, and the others
 pub record Held : Type 0 where
-  pub near : List Bool
+  pub near : List ℕ
   pub far : List ℕ
 
 -- no name is held
