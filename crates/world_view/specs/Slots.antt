@@ -1,5 +1,5 @@
 -- Places in slots by their addresses (this project's own). No public clause cites this file.
-use Rattle.std.specs.Prelude.{◌≡◌, ℕ, ◌+◌, ◌-◌, ◌*◌, ◌/◌, ◌%◌, ◌^◌, ◌⊎◌, nat_eq, zero, suc, if◌then◌else◌, List, Option, Some, None, length, slice_index_or}
+use Rattle.std.specs.Prelude.{◌≡◌, ◌≢◌, ◌<◌, ◌≤◌, ℕ, ◌+◌, ◌-◌, ◌*◌, ◌/◌, ◌%◌, ◌^◌, ◌⊎◌, nat_eq, zero, suc, if◌then◌else◌, List, Option, Some, None, length, slice_index_or}
 use Rattle.stats_text.specs.declared.views.Place.TheVariants as places
 use Rattle.stats_text.specs.declared.views.Place.{Place}
 use Rattle.world_view.specs.declared.slots.Slot.{Slot}
@@ -28,6 +28,10 @@ addr_in slots i = (slot_in slots i).addr
 -- a slot with this address may be used for that one
 abbrev pub IsFor : ℕ → ℕ → Type 0
 IsFor addr held = (held ≡ addr) ⊎ (held ≡ 0)
+
+-- none of the slots that are tried from one on is empty
+abbrev pub AreTaken : List Slot → ℕ → Type 0
+AreTaken slots home = (j : ℕ) → home ≤ j → j < home + slots_tried → addr_in slots j ≢ 0
 
 -- what stands at an address in so many slots from one on
 unfoldable pub place_from : List Slot → ℕ → ℕ → ℕ → Option Place

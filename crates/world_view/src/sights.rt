@@ -20,7 +20,7 @@ pub struct Sights {
 }
 
 impl Sights {
-    /// None was seen. There is room for `capacity` of them before the table of places grows.
+    /// None was seen. The table of places has about `capacity` slots.
     #[tactic(auto, unfolding(crate::specs::Sights::seen_in))]
     pub fn new(alloc: Global, capacity: usize) -> Result<Sights, NoMemory>
         ensures { IfOk result (λ sights. seen_in sights ≡ nothing_seen) }

@@ -1,7 +1,7 @@
 //! Slots in a row, in which places stand by their addresses.
 
 ghost use Rattle.std.specs.Prelude.{◌≡◌, ℕ, ◌+◌, ◌<◌, ◌≤◌, ◌≢◌, ◌^◌, None, false, true, IfOk, IfSome, IfNone, length};
-ghost use Rattle.world_view.specs.Slots.{home_of, homes_of, place_from, place_at, addr_in, slots_tried, IsFor};
+ghost use Rattle.world_view.specs.Slots.{home_of, homes_of, place_from, place_at, addr_in, slots_tried, IsFor, AreTaken};
 ghost use Rattle.world_view.specs.Places.{nothing_found, put_found};
 
 use chunk_tags::NoMemory;
@@ -56,7 +56,7 @@ impl PlaceSlots {
     }
 
     /// The first slot of an address. Those of chunks near one another are near one another, and those of heaps, which lie
-    /// 64 MiB from one another, are not.
+    /// 64 MiB from one another where `--heap-max` doesn't say less, are not.
     fn home(&self, addr: u64) -> usize
         ensures home { result ≡ home_of addr (homes_of self.now) }
         ensures room { result + slots_tried ≤ length self.now }
@@ -79,12 +79,15 @@ impl PlaceSlots {
         found_from(self.slots.as_slice(), addr, self.home(addr))
     }
 
-    /// Puts a place at an address. Where it has no slot, since others have those that it may have or it is 0, nothing changes.
+    /// Puts a place at an address, and tells whether it did. Where others have the slots that it may have, or it is 0, nothing
+    /// changes.
     pub fn put(&mut self, addr: u64, place: Place) -> bool
         ensures put { result ≡ true
             → place_at self.new ≡ put_found (place_at self.old) (addr, place) }
         ensures same { result ≡ false → self.new ≡ self.old }
         ensures none { result ≡ false → place_at self.old addr ≡ None }
+        ensures full { result ≡ false → addr ≢ 0
+            → AreTaken self.old (home_of addr (homes_of self.old)) }
     {
         if addr == 0 {
             return false;
@@ -113,7 +116,7 @@ fn found_from(slots: &[Slot], addr: u64, home: usize) -> Option<Place>
     None
 }
 
-/// The first slot from one on that an address may use: its own, or an empty one.
+/// A slot from one on that an address may use: its own, or an empty one where none before has it.
 fn slot_for(slots: &[Slot], addr: u64, home: usize) -> Option<usize>
     requires room { home + slots_tried ≤ length slots.now }
     requires fits { home + slots_tried < 2 ^ 64 }
@@ -123,6 +126,7 @@ fn slot_for(slots: &[Slot], addr: u64, home: usize) -> Option<usize>
         (λ i. (j : ℕ) → home ≤ j → j < i → addr_in slots.now j ≢ addr) }
     ensures none { IfNone result
         ((j : ℕ) → home ≤ j → j < home + slots_tried → addr_in slots.now j ≢ addr) }
+    ensures full { IfNone result (AreTaken slots.now home) }
 {
     for i in home..home + SLOTS_TRIED {
         let held = slots[i].addr;

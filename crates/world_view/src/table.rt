@@ -1,6 +1,6 @@
 //! What is found at addresses.
 
-ghost use Rattle.std.specs.Prelude.{◌≡◌, IfOk, OnOk, OnErr};
+ghost use Rattle.std.specs.Prelude.{◌≡◌, None, IfOk, OnOk, OnErr};
 ghost use Rattle.world_view.specs.Places.{found_at, nothing_found, put_found};
 
 use crate::slots::PlaceSlots;
@@ -18,7 +18,7 @@ pub struct PlaceTable {
 }
 
 impl PlaceTable {
-    /// Nothing is found anywhere. `capacity` tells how many addresses there will be, about.
+    /// Nothing is found anywhere. There are slots for about `capacity` addresses.
     #[tactic(auto, unfolding(crate::specs::Places::found_at))]
     pub fn new(alloc: Global, capacity: usize) -> Result<PlaceTable, NoMemory>
         ensures { IfOk result (λ found. found_at found ≡ nothing_found) }
@@ -34,6 +34,7 @@ impl PlaceTable {
     pub fn put(&mut self, at: Addr, place: Place) -> Result<(), NoMemory>
         ensures ok { OnOk result (found_at self.new ≡ put_found (found_at self.old) (at, place)) }
         ensures err { OnErr result (found_at self.new ≡ found_at self.old) }
+        ensures full { OnErr result (found_at self.old at ≡ None) }
     {
         if self.slots.put(at.0, place) {
             return Ok(());
