@@ -71,12 +71,12 @@ pub record IsRowOf (who : Who) (act : Act) (ended : Ended) (count : ℕ) (row : 
   pub brief : wholes_of row ≡ 0
   pub entry : (ss : List Said) (es : List Recorded) → entry_in row ss es ≡ recorded who act (take count ss) ended ∷ []
 
--- A journal: its entries, and for how many there is room, of which the next one alone counts.
+-- A journal: its entries, and for how many there is room: for these, or for these and one more.
 pub record JournalValue : Type 0 where
   pub items : List Recorded
   pub capacity : ℕ
 
--- an entry with so many answers is kept briefly at most
+-- an entry with more answers is kept whole
 abbrev pub most_brief : ℕ
 most_brief = 32
 

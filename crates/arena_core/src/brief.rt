@@ -19,6 +19,8 @@ pub enum Brief {
     Dial(u64),
 }
 
+const _: () = prove!(size_of::<Brief>() == 16);
+
 /// The brief form of an answer, where it has one.
 pub fn brief_of(said: &Said) -> Option<Brief>
     ensures { IfSome result (λ brief. said_of brief ≡ said.now) }

@@ -5,17 +5,19 @@ ghost use Rattle.std.specs.Prelude.{◌≡◌, ◌<◌, ◌≤◌, ◌+◌, OnOk
 
 use std::alloc::AllocError;
 
-/// A list of so many items takes no more room than it asks for.
+/// Up to so many items a list grows as std's lists do.
 const FEW: usize = 512;
 
-/// A larger one has room for so many at least, which is 128 KiB where an item has 8 bytes. A C library maps as much by itself, so
-/// what isn't written takes no memory, and what grows isn't copied.
+/// Beyond, it has room for so many at least, which is 128 KiB where an item has 8 bytes. A C library maps as much by itself, so what
+/// isn't written takes no memory, and what grows isn't copied.
 const LEAST_ROOM: usize = 16_384;
 
-/// Makes room for so many more items, where it isn't there (this project's own). The items stay.
+/// Makes room for so many more items (this project's own). The items stay, and where there is room the list stays as it is.
 pub fn make_room_for<T>(list: &mut Vec<T>, count: usize) -> Result<(), AllocError>
     ensures items { list.new.items ≡ list.old.items }
     ensures room { OnOk result (vec_len list.new + count ≤ vec_capacity list.new) }
+    ensures kept { vec_len list.old + count ≤ vec_capacity list.old
+        → vec_capacity list.new ≡ vec_capacity list.old }
     ensures full { OnErr result (vec_capacity list.old < vec_len list.old + count) }
 {
     let len = list.len();
