@@ -17,6 +17,7 @@ mod LinesAfter
 mod Windows
 mod Tiles
 mod Stepping
+mod LookingAhead
 mod ReplayLoop
 mod SheetLaws
 mod Reports

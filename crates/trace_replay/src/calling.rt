@@ -271,7 +271,7 @@ pub fn call<K: Kernel>(
 }
 
 /// The name of a call; the end of a thread has none.
-fn name_of(call: &Call) -> Option<u32>
+pub fn name_of(call: &Call) -> Option<u32>
     ensures { result ≡ name_in call.now }
 {
     match *call {

@@ -3,6 +3,7 @@
 //! what is written, or how it is refused, is what the rules give (`verdict` of `SerialText`).
 #![tactic(auto)]
 
+mod ahead;
 mod asked;
 mod calling;
 mod exit;

@@ -3,6 +3,7 @@
 ghost use Rattle.std.specs.Prelude.{◌≡◌, ◌≤◌, vec_len, IfOk, OnOk, OnErr};
 ghost use Rattle.chunk_tags.specs.Tunables.{IsTuned};
 
+use crate::ahead::{AHEAD, holds_ahead};
 use crate::calling::{call, tidy};
 use crate::threads::new_threads;
 use address_space::Kernel;
@@ -11,7 +12,7 @@ use malloc_calls::{Reply, Thread};
 use serial_places::Serial;
 use stats_text::Snapshot;
 use std::alloc::Global;
-use trace_text::Line;
+use trace_text::{Line, Lines};
 use world_view::snapshot;
 
 /// The threads by number, with all that their calls go over.
@@ -20,6 +21,8 @@ pub struct Process<K: Kernel> {
     threads: Vec<Thread<K>>,
     serial: Serial,
     t: Tunables,
+    /// Whether a name that was looked up ahead last holds a block. Nobody asks; it stands here so that it is found out.
+    holds_ahead: bool,
     ghost tuned: { IsTuned t },
 }
 
@@ -49,6 +52,7 @@ impl<K: Kernel> Process<K> {
             threads: new_threads(alloc, kernels, t)?,
             serial: Serial::new(alloc, t)?,
             t: *t,
+            holds_ahead: false,
         })
     }
 
@@ -59,6 +63,17 @@ impl<K: Kernel> Process<K> {
     {
         self.serial.laws();
         world_view::laws();
+    }
+
+    /// Looks up the names of the next lines, at every so many; no call rests on it.
+    pub fn look_ahead(&mut self, lines: &Lines, from: usize)
+        ensures threads { self.new.threads ≡ self.old.threads }
+        ensures serial { self.new.serial ≡ self.old.serial }
+        ensures tunables { self.new.t ≡ self.old.t }
+    {
+        if from % AHEAD == 0 {
+            self.holds_ahead = holds_ahead(self.threads.as_slice(), lines, from);
+        }
     }
 
     /// One line of a trace.
@@ -95,6 +110,7 @@ impl<K: Kernel> Process<K> {
             threads,
             serial,
             t: _,
+            holds_ahead: _,
         } = self;
         serial.laws();
         let end = serial.end(alloc)?;

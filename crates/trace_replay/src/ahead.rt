@@ -1,0 +1,32 @@
+//! The names of the lines to come.
+
+use crate::calling::name_of;
+use address_space::Kernel;
+use malloc_calls::Thread;
+use trace_text::{Line, Lines};
+
+/// For so many lines at once names are looked up ahead (this project's own).
+pub const AHEAD: usize = 32;
+
+/// Whether the name of a line holds a block, or the next one does, where their places are in the row. A place has 32 bytes, so
+/// it may lie in two lines of the processor's cache; the next one begins in the second.
+fn holds<K: Kernel>(threads: &[Thread<K>], line: &Line) -> bool {
+    let Some(thread) = threads.get(usize::from(line.thread)) else {
+        return false;
+    };
+    let Some(name) = name_of(&line.call) else {
+        return false;
+    };
+    thread.in_row(name).is_some() | thread.in_row(name.saturating_add(1)).is_some()
+}
+
+/// Whether one of the names of the next lines, from an index on, holds a block. No call rests on it: a processor fetches the
+/// places of these names side by side here, where they lie far from one another, and the calls needn't wait for each.
+pub fn holds_ahead<K: Kernel>(threads: &[Thread<K>], lines: &Lines, from: usize) -> bool {
+    let mut holding = false;
+    for index in from..lines.len().min(from.saturating_add(AHEAD)) {
+        let line = lines.get(index);
+        holding |= holds(threads, &line);
+    }
+    holding
+}
