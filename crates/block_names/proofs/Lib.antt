@@ -1,3 +1,4 @@
 pub mod Keyed
 pub mod Tables
 mod FarPlaces
+mod NearPlaces

@@ -391,9 +391,9 @@ tidied_weighs name names weigh none =
     tidied_by (λ x. weight_in x weigh ≡ weight_in names weigh) name names refl
     (λ far e. gone_weighs name names weigh none (sym (at_far names name far) ∙ e))
 
-pub mapped_none : {X Y : Type 0} (f : X → Y) (r : Option X) → is_some r ≡ false → option_map f r ≡ None
-mapped_none f None h = refl
-mapped_none f (Some x) h = absurd cc
+pub none_there : {X : Type 0} (r : Option X) → is_some r ≡ false → r ≡ None
+none_there None h = refl
+none_there (Some x) h = absurd cc
 
 -- a table is still one when it loses the empty place of a name
 pub removed_table : (name : ℕ) (seen names : NameTable) (es : List (ℕ × Option Block)) → seen ≡ names → es ≡ remove_entry (is_name name) seen.far →

@@ -3,3 +3,4 @@ pub use Rattle.mapped_chunks.specs.Mappings
 pub mod Blocks
 pub mod Names
 pub mod FarNames
+pub mod NearNames

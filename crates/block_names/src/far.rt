@@ -1,6 +1,6 @@
 //! The blocks of far names.
 
-ghost use Rattle.std.specs.Prelude.{◌≡◌, ◌<◌, [], false, None, Some, is_some, length, option_copied, vec_capacity, OnOk, IfOk, OnErr};
+ghost use Rattle.std.specs.Prelude.{◌≡◌, ◌<◌, [], false, None, Some, is_some, length, vec_capacity, OnOk, IfOk, OnErr};
 ghost use Rattle.std.specs.BTreeMap.{insert_entry};
 ghost use Rattle.std.specs.List.Sorted.{IsStrictlySortedBy};
 ghost use Rattle.std.specs.Map.{keys_of, set_value, remove_entry};
@@ -109,8 +109,8 @@ impl FarNames {
     }
 
     /// The block of a name.
-    pub fn get(&self, name: u32) -> Option<&Block>
-        ensures { option_copied result ≡ unwrap_or (far_place name self.now) None }
+    pub fn get(&self, name: u32) -> Option<Block>
+        ensures { result ≡ unwrap_or (far_place name self.now) None }
     {
         let slot = *self.index.get(&name)?;
         self.slots[slot as usize].get()

@@ -6,6 +6,7 @@ mod far;
 mod names;
 mod near;
 mod slot;
+mod word;
 
 pub use far::FarNames;
 pub use names::Names;

@@ -1,6 +1,6 @@
 //! The blocks of a thread, by name.
 
-ghost use Rattle.std.specs.Prelude.{◌≡◌, length, IsTrue, false, None, IfSome, OnOk, OnErr, option_copied, slice_index_or};
+ghost use Rattle.std.specs.Prelude.{◌≡◌, length, IsTrue, false, None, is_some, IfSome, OnOk, OnErr, slice_index_or};
 ghost use Rattle.block_names.specs.Blocks.{IsHeld};
 ghost use Rattle.block_names.specs.Names.{IsTable, FarNamesRise, no_names, has_place, block_at, with_place, with_block, without_block, tidied};
 
@@ -97,18 +97,26 @@ impl Names {
         self.near.len() as u32
     }
 
+    /// Whether a name in the row holds a block.
+    pub fn holds_in_row(&self, name: u32) -> bool
+        ensures { result ≡ is_some (slice_index_or self.now.near name None) }
+    {
+        self.near.has(name as usize)
+    }
+
     /// The block of a name in the row.
-    pub fn in_row(&self, name: u32) -> Option<&Block>
-        ensures { option_copied result ≡ slice_index_or self.now.near name None }
+    pub fn in_row(&self, name: u32) -> Option<Block>
+        ensures { result ≡ slice_index_or self.now.near name None }
     {
         self.near.get(name as usize)
     }
 
     /// The block of a name. `None` exactly where the name holds nothing.
+    #[inline(always)]
     #[tactic(auto, unfolding(crate::specs::Names::block_at))]
-    pub fn get(&self, name: u32) -> Option<&Block>
-        ensures block { option_copied result ≡ block_at self.now name }
-        ensures held { IfSome result (λ b. IsHeld b.now) }
+    pub fn get(&self, name: u32) -> Option<Block>
+        ensures block { result ≡ block_at self.now name }
+        ensures held { IfSome result IsHeld }
     {
         if name < NEAR_NAMES {
             self.near.get(name as usize)
@@ -133,6 +141,7 @@ impl Names {
     }
 
     /// The block of a name, which then holds nothing. `None` exactly where it held nothing.
+    #[inline(always)]
     #[tactic(auto, unfolding(crate::specs::Names::block_at, crate::specs::Names::with_at))]
     pub fn take(&mut self, name: u32) -> Option<Block>
         ensures block { result ≡ block_at self.old name }

@@ -1,6 +1,6 @@
 //! A place for a block.
 
-ghost use Rattle.std.specs.Prelude.{◌≡◌, ◌<◌, None, option_copied};
+ghost use Rattle.std.specs.Prelude.{◌≡◌, ◌<◌, None};
 ghost use Rattle.block_names.specs.FarNames.{Full, Empty, block_in, next_in};
 
 use chunk_tags::{Addr, Block, Size};
@@ -24,6 +24,18 @@ impl Model for Slot {
     ghost invariant = { λ s. HasNumber s.block };
 }
 
+/// A block as it is read. The hand that holds it holds it on.
+pub(crate) fn copy_of(block: &Block) -> Block
+    ensures { result ≡ block.now }
+{
+    Block {
+        addr: block.addr,
+        size: block.size,
+        lead: block.lead,
+        arena: block.arena,
+    }
+}
+
 impl Slot {
     /// Nothing, and the number of the slot that is free next, where there is one.
     pub fn empty(next: Option<u32>) -> Slot
@@ -43,13 +55,13 @@ impl Slot {
     }
 
     /// Its block.
-    pub fn get(&self) -> Option<&Block>
-        ensures { option_copied result ≡ block_in self.now }
+    pub fn get(&self) -> Option<Block>
+        ensures { result ≡ block_in self.now }
     {
         if self.block.size == Size(0) {
             None
         } else {
-            Some(&self.block)
+            Some(copy_of(&self.block))
         }
     }
 

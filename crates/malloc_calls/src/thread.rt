@@ -1,6 +1,6 @@
 //! A thread, and its calls.
 
-ghost use Rattle.std.specs.Prelude.{◌≡◌, ℕ, true, false, ◌*◌, ◌-◌, ◌^◌, ◌<◌, ◌≤◌, nat_le, IsSome, None, Some, Ok, IsTrue, IfSome, IfOk, OnOk, OnErr, is_ok, option_copied, length, ◌⊎◌, slice_index_or};
+ghost use Rattle.std.specs.Prelude.{◌≡◌, ℕ, true, false, ◌*◌, ◌-◌, ◌^◌, ◌<◌, ◌≤◌, nat_le, IsSome, None, Some, Ok, IsTrue, IfSome, IfOk, OnOk, OnErr, is_ok, is_some, option_copied, length, ◌⊎◌, slice_index_or};
 ghost use Rattle.std.specs.Option.{option_map};
 ghost use Rattle.chunk_tags.specs.Sizes.{chunk_size_of, padded_request};
 ghost use Rattle.chunk_tags.specs.declared.block.Block.{Block as Piece};
@@ -95,9 +95,16 @@ impl<K: Kernel> Thread<K> {
         self.own.names.row()
     }
 
+    /// Whether a name in the row holds a block.
+    pub fn holds_in_row(&self, name: u32) -> bool
+        ensures { result ≡ is_some (slice_index_or (names_of self.now).near name None) }
+    {
+        self.own.names.holds_in_row(name)
+    }
+
     /// The block of a name in the row.
-    pub fn in_row(&self, name: u32) -> Option<&Block>
-        ensures { option_copied result ≡ slice_index_or (names_of self.now).near name None }
+    pub fn in_row(&self, name: u32) -> Option<Block>
+        ensures { result ≡ slice_index_or (names_of self.now).near name None }
     {
         self.own.names.in_row(name)
     }
@@ -110,8 +117,8 @@ impl<K: Kernel> Thread<K> {
     }
 
     /// The block of a name. `None` exactly where the name holds nothing.
-    pub fn block(&self, name: u32) -> Option<&Block>
-        ensures { option_copied result ≡ block_at (names_of self.now) name }
+    pub fn block(&self, name: u32) -> Option<Block>
+        ensures { result ≡ block_at (names_of self.now) name }
     {
         self.own.names.get(name)
     }

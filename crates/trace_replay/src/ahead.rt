@@ -8,8 +8,7 @@ use trace_text::{Line, Lines};
 /// For so many lines at once names are looked up ahead (this project's own).
 pub const AHEAD: usize = 32;
 
-/// Whether the name of a line holds a block, or the next one does, where their places are in the row. A place has 32 bytes, so
-/// it may lie in two lines of the processor's cache; the next one begins in the second.
+/// Whether the name of a line holds a block, where its place is in the row.
 fn holds<K: Kernel>(threads: &[Thread<K>], line: &Line) -> bool {
     let Some(thread) = threads.get(usize::from(line.thread)) else {
         return false;
@@ -17,7 +16,7 @@ fn holds<K: Kernel>(threads: &[Thread<K>], line: &Line) -> bool {
     let Some(name) = name_of(&line.call) else {
         return false;
     };
-    thread.in_row(name).is_some() | thread.in_row(name.saturating_add(1)).is_some()
+    thread.holds_in_row(name)
 }
 
 /// Whether one of the names of the next lines, from an index on, holds a block. No call rests on it: a processor fetches the

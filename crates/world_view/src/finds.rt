@@ -55,7 +55,7 @@ fn see_row<K: Kernel>(sights: &mut Sights, number: u8, thread: &Thread<K>) -> Re
                 thread: number,
                 name,
             };
-            sights.put(&block_at_place(block, place))?;
+            sights.put(&block_at_place(&block, place))?;
         }
     }
     Ok(())
@@ -73,7 +73,7 @@ fn see_far<K: Kernel>(sights: &mut Sights, number: u8, thread: &Thread<K>) -> Re
                 thread: number,
                 name: *name,
             };
-            sights.put(&block_at_place(block, place))?;
+            sights.put(&block_at_place(&block, place))?;
         }
     }
     Ok(())

@@ -45,7 +45,7 @@ free_mapped-requires-clause-served g c = λ k l.
 pub returns-in-None-clause-does : goal.returns-in-None-clause-does
 returns-in-None-clause-does g c =
     let at : block_at c.args.own.now.names c.args.name ≡ Some c.unwrap-block.result = cc in
-    let same : c.unwrap-block.result ≡ c.in-Some.named.now = cc c.in-Some.ensures.block in
+    let same : c.unwrap-block.result ≡ c.in-Some.named = cc c.in-Some.ensures.block in
     free_unmaps c.args.who.now c.args.who.now.thread c.args.name c.unwrap-block.result c.args.own.now c.take.new.self at (ap (λ (x : Block). x.arena) same ∙ c.in-None.is)
     c.take.ensures.rest c.free_mapped.ensures.frees
 
@@ -59,8 +59,8 @@ returns-in-None-clause-carries g c =
 
 pub returns-in_ok-open_cache-in-Some-arena-clause-does : goal.returns-in_ok-open_cache-in-Some-arena-clause-does
 returns-in_ok-open_cache-in-Some-arena-clause-does g c =
-    let at : block_at c.args.own.now.names c.args.name ≡ Some c.in-Some.named.now = sym c.in-Some.ensures.block in
-    free_does _ _ _ _ _ _ c.args.who.now.thread c.in-Some-arena.a c.args.name c.in-Some.named.now c.args.own.now c.open_cache.new.cache c.free_chunk.result
+    let at : block_at c.args.own.now.names c.args.name ≡ Some c.in-Some.named = sym c.in-Some.ensures.block in
+    free_does _ _ _ _ _ _ c.args.who.now.thread c.in-Some-arena.a c.args.name c.in-Some.named c.args.own.now c.open_cache.new.cache c.free_chunk.result
     c.free_chunk.new.own at c.in-Some-arena.is c.in_ok-open_cache-in-Some-arena.ensures.does c.free_chunk.ensures.does
 
 pub returns-in_default-clause-taken : goal.returns-in_default-clause-taken
@@ -69,9 +69,9 @@ returns-in_default-clause-taken g c = sym (nothing_taken c.args.name c.args.own.
 pub returns-in_err-open_cache-in-Some-arena-clause-left : goal.returns-in_err-open_cache-in-Some-arena-clause-left
 returns-in_err-open_cache-in-Some-arena-clause-left g c =
     on_err c.from_residual.result
-    (free_unopened c.in-Some-arena.a c.args.name c.in-Some.named.now c.args.own.now (sym c.in-Some.ensures.block) c.in-Some-arena.is c.in_err-open_cache-in-Some-arena.ensures.left)
+    (free_unopened c.in-Some-arena.a c.args.name c.in-Some.named c.args.own.now (sym c.in-Some.ensures.block) c.in-Some-arena.is c.in_err-open_cache-in-Some-arena.ensures.left)
 
 pub returns-in_ok-open_cache-in-Some-arena-clause-left : goal.returns-in_ok-open_cache-in-Some-arena-clause-left
 returns-in_ok-open_cache-in-Some-arena-clause-left g c =
-    free_left _ c.in-Some-arena.a c.args.name c.in-Some.named.now c.args.own.now c.open_cache.new.cache c.free_chunk.result (sym c.in-Some.ensures.block) c.in-Some-arena.is
+    free_left _ c.in-Some-arena.a c.args.name c.in-Some.named c.args.own.now c.open_cache.new.cache c.free_chunk.result (sym c.in-Some.ensures.block) c.in-Some-arena.is
     c.in_ok-open_cache-in-Some-arena.ensures.does c.free_chunk.ensures.left

@@ -21,10 +21,10 @@ returns-then-size-eq0-clause-others g c =
 pub returns-in-None-clause-does : goal.returns-in-None-clause-does
 returns-in-None-clause-does g c =
     let some : nat_eq c.args.size 0 ≡ false = grind (arith, nat_tests, c.if-size-eq0.false) in
-    realloc_big _ _ _ c.args.who.now.thread c.args.name c.args.size c.in-Some._named.now c.args.own.now _ (sym c.in-Some.ensures.block) some (sym c.request_size.ensures ∙ c.in-None.is)
+    realloc_big _ _ _ c.args.who.now.thread c.args.name c.args.size c.in-Some._named c.args.own.now _ (sym c.in-Some.ensures.block) some (sym c.request_size.ensures ∙ c.in-None.is)
 
 pub returns-in-Some-request_size-clause-left : goal.returns-in-Some-request_size-clause-left
 returns-in-Some-request_size-clause-left g c =
     let some : nat_eq c.args.size 0 ≡ false = grind (arith, nat_tests, c.if-size-eq0.false) in
-    realloc_left _ _ _ c.args.who.now.thread c.args.name c.args.size c.in-Some-request_size.nb c.in-Some._named.now c.args.own.now _ _ c.realloc_name.result
+    realloc_left _ _ _ c.args.who.now.thread c.args.name c.args.size c.in-Some-request_size.nb c.in-Some._named c.args.own.now _ _ c.realloc_name.result
     (sym c.in-Some.ensures.block) some (sym c.request_size.ensures ∙ c.in-Some-request_size.is) c.realloc_name.ensures.left

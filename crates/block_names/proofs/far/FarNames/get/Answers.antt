@@ -1,5 +1,4 @@
 use Rattle.std.proofs.Common.{None, sym, ap, ◌∙◌, arith}
-use Rattle.std.specs.Option.{option_copied}
 use Rattle.block_names.specs.FarNames.{SlotValue, block_in}
 use Rattle.block_names.specs.Names.{is_name}
 use Rattle.block_names.proofs.FarPlaces.{held_by, slot_there, slot_held}
@@ -7,7 +6,7 @@ use Rattle.block_names.proofs.far.FarNames.get.Goals as goal
 
 pub returns-in_err-slot : goal.returns-in_err-slot
 returns-in_err-slot c =
-    ap (λ o. option_copied o) c.from_residual.ensures
+    c.from_residual.ensures
     ∙ held_by (is_name c.args.name) c.self.inside.slots.items c.self.inside.index.entries c.args.self.now None c.self.view_is (sym c.in_err-slot.ensures.value)
 
 pub index-requires : goal.index-requires
