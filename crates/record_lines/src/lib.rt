@@ -10,5 +10,6 @@ mod words;
 pub use answer_counts::{Counts, count_outcomes, push_counts};
 pub use records::{Outcome, Record, Sink3, Source3, append_record, record_line};
 pub use words::{
-    push_address, push_addresses, push_block, push_number, push_numbered, push_right, push_text,
+    push_address, push_addresses, push_number, push_numbered, push_right, push_text, put_block,
+    put_number, put_text,
 };

@@ -88,7 +88,7 @@ fn put_byte(text: &mut [u8], end: usize, byte: u8) -> usize
 }
 
 /// Puts a short text before `end`, and gives the place where it begins.
-pub(crate) fn put_text(text: &mut [u8], end: usize, word: &[u8]) -> usize
+pub fn put_text(text: &mut [u8], end: usize, word: &[u8]) -> usize
     requires { (length word.now ≤ end) × (end ≤ length text.old) }
     ensures start { result + length word.now ≡ end }
     ensures length { length text.new ≡ length text.old }
@@ -101,7 +101,7 @@ pub(crate) fn put_text(text: &mut [u8], end: usize, word: &[u8]) -> usize
 
 /// Puts a number before `end`, and gives the place where it begins.
 #[tactic(auto, using(crate::proofs::Digits::decimal_lengths))]
-pub(crate) fn put_number(text: &mut [u8], end: usize, n: u64) -> usize
+pub fn put_number(text: &mut [u8], end: usize, n: u64) -> usize
     requires { (20 ≤ end) × (end ≤ length text.old) }
     ensures start { (result ≤ end) × (end ≤ result + 20) }
     ensures length { length text.new ≡ length text.old }
@@ -139,7 +139,7 @@ fn put_address(text: &mut [u8], end: usize, at: Addr) -> usize
 
 /// Puts a block, its user address and its size, before `end`, and gives the place where it begins.
 #[tactic(auto, using(crate::proofs::Digits::decimal_lengths), unfolding(crate::specs::Words::block_text))]
-pub(crate) fn put_block(text: &mut [u8], end: usize, addr: Addr, size: Size) -> usize
+pub fn put_block(text: &mut [u8], end: usize, addr: Addr, size: Size) -> usize
     requires { (35 ≤ end) × (end ≤ length text.old) }
     ensures start { (result ≤ end) × (end ≤ result + 35) }
     ensures length { length text.new ≡ length text.old }
@@ -159,17 +159,6 @@ pub fn push_address(out: &mut Vec<u8>, at: Addr) -> Result<(), NoMemory>
     let mut text = [0u8; 14];
     put_address(&mut text, 14, at);
     push_text(out, &text)
-}
-
-/// Appends a block: its user address and its size. The bytes are made in a small array and appended at once.
-pub fn push_block(out: &mut Vec<u8>, addr: Addr, size: Size) -> Result<(), NoMemory>
-    ensures ok { OnOk result (out.new.items ≡ out.old.items ++ block_text addr size) }
-    ensures full { OnErr result (LacksRoom out.old (block_text addr size)) }
-    ensures kept { KeepsText out.old out.new }
-{
-    let mut text = [0u8; 35];
-    let start = put_block(&mut text, 35, addr, size);
-    push_text(out, &text[start..])
 }
 
 /// Appends a space and the user address of the chunk at `at`.

@@ -1,6 +1,6 @@
 //! The lines of a report that say where each chunk is.
 
-ghost use Rattle.std.specs.Prelude.{◌≡◌, ◌++◌, codes, OnOk, OnErr};
+ghost use Rattle.std.specs.Prelude.{◌≡◌, ◌+◌, ◌≤◌, ◌++◌, codes, decimal, drop, length, OnOk, OnErr};
 ghost use Rattle.stats_text.specs.Views.{lists_of};
 ghost use Rattle.stats_text.specs.Report.{address_or_dash, place_text, tile_line, tile_lines, mapped_line, mapped_lines, numbered_list, bin_line, bin_lines, arena_extent, arena_line, arena_section, arena_sections, cache_line, cache_lines};
 ghost use Rattle.record_lines.specs.Appends.{LacksRoom, KeepsText};
@@ -8,7 +8,8 @@ ghost use Rattle.record_lines.specs.Appends.{LacksRoom, KeepsText};
 use crate::views::{ArenaView, CacheView, Place, TileView};
 use chunk_tags::{Addr, NoMemory};
 use record_lines::{
-    push_address, push_addresses, push_block, push_number, push_numbered, push_text,
+    push_address, push_addresses, push_number, push_numbered, push_text, put_block, put_number,
+    put_text,
 };
 
 /// Appends a chunk's user address, or a dash where there is none.
@@ -24,39 +25,64 @@ fn push_address_or_dash(out: &mut Vec<u8>, at: Option<Addr>) -> Result<(), NoMem
     }
 }
 
-/// Appends where a chunk is.
+/// Puts a word and a number before `end`, and gives the place where the word begins.
+fn put_numbered(text: &mut [u8], end: usize, word: &[u8], n: u64) -> usize
+    requires { (length word.now + 20 ≤ end) × (end ≤ length text.old) }
+    ensures start { (result + length word.now ≤ end) × (end ≤ result + length word.now + 20) }
+    ensures length { length text.new ≡ length text.old }
+    ensures written { drop result text.new ≡ (word.now ++ decimal n) ++ drop end text.old }
+{
+    let end = put_number(text, end, n);
+    put_text(text, end, word)
+}
+
+/// Puts where a chunk is before `end`, and gives the place where it begins.
 #[tactic(auto, unfolding(crate::specs::Report::place_text))]
-fn push_place(out: &mut Vec<u8>, place: Place) -> Result<(), NoMemory>
-    ensures ok { OnOk result (out.new.items ≡ out.old.items ++ place_text place) }
-    ensures full { OnErr result (LacksRoom out.old (place_text place)) }
-    ensures kept { KeepsText out.old out.new }
+fn put_place(text: &mut [u8], end: usize, place: Place) -> usize
+    requires { (46 ≤ end) × (end ≤ length text.old) }
+    ensures start { (result ≤ end) × (end ≤ result + 46) }
+    ensures length { length text.new ≡ length text.old }
+    ensures written { drop result text.new ≡ place_text place ++ drop end text.old }
 {
     match place {
         Place::Live { thread, name } => {
-            push_numbered(out, b"live ", u64::from(thread))?;
-            push_numbered(out, b" ", u64::from(name))
+            let end = put_numbered(text, end, b" ", u64::from(name));
+            put_numbered(text, end, b"live ", u64::from(thread))
         }
-        Place::Cache { thread } => push_numbered(out, b"cache ", u64::from(thread)),
-        Place::Structure { thread } => push_numbered(out, b"structure ", u64::from(thread)),
-        Place::Tray { tray } => push_numbered(out, b"tray ", u64::from(tray)),
-        Place::Fast { bin } => push_numbered(out, b"fast ", u64::from(bin)),
-        Place::Bin { bin } => push_numbered(out, b"bin ", u64::from(bin)),
-        Place::Top => push_text(out, b"top"),
-        Place::Fence => push_text(out, b"fence"),
+        Place::Cache { thread } => put_numbered(text, end, b"cache ", u64::from(thread)),
+        Place::Structure { thread } => put_numbered(text, end, b"structure ", u64::from(thread)),
+        Place::Tray { tray } => put_numbered(text, end, b"tray ", u64::from(tray)),
+        Place::Fast { bin } => put_numbered(text, end, b"fast ", u64::from(bin)),
+        Place::Bin { bin } => put_numbered(text, end, b"bin ", u64::from(bin)),
+        Place::Top => put_text(text, end, b"top"),
+        Place::Fence => put_text(text, end, b"fence"),
     }
 }
 
-/// Appends the line of an arena's chunk.
+/// Puts the end of a chunk's line, where the chunk is, at the end.
+fn put_tail(text: &mut [u8], place: Place) -> usize
+    requires { 48 ≤ length text.old }
+    ensures start { (result ≤ length text.old) × (length text.old ≤ result + 48) }
+    ensures length { length text.new ≡ length text.old }
+    ensures written { drop result text.new ≡ codes " " ++ place_text place ++ codes "\n" }
+{
+    let end = text.len();
+    let end = put_text(text, end, b"\n");
+    let end = put_place(text, end, place);
+    put_text(text, end, b" ")
+}
+
+/// Appends the line of an arena's chunk. It is made in a small array and appended at once.
 #[tactic(auto, unfolding(crate::specs::Report::tile_line))]
 fn push_tile(out: &mut Vec<u8>, tile: &TileView) -> Result<(), NoMemory>
     ensures ok { OnOk result (out.new.items ≡ out.old.items ++ tile_line tile.now) }
     ensures full { OnErr result (LacksRoom out.old (tile_line tile.now)) }
     ensures kept { KeepsText out.old out.new }
 {
-    push_block(out, tile.addr, tile.size)?;
-    push_text(out, b" ")?;
-    push_place(out, tile.place)?;
-    push_text(out, b"\n")
+    let mut text = [0u8; 83];
+    let start = put_tail(&mut text, tile.place);
+    let start = put_block(&mut text, start, tile.addr, tile.size);
+    push_text(out, &text[start..])
 }
 
 /// Appends the lines of an arena's chunks.
@@ -79,11 +105,11 @@ fn push_mapped(out: &mut Vec<u8>, tile: &TileView) -> Result<(), NoMemory>
     ensures full { OnErr result (LacksRoom out.old (mapped_line tile.now)) }
     ensures kept { KeepsText out.old out.new }
 {
-    push_block(out, tile.addr, tile.size)?;
-    push_numbered(out, b" lead ", tile.lead)?;
-    push_text(out, b" ")?;
-    push_place(out, tile.place)?;
-    push_text(out, b"\n")
+    let mut text = [0u8; 109];
+    let start = put_tail(&mut text, tile.place);
+    let start = put_numbered(&mut text, start, b" lead ", tile.lead);
+    let start = put_block(&mut text, start, tile.addr, tile.size);
+    push_text(out, &text[start..])
 }
 
 /// Appends the lines of mapped chunks.
