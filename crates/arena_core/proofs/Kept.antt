@@ -14,8 +14,8 @@ use Rattle.arena_core.specs.Kept.{AreKept, IsRowOf, told_of, wholes_of, told_in,
 
 -- a row's entry is the same where more follows
 entry-more : (r : Row) (ss ts : List Said) (es ms : List Recorded) → told_of r ≤ length ss → wholes_of r ≤ length es → entry_in r (ss ++ ts) (es ++ ms) ≡ entry_in r ss es
-entry-more (Took thread mapped told line nb size addr) ss ts es ms few one = rw (take-append-le told ss ts few) refl
-entry-more (Gave thread told line size addr) ss ts es ms few one = rw (take-append-le told ss ts few) refl
+entry-more (Took thread told over line chunk) ss ts es ms few one = rw (take-append-le told ss ts few) refl
+entry-more (Gave thread told line chunk) ss ts es ms few one = rw (take-append-le told ss ts few) refl
 entry-more Whole ss ts es ms few one = take-append-le 1 es ms one
 
 -- the rows behind the first, with their answers and whole entries
@@ -60,8 +60,8 @@ pub kept-whole : (rs : List Row) (ss : List Said) (es : List Recorded) (e : Reco
 kept-whole rs ss es e k = rw (append-nil ss) at (kept_push rs Whole ss [] es (e ∷ []) k refl refl)
 
 one_entry : (r : Row) (ss : List Said) (es : List Recorded) → wholes_of r ≤ length es → length (entry_in r ss es) ≡ 1
-one_entry (Took thread mapped told line nb size addr) ss es one = refl
-one_entry (Gave thread told line size addr) ss es one = refl
+one_entry (Took thread told over line chunk) ss es one = refl
+one_entry (Gave thread told line chunk) ss es one = refl
 one_entry Whole ss [] one = absurd (omega (arith, one))
 one_entry Whole ss (e ∷ es) one = refl
 

@@ -1,5 +1,5 @@
 -- How a journal is kept (this project's own): most entries and answers need few bytes, and the others are kept whole.
-use Rattle.std.specs.Prelude.{◌≡◌, ℕ, ◌+◌, Bool, ◌&&◌, nat_lt, nat_le, cond, List, [], ◌∷◌, ◌++◌, take, drop, length, Some, None, Vec, vec_len, vec_capacity}
+use Rattle.std.specs.Prelude.{◌≡◌, ℕ, ◌+◌, ◌-◌, ◌*◌, ◌/◌, ◌%◌, Bool, false, ◌&&◌, nat_eq, nat_lt, nat_le, cond, if◌then◌else◌, List, [], ◌∷◌, ◌++◌, take, drop, length, Some, None, Vec, vec_len, vec_capacity}
 use Rattle.arena_rules.specs.declared.said.Said.{Said}
 use Rattle.arena_rules.specs.declared.said.Said.TheVariants as told
 use Rattle.arena_core.specs.declared.journal.Act.{Act}
@@ -7,33 +7,42 @@ use Rattle.arena_core.specs.declared.journal.Act.TheVariants.{Take, Give}
 use Rattle.arena_core.specs.declared.journal.Ended.{Ended}
 use Rattle.arena_core.specs.declared.journal.Ended.TheVariants.{Got, Done}
 use Rattle.arena_core.specs.declared.journal.Who.{Who}
-use Rattle.arena_core.specs.declared.brief.Brief.{Brief}
-use Rattle.arena_core.specs.declared.brief.Brief.TheVariants as briefs
 use Rattle.arena_core.specs.declared.brief.Row.{Row}
 use Rattle.arena_core.specs.declared.brief.Row.TheVariants.{Took, Gave, Whole}
 use Rattle.arena_core.specs.Arenas.{recorded}
 use Rattle.arena_core.specs.Journal.{Recorded}
 
--- the answer that a brief one stands for
-abbrev pub said_of : Brief → Said
-said_of (briefs.Flag up) = told.Flag up
-said_of briefs.NonePopped = told.Popped None
-said_of (briefs.Popped at) = told.Popped (Some at)
-said_of briefs.NoOwn = told.Own None
-said_of (briefs.Own at) = told.Own (Some at)
-said_of (briefs.Room is_there) = told.Room is_there
-said_of (briefs.Dial number) = told.Dial number
+-- the answer of a kind with a number
+abbrev pub said_by : ℕ → ℕ → Said
+said_by kind number =
+    if nat_eq kind 0 then told.Flag (nat_eq number 1)
+    else (if nat_eq kind 1 then told.Popped None
+    else (if nat_eq kind 2 then told.Popped (Some number)
+    else (if nat_eq kind 3 then told.Own None
+    else (if nat_eq kind 4 then told.Own (Some number)
+    else (if nat_eq kind 5 then told.Room (nat_eq number 1) else told.Dial number)))))
+
+-- the answer that a brief one stands for: a word, whose three lowest bits are the kind
+abbrev pub said_of : ℕ → Said
+said_of brief = said_by (brief % 8) (brief / 8)
 
 -- how many brief answers, and how many whole entries, belong to a row
 abbrev pub told_of : Row → ℕ
-told_of (Took thread mapped told line nb size addr) = told
-told_of (Gave thread told line size addr) = told
+told_of (Took thread told over line chunk) = told
+told_of (Gave thread told line chunk) = told
 told_of Whole = 0
 
 abbrev pub wholes_of : Row → ℕ
-wholes_of (Took thread mapped told line nb size addr) = 0
-wholes_of (Gave thread told line size addr) = 0
+wholes_of (Took thread told over line chunk) = 0
+wholes_of (Gave thread told line chunk) = 0
 wholes_of Whole = 1
+
+-- the chunk of a word: from the 22nd bit on the word has its address in units of 16 bytes, and below that its size in such units
+abbrev pub addr_in : ℕ → ℕ
+addr_in word = word / 2097152 * 16
+
+abbrev pub size_in : ℕ → ℕ
+size_in word = word % 2097152 * 16
 
 -- a line of a thread
 abbrev pub who_at : ℕ → ℕ → Who
@@ -41,10 +50,10 @@ who_at thread line = record { thread = thread; line = line }
 
 -- the entry of a row: with the next answers, or the next whole one
 abbrev pub entry_in : Row → List Said → List Recorded → List Recorded
-entry_in (Took thread mapped told line nb size addr) ss es =
-    recorded (who_at thread line) (Take nb) (take told ss) (Got addr size mapped) ∷ []
-entry_in (Gave thread told line size addr) ss es =
-    recorded (who_at thread line) (Give addr size) (take told ss) Done ∷ []
+entry_in (Took thread told over line chunk) ss es =
+    recorded (who_at thread line) (Take (size_in chunk - over * 16)) (take told ss) (Got (addr_in chunk) (size_in chunk) false) ∷ []
+entry_in (Gave thread told line chunk) ss es =
+    recorded (who_at thread line) (Give (addr_in chunk) (size_in chunk)) (take told ss) Done ∷ []
 entry_in Whole ss es = take 1 es
 
 -- the entries of rows, with their brief answers, and those that are kept whole

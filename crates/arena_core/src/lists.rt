@@ -4,7 +4,7 @@ ghost use Rattle.std.specs.Prelude.{◌≡◌, ◌<◌, ◌≤◌, ◌+◌, [], 
 ghost use Rattle.arena_core.specs.Arenas.{recorded};
 ghost use Rattle.arena_core.specs.Kept.{said_of, most_brief, IsRowOf};
 
-use crate::brief::{Brief, Row, brief_of, row_of};
+use crate::brief::{Row, brief_of, row_of};
 use crate::entry::Entry;
 use crate::journal::{Act, Ended, Who};
 use crate::reading::Entries;
@@ -23,7 +23,7 @@ const MOST_BRIEF: usize = 32;
 #[derive(Drop)]
 pub struct JournalLists {
     rows: Vec<Row>,
-    answers: Vec<Brief>,
+    answers: Vec<u64>,
     whole: Vec<Entry>,
     /// An empty list for the answers of the next hold, which keeps its room from hold to hold.
     said: Vec<Said>,
@@ -42,7 +42,7 @@ impl Model for JournalLists {
 }
 
 /// Appends answers in their brief form, where each has one and there aren't too many; else nothing changes.
-fn append_brief(answers: &mut Vec<Brief>, said: &[Said]) -> bool
+fn append_brief(answers: &mut Vec<u64>, said: &[Said]) -> bool
     requires { vec_len answers.old + most_brief ≤ vec_capacity answers.old }
     ensures all { result ≡ true → map said_of answers.new.items
         ≡ map said_of answers.old.items ++ said.now }
@@ -64,7 +64,7 @@ fn append_brief(answers: &mut Vec<Brief>, said: &[Said]) -> bool
 
 /// Keeps the answers of a hold in their brief form, and gives its row; where it has none nothing changes.
 fn keep_brief(
-    answers: &mut Vec<Brief>,
+    answers: &mut Vec<u64>,
     who: &Who,
     act: &Act,
     said: &[Said],

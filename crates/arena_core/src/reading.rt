@@ -3,11 +3,11 @@
 ghost use Rattle.std.specs.Prelude.{◌≡◌, ◌∷◌, [], ◌++◌, length, map, IfOk, OnOk, OnErr, MatchOption};
 ghost use Rattle.arena_core.specs.Kept.{AreKept, said_of, told_of, wholes_of, who_at, entry_in, entries_of};
 
-use crate::brief::{Brief, Row, whole_of};
+use crate::brief::{Row, addr_in, size_in, size_sought, whole_of};
 use crate::entry::Entry;
 use crate::journal::{Act, Ended, Who};
 use arena_rules::Said;
-use chunk_tags::{NoMemory, Size};
+use chunk_tags::NoMemory;
 use consolidate_trim::{make_room, tell};
 use std::alloc::Global;
 use std::marker::Model;
@@ -16,7 +16,7 @@ use std::marker::Model;
 #[derive(Drop)]
 pub struct Entries<'a> {
     rows: &'a [Row],
-    answers: &'a [Brief],
+    answers: &'a [u64],
     whole: &'a [Entry],
 }
 
@@ -33,18 +33,18 @@ impl<'a> Model for Entries<'a> {
 }
 
 /// Appends brief answers as they were told.
-fn tell_all(said: &mut Vec<Said>, answers: &[Brief]) -> Result<(), NoMemory>
+fn tell_all(said: &mut Vec<Said>, answers: &[u64]) -> Result<(), NoMemory>
     ensures { OnOk result (said.new.items ≡ said.old.items ++ map said_of answers.now) }
 {
     for brief in answers {
         make_room(said)?;
-        tell(said, &whole_of(brief));
+        tell(said, &whole_of(*brief));
     }
     Ok(())
 }
 
 /// Brief answers as they were told.
-fn told(alloc: Global, answers: &[Brief]) -> Result<Vec<Said>, NoMemory>
+fn told(alloc: Global, answers: &[u64]) -> Result<Vec<Said>, NoMemory>
     ensures { IfOk result (λ said. said.items ≡ map said_of answers.now) }
 {
     let mut said = Vec::new(alloc);
@@ -96,7 +96,7 @@ fn who(thread: u8, line: u32) -> Who
 }
 
 /// The entry of a row, with its own answers or its whole entry.
-fn entry_of(alloc: Global, row: &Row, answers: &[Brief], whole: &[Entry]) -> Result<Entry, NoMemory>
+fn entry_of(alloc: Global, row: &Row, answers: &[u64], whole: &[Entry]) -> Result<Entry, NoMemory>
     requires answers { length answers.now ≡ told_of row.now }
     requires whole { length whole.now ≡ wholes_of row.now }
     ensures { IfOk result (λ entry. entry ∷ []
@@ -105,35 +105,32 @@ fn entry_of(alloc: Global, row: &Row, answers: &[Brief], whole: &[Entry]) -> Res
     match *row {
         Row::Took {
             thread,
-            mapped,
             told: _,
+            over,
             line,
-            nb,
-            size,
-            addr,
+            chunk,
         } => Ok(Entry {
             who: who(thread, line),
             act: Act::Take {
-                nb: Size(u64::from(nb)),
+                nb: size_sought(size_in(chunk), over),
             },
             said: told(alloc, answers)?,
             ended: Ended::Got {
-                addr,
-                size: Size(u64::from(size)),
-                mapped,
+                addr: addr_in(chunk),
+                size: size_in(chunk),
+                mapped: false,
             },
         }),
         Row::Gave {
             thread,
             told: _,
             line,
-            size,
-            addr,
+            chunk,
         } => Ok(Entry {
             who: who(thread, line),
             act: Act::Give {
-                addr,
-                size: Size(u64::from(size)),
+                addr: addr_in(chunk),
+                size: size_in(chunk),
             },
             said: told(alloc, answers)?,
             ended: Ended::Done,
@@ -144,7 +141,7 @@ fn entry_of(alloc: Global, row: &Row, answers: &[Brief], whole: &[Entry]) -> Res
 
 impl<'a> Entries<'a> {
     /// The entries of these rows, with their answers and whole entries.
-    pub(crate) fn of(rows: &'a [Row], answers: &'a [Brief], whole: &'a [Entry]) -> Entries<'a>
+    pub(crate) fn of(rows: &'a [Row], answers: &'a [u64], whole: &'a [Entry]) -> Entries<'a>
         requires { AreKept rows.now (map said_of answers.now) whole.now }
         ensures { result ≡ entries_of rows.now (map said_of answers.now) whole.now }
     {
