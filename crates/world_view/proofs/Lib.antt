@@ -1,4 +1,5 @@
 mod SlotLaws
+mod SlotRows
 mod Idle
 mod Placing
 mod Going

@@ -3,7 +3,7 @@ use Rattle.std.proofs.Common.{◌≡◌, ℕ, ◌+◌, ◌-◌, ◌<◌, ◌≤�
 use Rattle.std.proofs.lemmas.Bool.{cases_eq, cases_lt, eq-eqb, ne_eqb}
 use Rattle.std.proofs.lemmas.List.{get_or-set_same, get_or-set_other, get_or-replicate, get_or_past, length-replicate}
 use Rattle.std.proofs.Math.Path.{fun_ext}
-use Rattle.world_view.specs.declared.slots.Slot.{Slot}
+use Rattle.world_view.specs.declared.slot.Slot.{Slot}
 use Rattle.world_view.specs.Slots.{empty_slot, slot_in, addr_in, slots_tried, IsFor, place_from, place_at, home_of, homes_of}
 use Rattle.world_view.specs.Places.{put_found, nothing_found}
 

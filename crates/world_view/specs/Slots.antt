@@ -2,7 +2,7 @@
 use Rattle.std.specs.Prelude.{◌≡◌, ◌≢◌, ◌<◌, ◌≤◌, ℕ, ◌+◌, ◌-◌, ◌*◌, ◌/◌, ◌%◌, ◌^◌, ◌⊎◌, nat_eq, zero, suc, if◌then◌else◌, List, Option, Some, None, length, slice_index_or}
 use Rattle.stats_text.specs.declared.views.Place.TheVariants as places
 use Rattle.stats_text.specs.declared.views.Place.{Place}
-use Rattle.world_view.specs.declared.slots.Slot.{Slot}
+use Rattle.world_view.specs.declared.slot.Slot.{Slot}
 
 -- in how many slots an address is looked for
 abbrev pub slots_tried : ℕ

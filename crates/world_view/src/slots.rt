@@ -4,24 +4,12 @@ ghost use Rattle.std.specs.Prelude.{◌≡◌, ℕ, ◌+◌, ◌<◌, ◌≤◌,
 ghost use Rattle.world_view.specs.Slots.{home_of, homes_of, place_from, place_at, addr_in, slots_tried, IsFor, AreTaken};
 ghost use Rattle.world_view.specs.Places.{nothing_found, put_found};
 
+use crate::row::SlotRow;
+use crate::slot::Slot;
 use chunk_tags::NoMemory;
 use stats_text::Place;
 use std::alloc::Global;
 use std::marker::Model;
-
-/// A place with its address, or none, which has the address 0.
-#[derive(Clone, Copy, Debug, PartialEq, Eq)]
-pub struct Slot {
-    addr: u64,
-    place: Place,
-}
-
-impl Slot {
-    const EMPTY: Slot = Slot {
-        addr: 0,
-        place: Place::Live { thread: 0, name: 0 },
-    };
-}
 
 /// In how many slots an address is looked for.
 const SLOTS_TRIED: usize = 8;
@@ -30,19 +18,19 @@ const SLOTS_TRIED: usize = 8;
 /// taken out (this project's own).
 #[derive(Drop)]
 pub struct PlaceSlots {
-    slots: Vec<Slot>,
+    slots: SlotRow,
 }
 
 impl Model for PlaceSlots {
     ghost use Rattle.std.specs.Prelude.{◌≤◌, List, length};
-    ghost use Rattle.world_view.specs.declared.slots.Slot.{Slot as PlaceSlot};
+    ghost use Rattle.world_view.specs.declared.slot.Slot.{Slot as PlaceSlot};
     ghost use Rattle.world_view.specs.Slots.{slots_tried};
 
     ghost Value = { List PlaceSlot };
 
-    ghost view = { λ s. s.slots.items };
+    ghost view = { λ s. s.slots };
 
-    ghost invariant = { λ s. slots_tried ≤ length s.slots.items };
+    ghost invariant = { λ s. slots_tried ≤ length s.slots };
 }
 
 impl PlaceSlots {
@@ -51,8 +39,9 @@ impl PlaceSlots {
     pub fn new(alloc: Global, count: usize) -> Result<PlaceSlots, NoMemory>
         ensures { IfOk result (λ s. place_at s ≡ nothing_found) }
     {
-        let slots = vec![in alloc; Slot::EMPTY; count.max(SLOTS_TRIED)]?;
-        Ok(PlaceSlots { slots })
+        Ok(PlaceSlots {
+            slots: SlotRow::new(alloc, count.max(SLOTS_TRIED))?,
+        })
     }
 
     /// The first slot of an address. Those of chunks near one another are near one another, and those of heaps, which lie
@@ -76,7 +65,7 @@ impl PlaceSlots {
         if addr == 0 {
             return None;
         }
-        found_from(self.slots.as_slice(), addr, self.home(addr))
+        found_from(&self.slots, addr, self.home(addr))
     }
 
     /// Puts a place at an address, and tells whether it did. Where others have the slots that it may have, or it is 0, nothing
@@ -92,10 +81,10 @@ impl PlaceSlots {
         if addr == 0 {
             return false;
         }
-        match slot_for(self.slots.as_slice(), addr, self.home(addr)) {
+        match slot_for(&self.slots, addr, self.home(addr)) {
             None => false,
             Some(i) => {
-                self.slots[i] = Slot { addr, place };
+                self.slots.put(i, Slot { addr, place });
                 true
             }
         }
@@ -103,21 +92,22 @@ impl PlaceSlots {
 }
 
 /// What stands at an address in the slots from one on.
-fn found_from(slots: &[Slot], addr: u64, home: usize) -> Option<Place>
+fn found_from(slots: &SlotRow, addr: u64, home: usize) -> Option<Place>
     requires room { home + slots_tried ≤ length slots.now }
     requires fits { home + slots_tried < 2 ^ 64 }
     ensures { result ≡ place_from slots.now addr slots_tried home }
 {
     for i in home..home + SLOTS_TRIED {
-        if slots[i].addr == addr {
-            return Some(slots[i].place);
+        let slot = slots.at(i);
+        if slot.addr == addr {
+            return Some(slot.place);
         }
     }
     None
 }
 
 /// A slot from one on that an address may use: its own, or an empty one where none before has it.
-fn slot_for(slots: &[Slot], addr: u64, home: usize) -> Option<usize>
+fn slot_for(slots: &SlotRow, addr: u64, home: usize) -> Option<usize>
     requires room { home + slots_tried ≤ length slots.now }
     requires fits { home + slots_tried < 2 ^ 64 }
     ensures within { IfSome result (λ i. (home ≤ i) × (i < home + slots_tried)) }
@@ -129,7 +119,7 @@ fn slot_for(slots: &[Slot], addr: u64, home: usize) -> Option<usize>
     ensures full { IfNone result (AreTaken slots.now home) }
 {
     for i in home..home + SLOTS_TRIED {
-        let held = slots[i].addr;
+        let held = slots.at(i).addr;
         if held == addr || held == 0 {
             return Some(i);
         }
