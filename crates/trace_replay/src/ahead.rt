@@ -6,7 +6,7 @@ use malloc_calls::Thread;
 use trace_text::{Line, Lines};
 
 /// For so many lines at once names are looked up ahead (this project's own).
-pub const AHEAD: usize = 32;
+pub const AHEAD: usize = 64;
 
 /// Whether the name of a line holds a block, where its place is in the row.
 fn holds<K: Kernel>(threads: &[Thread<K>], line: &Line) -> bool {
