@@ -1,4 +1,3 @@
 pub mod Keyed
 pub mod Tables
 mod FarPlaces
-mod NearPlaces

@@ -104,14 +104,14 @@ impl Names {
         self.near.has(name as usize)
     }
 
-    /// The block of a name in the row.
+    /// A copy of the block of a name in the row; `None` where the name holds nothing, and where it isn't in the row.
     pub fn in_row(&self, name: u32) -> Option<Block>
         ensures { result ≡ slice_index_or self.now.near name None }
     {
         self.near.get(name as usize)
     }
 
-    /// The block of a name. `None` exactly where the name holds nothing.
+    /// A copy of the block of a name. `None` exactly where the name holds nothing.
     #[inline(always)]
     #[tactic(auto, unfolding(crate::specs::Names::block_at))]
     pub fn get(&self, name: u32) -> Option<Block>

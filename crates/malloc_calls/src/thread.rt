@@ -1,6 +1,6 @@
 //! A thread, and its calls.
 
-ghost use Rattle.std.specs.Prelude.{◌≡◌, ℕ, true, false, ◌*◌, ◌-◌, ◌^◌, ◌<◌, ◌≤◌, nat_le, IsSome, None, Some, Ok, IsTrue, IfSome, IfOk, OnOk, OnErr, is_ok, is_some, option_copied, length, ◌⊎◌, slice_index_or};
+ghost use Rattle.std.specs.Prelude.{◌≡◌, ℕ, true, false, ◌*◌, ◌-◌, ◌^◌, ◌<◌, ◌≤◌, nat_le, IsSome, None, Some, Ok, IsTrue, IfSome, IfOk, OnOk, OnErr, is_ok, is_some, length, ◌⊎◌, slice_index_or};
 ghost use Rattle.std.specs.Option.{option_map};
 ghost use Rattle.chunk_tags.specs.Sizes.{chunk_size_of, padded_request};
 ghost use Rattle.chunk_tags.specs.declared.block.Block.{Block as Piece};
@@ -116,7 +116,7 @@ impl<K: Kernel> Thread<K> {
         self.own.names.far()
     }
 
-    /// The block of a name. `None` exactly where the name holds nothing.
+    /// A copy of the block of a name. `None` exactly where the name holds nothing.
     pub fn block(&self, name: u32) -> Option<Block>
         ensures { result ≡ block_at (names_of self.now) name }
     {

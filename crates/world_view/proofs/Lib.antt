@@ -1,5 +1,4 @@
 mod SlotLaws
-mod SlotRows
 mod Idle
 mod Placing
 mod Going

@@ -1,6 +1,8 @@
--- Slots in words (this project's own): each slot has a word, and one that has none of its own stands in a second row, at the
--- same index. No public clause cites this file.
-use Rattle.std.specs.Prelude.{ℕ, ◌+◌, ◌-◌, ◌*◌, ◌/◌, ◌%◌, List, [], ◌∷◌, ◌++◌, length, replicate, slice_set, nat_eq, nat_lt, nat_le, if◌then◌else◌}
+-- Slots in words (this project's own): each slot has a word, and one that has none stands in its row whole. No public clause
+-- cites this file.
+use Rattle.std.specs.Prelude.{ℕ, ◌+◌, ◌-◌, ◌*◌, ◌/◌, ◌%◌, nat_eq, nat_lt, nat_le, if◌then◌else◌}
+use Rattle.word_rows.specs.declared.row.Spot.{Spot}
+use Rattle.word_rows.specs.declared.row.Spot.TheVariants.{Empty, Word, Whole}
 use Rattle.address_space.specs.Spaces.{main_start, heaps_start}
 use Rattle.stats_text.specs.declared.views.Place.{Place}
 use Rattle.stats_text.specs.declared.views.Place.TheVariants as places
@@ -26,20 +28,8 @@ place_of_kind kind number =
 abbrev pub slot_of_word : ℕ → Slot
 slot_of_word w = record { addr = addr_of_unit (w / 8388608); place = place_of_kind (w / 65536 % 128) (w % 65536) }
 
--- a slot by its word: empty, that of the second row, or that of the word
-abbrev pub slot_by : ℕ → Slot → Slot
-slot_by w whole = if nat_eq w 0 then empty_slot else (if nat_eq w 1 then whole else slot_of_word w)
-
--- the slots of both rows, of which the second may be shorter
-abbrev pub slots_in : List ℕ → List Slot → List Slot
-slots_in [] ss = []
-slots_in (w ∷ ws) [] = slot_by w empty_slot ∷ slots_in ws []
-slots_in (w ∷ ws) (s ∷ ss) = slot_by w s ∷ slots_in ws ss
-
--- so many slots at least, the new ones empty
-abbrev pub filled_to : ℕ → List Slot → List Slot
-filled_to n ss = ss ++ replicate (n - length ss) empty_slot
-
--- with a slot at an index
-abbrev pub with_whole : ℕ → Slot → List Slot → List Slot
-with_whole n s ss = slice_set (filled_to (n + 1) ss) n s
+-- the slot of a spot
+abbrev pub slot_of_spot : Spot Slot → Slot
+slot_of_spot Empty = empty_slot
+slot_of_spot (Word w) = slot_of_word w
+slot_of_spot (Whole s) = s

@@ -1,82 +1,41 @@
 //! A row of slots, most of which are a word.
 
-ghost use Rattle.std.specs.Prelude.{◌≡◌, ◌<◌, ◌≤◌, replicate, length, slice_index_or, slice_set, vec_capacity, IfOk};
+ghost use Rattle.std.specs.Prelude.{◌≡◌, ◌<◌, replicate, length, slice_set, IfOk};
+ghost use Rattle.word_rows.specs.Rows.{spot_read};
 ghost use Rattle.world_view.specs.Slots.{empty_slot, slot_in};
-ghost use Rattle.world_view.specs.SlotWords.{slot_by, filled_to, with_whole};
+ghost use Rattle.world_view.specs.SlotWords.{slot_of_spot};
 
 use crate::slot::{Slot, slot_of, word_of};
 use chunk_tags::NoMemory;
 use std::alloc::Global;
 use std::marker::Model;
+use word_rows::{Spot, WordRow};
 
-/// The word of an empty slot.
-const EMPTY: u64 = 0;
-
-/// The word of a slot that has none of its own.
-const WHOLE: u64 = 1;
-
-/// A row of slots (this project's own). A slot is a word, since nearly all have one. The others stand in a row of their own, each
-/// at its index; room for it is made at the start, and takes no memory before it is used.
+/// A row of slots (this project's own). Nearly all stand there as a word.
 #[derive(Drop)]
 pub struct SlotRow {
-    words: Vec<u64>,
-    whole: Vec<Slot>,
+    row: WordRow<Slot>,
 }
 
 impl Model for SlotRow {
-    ghost use Rattle.std.specs.Prelude.{◌≤◌, List, vec_len, vec_capacity};
+    ghost use Rattle.std.specs.Prelude.{List, map};
     ghost use Rattle.world_view.specs.declared.slot.Slot.{Slot as PlaceSlot};
-    ghost use Rattle.world_view.specs.SlotWords.{slots_in};
+    ghost use Rattle.world_view.specs.SlotWords.{slot_of_spot};
 
     ghost Value = { List PlaceSlot };
 
-    ghost view = { λ r. slots_in r.words.items r.whole.items };
-
-    ghost invariant = { λ r. vec_len r.words ≤ vec_capacity r.whole };
+    ghost view = { λ r. map slot_of_spot r.row };
 }
 
-/// The slot at an index of the second row.
-fn whole_at(whole: &[Slot], index: usize) -> Slot
-    ensures { result ≡ slice_index_or whole.now index empty_slot }
+/// The slot of a spot.
+fn slot_at(spot: Spot<&Slot>) -> Slot
+    ensures { result ≡ slot_of_spot (spot_read spot.entry) }
 {
-    match whole.get(index) {
-        None => Slot::EMPTY,
-        Some(slot) => *slot,
+    match spot {
+        Spot::Empty => Slot::EMPTY,
+        Spot::Word(word) => slot_of(word),
+        Spot::Whole(slot) => *slot,
     }
-}
-
-/// The slot at an index that has this word.
-fn slot_at(word: u64, whole: &[Slot], index: usize) -> Slot
-    ensures { result ≡ slot_by word (slice_index_or whole.now index empty_slot) }
-{
-    if word == EMPTY {
-        Slot::EMPTY
-    } else if word == WHOLE {
-        whole_at(whole, index)
-    } else {
-        slot_of(word)
-    }
-}
-
-/// Fills the second row up to so many slots, for which there is room.
-fn fill(whole: &mut Vec<Slot>, count: usize)
-    requires { count ≤ vec_capacity whole.old }
-    ensures items { whole.new.items ≡ filled_to count whole.old.items }
-    ensures room { vec_capacity whole.old ≤ vec_capacity whole.new }
-{
-    for _n in 0..count.saturating_sub(whole.len()) {
-        whole.push(Slot::EMPTY).unwrap();
-    }
-}
-
-/// Puts a slot at an index of the second row, for which there is room.
-fn put_whole(whole: &mut Vec<Slot>, index: usize, slot: Slot)
-    requires { index < vec_capacity whole.old }
-    ensures items { whole.new.items ≡ with_whole index slot whole.old.items }
-    ensures room { vec_capacity whole.old ≤ vec_capacity whole.new }
-{
-    fill(whole, index + 1);
-    whole[index] = slot;
 }
 
 impl SlotRow {
@@ -84,17 +43,16 @@ impl SlotRow {
     pub fn new(alloc: Global, count: usize) -> Result<SlotRow, NoMemory>
         ensures { IfOk result (λ row. row ≡ replicate count empty_slot) }
     {
-        Ok(SlotRow {
-            words: vec![in alloc; EMPTY; count]?,
-            whole: Vec::with_capacity(alloc, count)?,
-        })
+        let mut row = WordRow::new(alloc);
+        row.append(count)?;
+        Ok(SlotRow { row })
     }
 
     /// How many slots there are.
     pub fn len(&self) -> usize
         ensures { result ≡ length self.now }
     {
-        self.words.len()
+        self.row.len()
     }
 
     /// The slot at an index.
@@ -102,7 +60,7 @@ impl SlotRow {
         requires { index < length self.now }
         ensures { result ≡ slot_in self.now index }
     {
-        slot_at(self.words[index], &self.whole, index)
+        slot_at(self.row.get(index))
     }
 
     /// Puts a slot at an index.
@@ -111,11 +69,8 @@ impl SlotRow {
         ensures { self.new ≡ slice_set self.old index slot }
     {
         match word_of(&slot) {
-            Some(word) => self.words[index] = word,
-            None => {
-                put_whole(&mut self.whole, index, slot);
-                self.words[index] = WHOLE;
-            }
+            Some(word) => self.row.put_word(index, word),
+            None => self.row.put_whole(index, slot),
         }
     }
 }

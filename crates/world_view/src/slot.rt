@@ -83,7 +83,7 @@ pub fn slot_of(word: u64) -> Slot
     }
 }
 
-/// The unit of an address, or one that there isn't.
+/// The unit of an address, or one that there isn't. No clause says which: `word_of` gives a word only where it reads back.
 fn unit_of(addr: u64) -> u64 {
     if addr >= HEAPS_START {
         FIRST_OF_HEAPS + (addr - HEAPS_START) / 16
@@ -94,7 +94,7 @@ fn unit_of(addr: u64) -> u64 {
     }
 }
 
-/// The kind of a place, and its number. Top and fences, which stand in no slot, have none.
+/// The kind of a place, and its number. Top and fences, which stand in no slot, have none. No clause says which, as with units.
 fn parts_of(place: &Place) -> (u64, u64) {
     match *place {
         Place::Live { thread, name } => (NAMES + u64::from(thread), u64::from(name)),

@@ -1,13 +1,11 @@
-use Rattle.std.proofs.Common.{◌≡◌, ℕ, [], List, replicate, ap, ◌∙◌, rules}
-use Rattle.world_view.specs.declared.slot.Slot.{Slot}
-use Rattle.world_view.specs.SlotWords.{slots_in}
-use Rattle.world_view.proofs.SlotRows.{all_words_empty}
+use Rattle.std.proofs.Common.{◌++◌, map, replicate, ap, ◌∙◌}
+use Rattle.word_rows.specs.declared.row.Spot.TheVariants.{Empty}
+use Rattle.word_rows.specs.Seen.{seen_empty}
+use Rattle.world_view.specs.SlotWords.{slot_of_spot}
 use Rattle.world_view.proofs.row.SlotRow.new.Goals as goal
 
 pub returns : goal.returns
 returns c =
     let n = c.args.count in
-    let words : c.in_ok-vec.field-0.items ≡ replicate n 0 = search rules in
-    let whole : c.in_ok-with_capacity.field-0.items ≡ [] = search rules in
-    ap (λ (ws : List ℕ). slots_in ws c.in_ok-with_capacity.field-0.items) words
-    ∙ (ap (λ (ss : List Slot). slots_in (replicate n 0) ss) whole ∙ all_words_empty n)
+    ap (λ es. map slot_of_spot es) (c.in_ok-append.ensures.ok ∙ ap (λ es. es ++ replicate n Empty) c.new-row.ensures)
+    ∙ seen_empty slot_of_spot n
