@@ -7,7 +7,7 @@ ghost use Rattle.bin_links.specs.Codes.{AreCoded};
 ghost use Rattle.bin_links.specs.BinMaps.{AreMarked};
 
 use crate::bin_map::BinMap;
-use part_words::Words;
+use part_words::{Word, Words};
 use std::alloc::{AllocError, Global};
 
 /// The neighbours of a node in its ring (glibc's `fd` and `bk` of `malloc_chunk`).
@@ -24,6 +24,15 @@ pub struct Links {
 pub struct LinkCodes {
     pub fd: u32,
     pub bk: u32,
+}
+
+impl Word for LinkCodes {
+    ghost use Rattle.bin_links.specs.NodeWords.{no_codes};
+
+    ghost UNWRITTEN = { no_codes };
+
+    /// Those of a chunk that is in no bin.
+    const UNWRITTEN: LinkCodes = LinkCodes { fd: 0, bk: 0 };
 }
 
 /// How many bins there are, and the first number that isn't a bin's own node.
@@ -239,7 +248,7 @@ impl Nodes {
         ensures full { OnErr result (extended (extent self.old) at len ≢ extent self.old) }
     {
         if self.has_codes(at, len) {
-            self.words.open(alloc, at, len, LinkCodes { fd: 0, bk: 0 })
+            self.words.open(alloc, at, len)
         } else {
             Err(AllocError)
         }

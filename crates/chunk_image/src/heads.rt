@@ -7,7 +7,7 @@ ghost use Rattle.chunk_image.specs.Rows.{IsWordSize};
 ghost use Rattle.chunk_image.specs.Heads.{head_at, head_in, heads_of, foot_at, feet_of, is_free_head, kind_of as kind_numbered, with_foot, IsKept, CanStand};
 
 use chunk_tags::TileKind;
-use part_words::Words;
+use part_words::{Word, Words};
 
 /// What is kept for 16 bytes of address space: the head of the tile that begins there, and the foot of the free one that
 /// ends there (glibc's `mchunk_size`, and the `mchunk_prev_size` of the same chunk).
@@ -19,9 +19,13 @@ pub(crate) struct Cell {
     foot: u32,
 }
 
-impl Cell {
+impl Word for Cell {
+    ghost use Rattle.chunk_image.specs.Heads.{no_cell};
+
+    ghost UNWRITTEN = { no_cell };
+
     /// No tile begins or ends here.
-    pub(crate) const NONE: Cell = Cell { head: 0, foot: 0 };
+    const UNWRITTEN: Cell = Cell { head: 0, foot: 0 };
 }
 
 /// What stands at the beginning of a tile (glibc's size word, with its flags).

@@ -52,7 +52,7 @@ impl TileWords {
         ensures err { OnErr result (self.new ≡ self.old) }
         ensures full { OnErr result (extended self.old.extent at len ≢ self.old.extent) }
     {
-        self.cells.open(alloc, at.0, len, Cell::NONE)?;
+        self.cells.open(alloc, at.0, len)?;
         Ok(())
     }
 

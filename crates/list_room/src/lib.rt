@@ -18,6 +18,7 @@ pub fn make_room_for<T>(list: &mut Vec<T>, count: usize) -> Result<(), AllocErro
     ensures room { OnOk result (vec_len list.new + count ≤ vec_capacity list.new) }
     ensures kept { vec_len list.old + count ≤ vec_capacity list.old
         → vec_capacity list.new ≡ vec_capacity list.old }
+    ensures capacity { vec_capacity list.old ≤ vec_capacity list.new }
     ensures full { OnErr result (vec_capacity list.old < vec_len list.old + count) }
 {
     let len = list.len();

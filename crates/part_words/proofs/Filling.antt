@@ -3,9 +3,10 @@ use Rattle.std.proofs.Common.{◌≡◌, ℕ, ◌+◌, ◌-◌, ◌/◌, ◌%◌
 use Rattle.std.specs.Prelude.{Result, Ok, Err, OnOk, OnErr}
 use Rattle.std.proofs.Math.Path.{fun_ext}
 use Rattle.std.proofs.lemmas.Bool.{cases_eq}
-use Rattle.std.proofs.lemmas.List.{append-nil, append_assoc, map-append, map-set, length-append, length-set, length-map, length-replicate, replicate-append-replicate, set-get_or, take_at, take-map, get_or-map, get_or_append_left}
+use Rattle.std.proofs.lemmas.List.{append-nil, append_assoc, map-append, map-set, length-append, length-set, length-map, replicate-append-replicate, set-get_or, take_at, take-map, get_or-map, get_or_append_left}
 use Rattle.part_words.specs.Extents.{index_of, changed_at}
 use Rattle.part_words.specs.Parts.{Parts, word_at, filled}
+use Rattle.part_words.proofs.Filled.{get_or-filled, length_filled}
 use Rattle.part_words.proofs.Opening.{get_or-changed_same, get_or-changed_other}
 
 -- one more empty part
@@ -51,16 +52,6 @@ pub cut_back : {V T : Type 0} (items : V → List T) (ws vs : List V) (n m : ℕ
 cut_back items ws vs n m e h =
     sym (take-map items n ws) ∙ (ap (take n) e ∙ take_at (map items vs) (replicate m []) n (omega (arith, length-map vs items, h)))
 
-get_or-filled : {T : Type 0} (n : ℕ) (fill : T) (ws : List T) (i : ℕ) → get_or (filled n fill ws) i fill ≡ get_or ws i fill
-get_or-filled n fill ws i = past (n - length ws) fill ws i
-  where
-    past : {T : Type 0} (m : ℕ) (fill : T) (ws : List T) (i : ℕ) → get_or (ws ++ replicate m fill) i fill ≡ get_or ws i fill
-    past zero fill [] i = refl
-    past (suc m) fill [] zero = refl
-    past (suc m) fill [] (suc i) = past m fill [] i
-    past m fill (w ∷ ws) zero = refl
-    past m fill (w ∷ ws) (suc i) = past m fill ws i
-
 -- words that are opened with the default change no word
 pub word_at-filled : {T : Type 0} (ws : Parts T) (k n : ℕ) (fill : T) → word_at (record ws { parts = changed_at [] k (filled n fill) ws.parts }) fill ≡ word_at ws fill
 unfolding word_at
@@ -74,10 +65,6 @@ word_at-filled ws k n fill =
       | inr other ↦ rw (get_or-changed_other [] k (filled n fill) ws.parts i other) refl
     ] in
     rw same refl)
-
-length_filled : {T : Type 0} (n : ℕ) (fill : T) (ws : List T) → length (filled n fill ws) ≡ max n (length ws)
-length_filled n fill ws =
-    omega (arith, length-append ws (replicate (n - length ws) fill), length-replicate (n - length ws) fill)
 
 -- and the part is as long as it has to be
 pub length-filled : {T : Type 0} (k n : ℕ) (fill : T) (ps : List (List T)) → map length (changed_at [] k (filled n fill) ps) ≡ changed_at 0 k (max n) (map length ps)

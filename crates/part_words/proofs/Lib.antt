@@ -1,5 +1,7 @@
+mod Filled
 mod Filling
 pub mod Opening
+mod PageLaws
 mod Passing
 pub mod Seeing
 pub mod Updates

@@ -2,6 +2,9 @@
 //! them by `word_at`, a function of the address, and says which are open by `IsOpen` of their extent.
 #![tactic(auto)]
 
+mod part;
+mod word;
 mod words;
 
+pub use word::Word;
 pub use words::Words;

@@ -4,21 +4,22 @@ ghost use Rattle.std.specs.Prelude.{◌≡◌, ◌≢◌, ℕ, ◌*◌, ◌/◌,
 ghost use Rattle.part_words.specs.Extents.{extended, changed_at, IsOpen, IsWithinPart};
 ghost use Rattle.part_words.specs.Parts.{no_words, word_at, update, extent_of, filled};
 
-use list_room::make_room_for;
+use crate::part::Part;
+use crate::word::Word;
 use std::alloc::{AllocError, Global};
 use std::marker::Model;
 
 /// One word for each 16 bytes of address space (this project's own). The words lie in parts, which begin `stride`
 /// bytes after one another, the first of them at `base`; a part is open from its beginning up to some word.
 #[derive(Debug, Drop)]
-pub struct Words<T: Copy> {
+pub struct Words<T: Word> {
     base: u64,
     /// The words from the beginning of one part to that of the next.
     width: u64,
-    parts: Vec<Vec<T>>,
+    parts: Vec<Part<T>>,
 }
 
-impl<T: Copy> Model for Words<T> {
+impl<T: Word> Model for Words<T> {
     ghost use Rattle.std.specs.Prelude.{◌<◌, map};
     ghost use Rattle.part_words.specs.Parts.{Parts};
 
@@ -27,13 +28,13 @@ impl<T: Copy> Model for Words<T> {
     ghost view = { λ s. record {
       base = s.base;
       width = s.width;
-      parts = map (λ v. v.items) s.parts.items;
+      parts = map (λ p. p.words) s.parts.items;
     } };
 
     ghost invariant = { λ s. 0 < s.width };
 }
 
-impl<T: Copy> Words<T> {
+impl<T: Word> Words<T> {
     /// No words. Parts begin at `base`, and every `stride` bytes after it.
     pub fn new(alloc: Global, base: u64, stride: u64) -> Words<T>
         requires { 16 ≤ stride }
@@ -53,7 +54,7 @@ impl<T: Copy> Words<T> {
     {
         let (part, place) = place_of((at - self.base) / 16, self.width);
         let words = &self.parts[part];
-        words[place]
+        words.get(place)
     }
 
     /// Writes the word of an address, in constant time.
@@ -64,14 +65,14 @@ impl<T: Copy> Words<T> {
     {
         let (part, place) = place_of((at - self.base) / 16, self.width);
         let words = &mut self.parts[part];
-        words[place] = value;
+        words.set(place, value);
     }
 
-    /// Opens the words of a range, with `fill` in those that weren't open. Nothing changes where memory is short, which
-    /// is so only where there is something to open.
-    pub fn open(&mut self, alloc: Global, at: u64, len: u64, fill: T) -> Result<(), AllocError>
+    /// Opens the words of a range. Nothing changes where memory is short, or where a part gets too long to be kept (2^40 bytes);
+    /// either is so only where there is something to open.
+    pub fn open(&mut self, alloc: Global, at: u64, len: u64) -> Result<(), AllocError>
         requires { IsWithinPart (extent_of self.old) at len }
-        ensures words { word_at self.new fill ≡ word_at self.old fill }
+        ensures words { word_at self.new T.UNWRITTEN ≡ word_at self.old T.UNWRITTEN }
         ensures extent { OnOk result (extent_of self.new ≡ extended (extent_of self.old) at len) }
         ensures err { OnErr result (self.new ≡ self.old) }
         ensures full { OnErr result (extended (extent_of self.old) at len ≢ extent_of self.old) }
@@ -80,7 +81,7 @@ impl<T: Copy> Words<T> {
         let part = (word / self.width) as usize;
         let end = (word % self.width + len / 16) as usize;
         let before = self.parts.len();
-        match open_part(&mut self.parts, alloc, part, end, fill) {
+        match open_part(&mut self.parts, alloc, part, end) {
             Ok(()) => Ok(()),
             Err(short) => {
                 self.parts.truncate(before);
@@ -136,56 +137,41 @@ fn address(base: u64, width: u64, part: u64, place: u64) -> Option<u64>
 }
 
 /// Opens a part up to `end` words. Where memory is short, empty parts may have come.
-fn open_part<T: Copy>(
-    parts: &mut Vec<Vec<T>>,
+fn open_part<T: Word>(
+    parts: &mut Vec<Part<T>>,
     alloc: Global,
     part: usize,
     end: usize,
-    fill: T,
 ) -> Result<(), AllocError>
     requires { part < 2 ^ 60 }
-    ensures ok { OnOk result (map (λ v. v.items) parts.new.items
-        ≡ changed_at [] part (filled end fill) (map (λ v. v.items) parts.old.items)) }
-    ensures err { OnErr result (map (λ v. v.items) parts.new.items
-        ≡ map (λ v. v.items) parts.old.items
+    ensures ok { OnOk result (map (λ p. p.words) parts.new.items
+        ≡ changed_at [] part (filled end T.UNWRITTEN) (map (λ p. p.words) parts.old.items)) }
+    ensures err { OnErr result (map (λ p. p.words) parts.new.items
+        ≡ map (λ p. p.words) parts.old.items
         ++ replicate (length parts.new.items - length parts.old.items) []) }
     ensures full { OnErr result
-        (changed_at 0 part (max end) (map length (map (λ v. v.items) parts.old.items))
-        ≢ map length (map (λ v. v.items) parts.old.items)) }
+        (changed_at 0 part (max end) (map length (map (λ p. p.words) parts.old.items))
+        ≢ map length (map (λ p. p.words) parts.old.items)) }
 {
     add_parts(parts, alloc, part + 1)?;
     let words = &mut parts[part];
-    fill_part(words, end, fill)
+    words.open(end)
 }
 
 /// Adds empty parts up to a count.
-fn add_parts<T: Copy>(
-    parts: &mut Vec<Vec<T>>,
+fn add_parts<T: Word>(
+    parts: &mut Vec<Part<T>>,
     alloc: Global,
     count: usize,
 ) -> Result<(), AllocError>
     ensures ok { OnOk result (length parts.new.items ≡ max count (length parts.old.items)) }
-    ensures items { map (λ v. v.items) parts.new.items
-        ≡ map (λ v. v.items) parts.old.items
+    ensures items { map (λ p. p.words) parts.new.items
+        ≡ map (λ p. p.words) parts.old.items
         ++ replicate (length parts.new.items - length parts.old.items) [] }
     ensures full { OnErr result (length parts.old.items < count) }
 {
     for _added in parts.len()..count {
-        parts.push(Vec::new(alloc))?;
+        parts.push(Part::new(alloc))?;
     }
     Ok(())
-}
-
-/// Fills a part up to `end` words.
-fn fill_part<T: Copy>(words: &mut Vec<T>, end: usize, fill: T) -> Result<(), AllocError>
-    ensures ok { OnOk result (words.new.items ≡ filled end fill words.old.items) }
-    ensures err { OnErr result (words.new.items ≡ words.old.items) }
-    ensures full { OnErr result (length words.old.items < end) }
-{
-    if words.len() < end {
-        make_room_for(words, end - words.len())?;
-        words.resize(end, fill)
-    } else {
-        Ok(())
-    }
 }

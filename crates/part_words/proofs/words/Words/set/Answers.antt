@@ -1,20 +1,20 @@
-use Rattle.std.proofs.Common.{arith, refl}
+use Rattle.std.proofs.Common.{arith}
 use Rattle.part_words.proofs.WordLaws.{Holds, word_exists, word_at-written, extent_of-written}
 use Rattle.part_words.proofs.words.Words.set.Goals as goal
 use Rattle.part_words.proofs.words.Words.set.Goals.{After-index_mut-words}
 
-holds : (g : _) → (c : After-index_mut-words g) → Holds (λ v. v.items) c.self.inside.base c.self.inside.width c.self.inside.parts.items c.args.at c.index_mut-words.result.now
+holds : (g : _) → (c : After-index_mut-words g) → Holds (λ p. p.words) c.self.inside.base c.self.inside.width c.self.inside.parts.items c.args.at c.index_mut-words.result.now
 holds g c =
     record { is_open = rw (← c.self.view_is) at c.requires; read = rw c.place_of-part.ensures.part at c.index_mut-words.ensures.value }
 
-pub index_mut-requires : goal.index_mut-requires
-index_mut-requires g c =
-    omega (arith, word_exists (λ v. v.items) _ _ _ _ _ (holds g c), c.place_of-part.ensures.place, c.index_mut-words.result.now.ok.0)
+pub set-requires : goal.set-requires
+set-requires g c =
+    omega (arith, word_exists (λ p. p.words) _ _ _ _ _ (holds g c), c.place_of-part.ensures.place)
 
 pub returns-clause-word : goal.returns-clause-word
 returns-clause-word g c =
-    λ d. rw (← c.self.view_is, c.place_of-part.ensures.part, c.place_of-part.ensures.place) (word_at-written (λ v. v.items) _ _ _ _ _ _ _ (record { holds = holds g (goal.at.returns-clause-word g c).After-index_mut-words; word = refl }) d)
+    λ d. rw (← c.self.view_is, c.place_of-part.ensures.part) (word_at-written (λ p. p.words) _ _ _ _ _ _ _ (record { holds = holds g (goal.at.returns-clause-word g c).After-index_mut-words; word = rw c.place_of-part.ensures.place at c.set.ensures }) d)
 
 pub returns-clause-extent : goal.returns-clause-extent
 returns-clause-extent g c =
-    rw (← c.self.view_is, c.place_of-part.ensures.part, c.place_of-part.ensures.place) (extent_of-written (λ v. v.items) _ _ _ _ _ _ c.args.value (record { holds = holds g (goal.at.returns-clause-extent g c).After-index_mut-words; word = refl }))
+    rw (← c.self.view_is, c.place_of-part.ensures.part) (extent_of-written (λ p. p.words) _ _ _ _ _ _ c.args.value (record { holds = holds g (goal.at.returns-clause-extent g c).After-index_mut-words; word = rw c.place_of-part.ensures.place at c.set.ensures }))
