@@ -1,4 +1,4 @@
-//! Words of 16 bytes, in two parts.
+//! Words of 16 bytes, in parts and pages.
 
 use part_words::{Word, Words};
 use std::test::Fail;
@@ -23,5 +23,22 @@ fn words_of_two_parts(rt: HostRuntime) -> Result<(), Fail> {
     words.set(5136, Mark { number: 9 });
     assert_eq!(rt; words.get(4144).number, 7);
     assert_eq!(rt; words.get(5136).number, 9);
+    Ok(())
+}
+
+/// A page has 256 bytes: the third one is written to first, then the first.
+#[test]
+fn words_of_pages_in_the_order_of_their_first_use(rt: HostRuntime) -> Result<(), Fail> {
+    let mut words: Words<Mark> = Words::new(rt.alloc(), 4096, 4096);
+    words.open(rt.alloc(), 4096, 992)?;
+    words.set(4096 + 512, Mark { number: 9 });
+    words.set(4096 + 240, Mark { number: 8 });
+    words.open(rt.alloc(), 4096, 2048)?;
+    assert_eq!(rt; words.get(4096 + 512).number, 9);
+    assert_eq!(rt; words.get(4096 + 528).number, 7);
+    assert_eq!(rt; words.get(4096 + 240).number, 8);
+    assert_eq!(rt; words.get(4096).number, 7);
+    assert_eq!(rt; words.get(4096 + 256).number, 7);
+    assert_eq!(rt; words.get(4096 + 2032).number, 7);
     Ok(())
 }

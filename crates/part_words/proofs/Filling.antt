@@ -3,18 +3,18 @@ use Rattle.std.proofs.Common.{◌≡◌, ℕ, ◌+◌, ◌-◌, ◌/◌, ◌%◌
 use Rattle.std.specs.Prelude.{Result, Ok, Err, OnOk, OnErr}
 use Rattle.std.proofs.Math.Path.{fun_ext}
 use Rattle.std.proofs.lemmas.Bool.{cases_eq}
-use Rattle.std.proofs.lemmas.List.{append-nil, append_assoc, map-append, map-set, length-append, length-set, length-map, replicate-append-replicate, set-get_or, take_at, take-map, get_or-map, get_or_append_left}
+use Rattle.std.proofs.lemmas.List.{append-nil, append_assoc, length-append, length-set, length-map, replicate-append-replicate, set-get_or, take_at, get_or-map, get_or_append_left, get_or_default}
 use Rattle.part_words.specs.Extents.{index_of, changed_at}
 use Rattle.part_words.specs.Parts.{Parts, word_at, filled}
 use Rattle.part_words.proofs.Filled.{get_or-filled, length_filled}
 use Rattle.part_words.proofs.Opening.{get_or-changed_same, get_or-changed_other}
 
 -- one more empty part
-pub one_more : {V T : Type 0} (items : V → List T) (ws vs : List V) (x : V) → map items ws ≡ map items vs ++ replicate (length ws - length vs) [] → length vs ≤ length ws → items x ≡ [] → map items (ws ++ x ∷ []) ≡ map items vs ++ replicate (length (ws ++ x ∷ []) - length vs) []
-one_more items ws vs x e h none =
+pub one_more : {T : Type 0} (ws vs : List (List T)) (x : List T) → ws ≡ vs ++ replicate (length ws - length vs) [] → length vs ≤ length ws → x ≡ [] → ws ++ x ∷ [] ≡ vs ++ replicate (length (ws ++ x ∷ []) - length vs) []
+one_more ws vs x e h none =
     let n = length ws - length vs in
     let m : length (ws ++ x ∷ []) - length vs ≡ n + 1 = omega (arith, length-append ws (x ∷ []), h) in
-    rw m (map-append items ws (x ∷ []) ∙ (ap (λ w. map items ws ++ w ∷ []) none ∙ (ap (λ ps. ps ++ [] ∷ []) e ∙ (append_assoc (map items vs) (replicate n []) ([] ∷ []) ∙ ap (λ ps. map items vs ++ ps) (replicate-append-replicate n 1 [])))))
+    rw m (ap (λ w. ws ++ w ∷ []) none ∙ (ap (λ ps. ps ++ [] ∷ []) e ∙ (append_assoc vs (replicate n []) ([] ∷ []) ∙ ap (λ ps. vs ++ ps) (replicate-append-replicate n 1 []))))
 
 -- a part that is there, or was added, changes
 pub changed_part : {X : Type 0} (none : X) (f : X → X) (k : ℕ) (xs : List X) (m : ℕ) → m ≡ suc k - length xs → set (xs ++ replicate m none) k (f (get_or (xs ++ replicate m none) k none)) ≡ changed_at none k f xs
@@ -25,32 +25,30 @@ changed_part none f zero (x ∷ xs) m e =
 changed_part none f (suc k) [] m e = let z : m ≡ suc (suc k) = omega (arith, e) in rw z (ap (λ ys. none ∷ ys) (changed_part none f k [] (suc k) (omega arith)))
 changed_part none f (suc k) (x ∷ xs) m e = ap (λ ys. x ∷ ys) (changed_part none f k xs m (omega (arith, e)))
 
--- parts that are kept, after empty ones were added up to k, and one of them that became another
-pub record Fills {V T : Type 0} (items : V → List T) (vs ws : List V) (k : ℕ) (w : V) : Type 0 where
-  pub added : map items ws ≡ map items vs ++ replicate (length ws - length vs) []
+-- parts after empty ones were added up to k, and one of them that became another
+pub record Fills {T : Type 0} (vs ws : List (List T)) (k : ℕ) (w : List T) : Type 0 where
+  pub added : ws ≡ vs ++ replicate (length ws - length vs) []
   pub count : length ws ≡ max (k + 1) (length vs)
   pub read : w ≡ get_or ws k w
 
-part_is : {V T : Type 0} (items : V → List T) (vs ws : List V) (k : ℕ) (w : V) → Fills items vs ws k w → get_or (map items ws) k [] ≡ items w
-part_is items vs ws k w h =
-    get_or-map items ws k w [] (omega (arith, h.count)) ∙ sym (ap items h.read)
+part_is : {T : Type 0} (vs ws : List (List T)) (k : ℕ) (w : List T) → Fills vs ws k w → get_or ws k [] ≡ w
+part_is vs ws k w h = sym (h.read ∙ get_or_default ws k w [] (omega (arith, h.count)))
 
 -- after it was filled
-pub filled_part : {V T E : Type 0} (items : V → List T) (vs ws : List V) (k : ℕ) (w x : V) (f : List T → List T) (r : Result (Unit {0}) E) → Fills items vs ws k w → OnOk r (items x ≡ f (items w)) → OnOk r (map items (set ws k x) ≡ changed_at [] k f (map items vs))
-filled_part items vs ws k w x f (Err e) h new = new
-filled_part items vs ws k w x f (Ok u) h new =
-    map-set items ws k x ∙ (ap (set (map items ws) k) (new ∙ ap f (sym (part_is items vs ws k w h))) ∙ (ap (λ ps. set ps k (f (get_or ps k []))) h.added ∙ changed_part [] f k (map items vs) (length ws - length vs) (omega (arith, h.count, length-map vs items))))
+pub filled_part : {T E : Type 0} (vs ws : List (List T)) (k : ℕ) (w x : List T) (f : List T → List T) (r : Result (Unit {0}) E) → Fills vs ws k w → OnOk r (x ≡ f w) → OnOk r (set ws k x ≡ changed_at [] k f vs)
+filled_part vs ws k w x f (Err e) h new = new
+filled_part vs ws k w x f (Ok u) h new =
+    ap (set ws k) (new ∙ ap f (sym (part_is vs ws k w h))) ∙ (ap (λ ps. set ps k (f (get_or ps k []))) h.added ∙ changed_part [] f k vs (length ws - length vs) (omega (arith, h.count)))
 
 -- where nothing was filled
-pub same_part : {V T E : Type 0} (items : V → List T) (vs ws : List V) (k : ℕ) (w x : V) (r : Result (Unit {0}) E) → Fills items vs ws k w → OnErr r (items x ≡ items w) → OnErr r (map items (set ws k x) ≡ map items vs ++ replicate (length (set ws k x) - length vs) [])
-same_part items vs ws k w x (Ok u) h same = same
-same_part items vs ws k w x (Err e) h same =
-    rw (length-set ws k x) (map-set items ws k x ∙ (ap (set (map items ws) k) (same ∙ sym (part_is items vs ws k w h)) ∙ (set-get_or (map items ws) k [] ∙ h.added)))
+pub same_part : {T E : Type 0} (vs ws : List (List T)) (k : ℕ) (w x : List T) (r : Result (Unit {0}) E) → Fills vs ws k w → OnErr r (x ≡ w) → OnErr r (set ws k x ≡ vs ++ replicate (length (set ws k x) - length vs) [])
+same_part vs ws k w x (Ok u) h same = same
+same_part vs ws k w x (Err e) h same =
+    rw (length-set ws k x) (ap (set ws k) (same ∙ sym (part_is vs ws k w h)) ∙ (set-get_or ws k [] ∙ h.added))
 
 -- the parts that came are cut off
-pub cut_back : {V T : Type 0} (items : V → List T) (ws vs : List V) (n m : ℕ) → map items ws ≡ map items vs ++ replicate m [] → n ≡ length vs → map items (take n ws) ≡ map items vs
-cut_back items ws vs n m e h =
-    sym (take-map items n ws) ∙ (ap (take n) e ∙ take_at (map items vs) (replicate m []) n (omega (arith, length-map vs items, h)))
+pub cut_back : {T : Type 0} (ws vs : List (List T)) (n m : ℕ) → ws ≡ vs ++ replicate m [] → n ≡ length vs → take n ws ≡ vs
+cut_back ws vs n m e h = ap (take n) e ∙ take_at vs (replicate m []) n (sym h)
 
 -- words that are opened with the default change no word
 pub word_at-filled : {T : Type 0} (ws : Parts T) (k n : ℕ) (fill : T) → word_at (record ws { parts = changed_at [] k (filled n fill) ws.parts }) fill ≡ word_at ws fill
@@ -85,16 +83,16 @@ long_enough k n xs same =
     (omega (arith, length-changed k (max n) xs, ap length same), omega (arith, get_or-changed_same 0 k (max n) xs, ap (λ ys. get_or ys k 0) same))
 
 -- so there are changes to make where the part isn't there
-pub missing_part : {V T E : Type 0} (items : V → List T) (vs : List V) (k n : ℕ) (r : Result (Unit {0}) E) → length vs < k + 1 → OnErr r (changed_at 0 k (max n) (map length (map items vs)) ≡ map length (map items vs) → ⊥)
-missing_part items vs k n (Ok u) few = tt
-missing_part items vs k n (Err e) few = λ same.
-    omega (arith, few, (long_enough k n (map length (map items vs)) same).0, length-map (map items vs) length, length-map vs items)
+pub missing_part : {T E : Type 0} (vs : List (List T)) (k n : ℕ) (r : Result (Unit {0}) E) → length vs < k + 1 → OnErr r (changed_at 0 k (max n) (map length vs) ≡ map length vs → ⊥)
+missing_part vs k n (Ok u) few = tt
+missing_part vs k n (Err e) few = λ same.
+    omega (arith, few, (long_enough k n (map length vs) same).0, length-map vs length)
 
 -- and where it is too short
-pub short_part : {V T E : Type 0} (items : V → List T) (vs ws : List V) (k n : ℕ) (w : V) (r : Result (Unit {0}) E) → Fills items vs ws k w → OnErr r (length (items w) < n) → OnErr r (changed_at 0 k (max n) (map length (map items vs)) ≡ map length (map items vs) → ⊥)
-short_part items vs ws k n w (Ok u) h short = short
-short_part items vs ws k n w (Err e) h short = λ same.
-    let long = long_enough k n (map length (map items vs)) same in
-    let there : k < length (map items vs) = omega (arith, long.0, length-map (map items vs) length) in
-    let read : get_or (map items vs) k [] ≡ items w = sym (get_or_append_left (map items vs) (replicate (length ws - length vs) []) [] k there) ∙ (ap (λ ps. get_or ps k []) (sym h.added) ∙ part_is items vs ws k w h) in
-    omega (arith, short, long.1, get_or-map length (map items vs) k [] 0 there, ap length read)
+pub short_part : {T E : Type 0} (vs ws : List (List T)) (k n : ℕ) (w : List T) (r : Result (Unit {0}) E) → Fills vs ws k w → OnErr r (length w < n) → OnErr r (changed_at 0 k (max n) (map length vs) ≡ map length vs → ⊥)
+short_part vs ws k n w (Ok u) h short = short
+short_part vs ws k n w (Err e) h short = λ same.
+    let long = long_enough k n (map length vs) same in
+    let there : k < length vs = omega (arith, long.0, length-map vs length) in
+    let read : get_or vs k [] ≡ w = sym (get_or_append_left vs (replicate (length ws - length vs) []) [] k there) ∙ (ap (λ ps. get_or ps k []) (sym h.added) ∙ part_is vs ws k w h) in
+    omega (arith, short, long.1, get_or-map length vs k [] 0 there, ap length read)

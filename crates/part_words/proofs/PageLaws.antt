@@ -6,41 +6,36 @@ use Rattle.std.proofs.lemmas.List.{append-nil, length-set, length-append, length
 use Rattle.std.proofs.lemmas.List.FromFn.{length-map-range_with_len, get_or-map-range_with_len}
 use Rattle.std.specs.List.{range_with_len}
 use Rattle.std.specs.Prelude.{Result, Ok, Err, OnErr}
-use Rattle.part_words.specs.Pages.{page, word_in, word_of, words_in, placed, ArePaged, IsPart, OpenWords}
+use Rattle.part_words.specs.Pages.{page, word_in, word_of, words_in, rank_count, ArePaged, IsPart}
 use Rattle.part_words.specs.Parts.{filled}
 use Rattle.part_words.proofs.Filled.{get_or-more, get_or-filled, length_filled}
 
--- how many pages have a place, where some are added that have none
-placed-more : (m : ℕ) (ps : List ℕ) → placed (ps ++ replicate m 0) ≡ placed ps
-placed-more zero [] = refl
-placed-more (suc m) [] = placed-more m []
-placed-more m (zero ∷ ps) = placed-more m ps
-placed-more m (suc p ∷ ps) = ap suc (placed-more m ps)
+-- how many pages have a rank, where some are added that have none
+rank_count-more : (m : ℕ) (ps : List ℕ) → rank_count (ps ++ replicate m 0) ≡ rank_count ps
+rank_count-more zero [] = refl
+rank_count-more (suc m) [] = rank_count-more m []
+rank_count-more m (zero ∷ ps) = rank_count-more m ps
+rank_count-more m (suc p ∷ ps) = ap suc (rank_count-more m ps)
 
 -- and where a page gets one
-placed-set : (ps : List ℕ) (i p : ℕ) → i < length ps → get_or ps i 0 ≡ 0 → placed (set ps i (suc p)) ≡ suc (placed ps)
-placed-set [] i p lt none = absurd (omega arith)
-placed-set (zero ∷ ps) zero p lt none = refl
-placed-set (suc q ∷ ps) zero p lt none = absurd (omega (arith, none))
-placed-set (zero ∷ ps) (suc i) p lt none = placed-set ps i p (omega arith) none
-placed-set (suc q ∷ ps) (suc i) p lt none = ap suc (placed-set ps i p (omega arith) none)
+rank_count-set : (ps : List ℕ) (i p : ℕ) → i < length ps → get_or ps i 0 ≡ 0 → rank_count (set ps i (suc p)) ≡ suc (rank_count ps)
+rank_count-set [] i p lt none = absurd (omega arith)
+rank_count-set (zero ∷ ps) zero p lt none = refl
+rank_count-set (suc q ∷ ps) zero p lt none = absurd (omega (arith, none))
+rank_count-set (zero ∷ ps) (suc i) p lt none = rank_count-set ps i p (omega arith) none
+rank_count-set (suc q ∷ ps) (suc i) p lt none = ap suc (rank_count-set ps i p (omega arith) none)
 
-placed_most : (ps : List ℕ) → placed ps ≤ length ps
-placed_most [] = omega arith
-placed_most (zero ∷ ps) = omega (arith, placed_most ps)
-placed_most (suc p ∷ ps) = omega (arith, placed_most ps)
+rank_count_most : (ps : List ℕ) → rank_count ps ≤ length ps
+rank_count_most [] = omega arith
+rank_count_most (zero ∷ ps) = omega (arith, rank_count_most ps)
+rank_count_most (suc p ∷ ps) = omega (arith, rank_count_most ps)
 
--- there are fewer places than pages while a page has none
-pub placed_fewer : (ps : List ℕ) (i : ℕ) → i < length ps → get_or ps i 0 ≡ 0 → placed ps < length ps
-placed_fewer [] i lt none = absurd (omega arith)
-placed_fewer (zero ∷ ps) i lt none = omega (arith, placed_most ps)
-placed_fewer (suc q ∷ ps) zero lt none = absurd (omega (arith, none))
-placed_fewer (suc q ∷ ps) (suc i) lt none = omega (arith, placed_fewer ps i (omega arith) none)
-
--- with more room
-pub paged_wider : (ps : List ℕ) (w c c' : ℕ) → ArePaged ps w c → c ≤ c' → ArePaged ps w c'
-paged_wider ps w c c' h le =
-    record { few = h.few; there = h.there; apart = h.apart; count = h.count; room = omega (arith, h.room, le) }
+-- there are fewer ranks than pages while a page has none
+pub rank_count_fewer : (ps : List ℕ) (i : ℕ) → i < length ps → get_or ps i 0 ≡ 0 → rank_count ps < length ps
+rank_count_fewer [] i lt none = absurd (omega arith)
+rank_count_fewer (zero ∷ ps) i lt none = omega (arith, rank_count_most ps)
+rank_count_fewer (suc q ∷ ps) zero lt none = absurd (omega (arith, none))
+rank_count_fewer (suc q ∷ ps) (suc i) lt none = omega (arith, rank_count_fewer ps i (omega arith) none)
 
 -- a list that is resized to no less than it has
 pub resized : {T : Type 0} (vs ws : List T) (n k m : ℕ) (x : T) → vs ≡ ws → length ws ≤ k → k ≡ length ws + (n - length ws) → m ≡ k - length ws → take k vs ++ replicate m x ≡ filled n x ws
@@ -56,7 +51,7 @@ paged_more ps n w c c' h le few room =
       few = omega (arith, length_filled n 0 ps, h.few, few);
       there = λ i. rw (same i) (h.there i);
       apart = λ i j. rw (same i, same j) (h.apart i j);
-      count = h.count ∙ ap (λ k. page * k) (sym (placed-more (n - length ps) ps));
+      count = h.count ∙ ap (λ k. page * k) (sym (rank_count-more (n - length ps) ps));
       room = omega (arith, length_filled n 0 ps, h.room, le, room);
     }
 
@@ -64,7 +59,7 @@ pub length-page : {T : Type 0} (none : T) (ws vs : List T) → vs ≡ ws ++ repl
 length-page none ws vs e =
     ap length e ∙ (length-append ws (replicate page none) ∙ ap (λ n. length ws + n) (length-replicate page none))
 
--- the next page gets a place, and a page without words comes behind the others
+-- the next page gets a rank, and a page without words comes behind the others
 pub paged_next : (ps : List ℕ) (i p w w' c c' : ℕ) → ArePaged ps w c → i < length ps → get_or ps i 0 ≡ 0 → w ≡ page * p → w' ≡ w + page → c ≤ c' → ArePaged (set ps i (suc p)) w' c'
 paged_next ps i p w w' c c' h lt none whole more le =
     record {
@@ -83,12 +78,12 @@ paged_next ps i p w w' c c' h lt none whole more le =
           | inr apart ↦ h.apart m n (rw (get_or-set_other ps i m (suc p) 0 other) at some) (rw (get_or-set_other ps i m (suc p) 0 other, get_or-set_other ps i n (suc p) 0 apart) at same)
         ]
       ];
-      count = omega (arith, h.count, more, placed-set ps i p lt none);
+      count = omega (arith, h.count, more, rank_count-set ps i p lt none);
       room = rw (length-set ps i (suc p)) (omega (arith, h.room, le));
     }
 
 -- no word changes where pages without words come
-word_in-more : {T : Type 0} (none : T) (ws : List T) (m place n : ℕ) → word_in none (ws ++ replicate m none) place n ≡ word_in none ws place n
+word_in-more : {T : Type 0} (none : T) (ws : List T) (m rank n : ℕ) → word_in none (ws ++ replicate m none) rank n ≡ word_in none ws rank n
 word_in-more none ws m zero n = refl
 word_in-more none ws m (suc p) n = get_or-more m none ws (p * page + n)
 
@@ -96,7 +91,7 @@ pub word_of-more : {T : Type 0} (none : T) (count : ℕ) (ps : List ℕ) (ws : L
 word_of-more none count ps ws n =
     ap (λ p. word_in none ws p (n % page)) (get_or-filled count 0 ps (n / page))
 
--- and where the next page gets a place
+-- and where the next page gets a rank
 pub word_of-next : {T : Type 0} (none : T) (ps : List ℕ) (ws : List T) (i p n : ℕ) → i < length ps → get_or ps i 0 ≡ 0 → length ws ≡ page * p → word_of none (set ps i (suc p)) (ws ++ replicate page none) n ≡ word_of none ps ws n
 word_of-next none ps ws i p n lt empty whole =
     word_in-more none ws page (get_or (set ps i (suc p)) (n / page) 0) (n % page) ∙ (elim (cases_eq (n / page) i) [
@@ -130,7 +125,7 @@ kept_at ps n = (get_or ps (n / page) 0 - 1) * page + n % page
 pub kept_there : (ps : List ℕ) (w c n : ℕ) → ArePaged ps w c → 0 < get_or ps (n / page) 0 → kept_at ps n < w
 kept_there ps w c n h some = omega (arith, h.there (n / page), some)
 
-word_in-kept : {T : Type 0} (none : T) (ws : List T) (place n : ℕ) → 0 < place → word_in none ws place n ≡ get_or ws ((place - 1) * page + n) none
+word_in-kept : {T : Type 0} (none : T) (ws : List T) (rank n : ℕ) → 0 < rank → word_in none ws rank n ≡ get_or ws ((rank - 1) * page + n) none
 word_in-kept none ws zero n some = absurd (omega (arith, some))
 word_in-kept none ws (suc p) n some =
     let e : p ≡ suc p - 1 = omega arith in
@@ -146,9 +141,9 @@ word_of-empty none ps ws n e = ap (λ p. word_in none ws p (n % page)) e
 -- no other word is kept there
 kept_apart : (ps : List ℕ) (w c m n : ℕ) → ArePaged ps w c → 0 < get_or ps (m / page) 0 → 0 < get_or ps (n / page) 0 → kept_at ps m ≡ kept_at ps n → m ≡ n
 kept_apart ps w c m n h some_m some_n same =
-    let place : get_or ps (m / page) 0 ≡ get_or ps (n / page) 0 = omega (arith, same, some_m, some_n) in
-    let p = h.apart (m / page) (n / page) some_m place in
-    omega (arith, p, same, place)
+    let rank : get_or ps (m / page) 0 ≡ get_or ps (n / page) 0 = omega (arith, same, some_m, some_n) in
+    let p = h.apart (m / page) (n / page) some_m rank in
+    omega (arith, p, same, rank)
 
 -- the word that is written, and the others
 pub word_of-written : {T : Type 0} (none : T) (ps : List ℕ) (ws : List T) (c n : ℕ) (x : T) → ArePaged ps (length ws) c → 0 < get_or ps (n / page) 0 → word_of none ps (set ws (kept_at ps n) x) n ≡ x
@@ -179,24 +174,24 @@ words_written none len ps ws c n x h below some =
     ])
 
 -- what a caller sees of a part
-abbrev pub seen_part : {T : Type 0} → T → ℕ → List ℕ → List T → OpenWords T
-seen_part none len ps ws = record { words = words_in none len ps ws }
+abbrev pub seen_part : {T : Type 0} → T → ℕ → List ℕ → List T → List T
+seen_part none len ps ws = words_in none len ps ws
 
-pub length-seen : {T : Type 0} (none : T) (len : ℕ) (ps : List ℕ) (ws : List T) (s : OpenWords T) → seen_part none len ps ws ≡ s → length s.words ≡ len
-length-seen none len ps ws s is = ap (λ (p : OpenWords _). length p.words) (sym is) ∙ length-words none len ps ws
+pub length-seen : {T : Type 0} (none : T) (len : ℕ) (ps : List ℕ) (ws : List T) (s : List T) → seen_part none len ps ws ≡ s → length s ≡ len
+length-seen none len ps ws s is = ap (λ (p : List _). length p) (sym is) ∙ length-words none len ps ws
 
-pub get_or-seen : {T : Type 0} (none : T) (len : ℕ) (ps : List ℕ) (ws : List T) (c : ℕ) (s : OpenWords T) → seen_part none len ps ws ≡ s → IsPart none len ps ws c → (n : ℕ) (d : T) → n < length s.words → get_or s.words n d ≡ word_of none ps ws n
+pub get_or-seen : {T : Type 0} (none : T) (len : ℕ) (ps : List ℕ) (ws : List T) (c : ℕ) (s : List T) → seen_part none len ps ws ≡ s → IsPart none len ps ws c → (n : ℕ) (d : T) → n < length s → get_or s n d ≡ word_of none ps ws n
 get_or-seen none len ps ws c s is h n d lt =
-    get_or_default s.words n d none lt ∙ (ap (λ (p : OpenWords _). get_or p.words n none) (sym is) ∙ get_or-words none len ps ws c n h)
+    get_or_default s n d none lt ∙ (ap (λ (p : List _). get_or p n none) (sym is) ∙ get_or-words none len ps ws c n h)
 
--- the place of a page that is read
-pub place_read : (ps : List ℕ) (n place : ℕ) → place ≡ get_or ps n place → n < length ps → get_or ps n 0 ≡ place
-place_read ps n place e lt = sym (e ∙ get_or_default ps n place 0 lt)
+-- the rank of a page that is read
+pub rank_read : (ps : List ℕ) (n rank : ℕ) → rank ≡ get_or ps n rank → n < length ps → get_or ps n 0 ≡ rank
+rank_read ps n rank e lt = sym (e ∙ get_or_default ps n rank 0 lt)
 
 -- more words are opened
-pub seen_longer : {T : Type 0} (none : T) (len end count : ℕ) (ps : List ℕ) (ws : List T) (c : ℕ) (s : OpenWords T) → seen_part none len ps ws ≡ s → IsPart none len ps ws c → len ≤ end → words_in none end (filled count 0 ps) ws ≡ filled end none s.words
+pub seen_longer : {T : Type 0} (none : T) (len end count : ℕ) (ps : List ℕ) (ws : List T) (c : ℕ) (s : List T) → seen_part none len ps ws ≡ s → IsPart none len ps ws c → len ≤ end → words_in none end (filled count 0 ps) ws ≡ filled end none s
 seen_longer none len end count ps ws c s is h le =
-    words_longer none len end ps (filled count 0 ps) ws c h le (word_of-more none count ps ws) ∙ ap (λ (p : OpenWords _). filled end none p.words) is
+    words_longer none len end ps (filled count 0 ps) ws c h le (word_of-more none count ps ws) ∙ ap (λ (p : List _). filled end none p) is
 
 -- nothing is filled up where there is as much
 pub filled_enough : {T : Type 0} (n : ℕ) (fill : T) (ws : List T) → n ≤ length ws → filled n fill ws ≡ ws
@@ -208,7 +203,7 @@ pub on_err : {T E P : Type 0} (r : Result T E) → P → OnErr r P
 on_err (Ok u) p = tt
 on_err (Err e) p = p
 
--- a part whose pages got places, with the same words
+-- a part whose pages got ranks, with the same words
 pub part_same : {T : Type 0} (none : T) (len : ℕ) (ps qs : List ℕ) (ws vs : List T) (c c' : ℕ) → IsPart none len ps ws c → ArePaged qs (length vs) c' → length qs ≡ length ps → ((n : ℕ) → word_of none qs vs n ≡ word_of none ps ws n) → IsPart none len qs vs c'
 part_same none len ps qs ws vs c c' h paged count same =
     record { paged = paged; all = omega (arith, count, h.all); rest = λ n past. same n ∙ h.rest n past }
@@ -223,6 +218,6 @@ part_written none len ps ws c n x h below some =
     }
 
 -- and what a caller sees of it
-pub seen_written : {T : Type 0} (none : T) (len : ℕ) (ps qs : List ℕ) (ws vs : List T) (c n : ℕ) (x : T) (s : OpenWords T) → seen_part none len ps ws ≡ s → IsPart none len qs vs c → ((i : ℕ) → word_of none qs vs i ≡ word_of none ps ws i) → n < len → 0 < get_or qs (n / page) 0 → words_in none len qs (set vs (kept_at qs n) x) ≡ set s.words n x
+pub seen_written : {T : Type 0} (none : T) (len : ℕ) (ps qs : List ℕ) (ws vs : List T) (c n : ℕ) (x : T) (s : List T) → seen_part none len ps ws ≡ s → IsPart none len qs vs c → ((i : ℕ) → word_of none qs vs i ≡ word_of none ps ws i) → n < len → 0 < get_or qs (n / page) 0 → words_in none len qs (set vs (kept_at qs n) x) ≡ set s n x
 seen_written none len ps qs ws vs c n x s is h same below some =
-    words_written none len qs vs c n x h below some ∙ (ap (λ l. set l n x) (ap (λ f. map f (range_with_len 0 len)) (fun_ext same)) ∙ ap (λ (p : OpenWords _). set p.words n x) is)
+    words_written none len qs vs c n x h below some ∙ (ap (λ l. set l n x) (ap (λ f. map f (range_with_len 0 len)) (fun_ext same)) ∙ ap (λ (p : List _). set p n x) is)

@@ -4,7 +4,7 @@ use Rattle.std.specs.Int.{div_ceil}
 use Rattle.std.specs.Prelude.{IfSome, IfNone, MatchOption}
 use Rattle.std.proofs.Math.Nat.{mod-eq_of_lt, mul-add-mod_self_right, mul-le-mul_right}
 use Rattle.std.proofs.lemmas.Bool.{cases_lt}
-use Rattle.std.proofs.lemmas.List.{get_or-map, length-map}
+use Rattle.std.proofs.lemmas.List.{get_or-map, get_or_default}
 use Rattle.std.proofs.lemmas.Nat.{div-add-mod', div-mul-add, mod_below}
 use Rattle.part_words.specs.Extents.{Extent, index_of, IsOpen}
 use Rattle.part_words.proofs.Opening.{within}
@@ -84,9 +84,9 @@ is_next e at part place (Some a) p below is =
     }
 
 -- how many words a part has
-pub length_read : {V T : Type 0} (items : V → List T) (vs : List V) (q : ℕ) (v : V) → v ≡ get_or vs q v → q < length vs → get_or (map length (map items vs)) q 0 ≡ length (items v)
-length_read items vs q v read below =
-    get_or-map length (map items vs) q [] 0 (omega (arith, below, length-map vs items)) ∙ ap length (get_or-map items vs q v [] below ∙ sym (ap items read))
+pub length_read : {T : Type 0} (vs : List (List T)) (q : ℕ) (v : List T) → v ≡ get_or vs q v → q < length vs → get_or (map length vs) q 0 ≡ length v
+length_read vs q v read below =
+    get_or-map length vs q [] 0 below ∙ ap length (sym (read ∙ get_or_default vs q v [] below))
 
 -- the number of the first word that begins at a distance or later
 pub rounded_up : (x n : ℕ) → n ≡ div_ceil x 16 → (x ≤ 16 * n) × (16 * n < x + 16)

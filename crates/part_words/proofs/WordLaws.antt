@@ -9,30 +9,30 @@ use Rattle.part_words.specs.Parts.{Parts, word_at, update, extent_of}
 use Rattle.part_words.proofs.Opening.{within}
 use Rattle.part_words.proofs.Updates.{update_same, update_other}
 
--- the parts that are kept as some values with items
-abbrev pub seen : {V T : Type 0} → (V → List T) → ℕ → ℕ → List V → Parts T
-seen items base width vs = record { base = base; width = width; parts = map items vs }
+-- words in these parts
+abbrev pub seen : {T : Type 0} → ℕ → ℕ → List (List T) → Parts T
+seen base width vs = record { base = base; width = width; parts = vs }
 
 -- v is what is kept of the part of an open address
-pub record Holds {V T : Type 0} (items : V → List T) (base width : ℕ) (vs : List V) (at : ℕ) (v : V) : Type 0 where
-  pub is_open : IsOpen (extent_of (seen items base width vs)) at
+pub record Holds {T : Type 0} (base width : ℕ) (vs : List (List T)) (at : ℕ) (v : List T) : Type 0 where
+  pub is_open : IsOpen (extent_of (seen base width vs)) at
   pub read : v ≡ get_or vs (index_of base at / width) v
 
 -- there is such a part
-pub part_exists : {V T : Type 0} (items : V → List T) (base width : ℕ) (vs : List V) (at : ℕ) → IsOpen (extent_of (seen items base width vs)) at → index_of base at / width < length vs
-part_exists items base width vs at h =
-    omega (arith, within (map length (map items vs)) _ _ h.below, length-map (map items vs) length, length-map vs items)
+pub part_exists : {T : Type 0} (base width : ℕ) (vs : List (List T)) (at : ℕ) → IsOpen (extent_of (seen base width vs)) at → index_of base at / width < length vs
+part_exists base width vs at h =
+    omega (arith, within (map length vs) _ _ h.below, length-map vs length)
 
-part_is : {V T : Type 0} (items : V → List T) (base width : ℕ) (vs : List V) (at : ℕ) (v : V) → Holds items base width vs at v → get_or (map items vs) (index_of base at / width) [] ≡ items v
-part_is items base width vs at v h =
-    get_or-map items vs (index_of base at / width) v [] (part_exists items base width vs at h.is_open) ∙ sym (ap items h.read)
+part_is : {T : Type 0} (base width : ℕ) (vs : List (List T)) (at : ℕ) (v : List T) → Holds base width vs at v → get_or vs (index_of base at / width) [] ≡ v
+part_is base width vs at v h =
+    sym (h.read ∙ get_or_default vs (index_of base at / width) v [] (part_exists base width vs at h.is_open))
 
 -- and it has the word
-pub word_exists : {V T : Type 0} (items : V → List T) (base width : ℕ) (vs : List V) (at : ℕ) (v : V) → Holds items base width vs at v → index_of base at % width < length (items v)
-word_exists items base width vs at v h =
+pub word_exists : {T : Type 0} (base width : ℕ) (vs : List (List T)) (at : ℕ) (v : List T) → Holds base width vs at v → index_of base at % width < length v
+word_exists base width vs at v h =
     let q = index_of base at / width in
-    let e : get_or (map length (map items vs)) q 0 ≡ length (get_or (map items vs) q []) = get_or-map length (map items vs) q [] 0 (omega (arith, part_exists items base width vs at h.is_open, length-map vs items)) in
-    omega (arith, h.is_open.below, e, ap length (part_is items base width vs at v h))
+    let e : get_or (map length vs) q 0 ≡ length (get_or vs q []) = get_or-map length vs q [] 0 (omega (arith, part_exists base width vs at h.is_open)) in
+    omega (arith, h.is_open.below, e, ap length (part_is base width vs at v h))
 
 -- the word of an address that has a place
 word_at-place : {T : Type 0} (ws : Parts T) (d : T) (at : ℕ) → ws.base + 16 * index_of ws.base at ≡ at → word_at ws d at ≡ get_or (get_or ws.parts (index_of ws.base at / ws.width) []) (index_of ws.base at % ws.width) d
@@ -40,10 +40,10 @@ unfolding word_at
 word_at-place ws d at e = rw (eq-eqb (ws.base + 16 * index_of ws.base at) at e) refl
 
 -- the word that is read
-pub word_is : {V T : Type 0} (items : V → List T) (base width : ℕ) (vs : List V) (at : ℕ) (v : V) → Holds items base width vs at v → (x d : T) → x ≡ get_or (items v) (index_of base at % width) x → x ≡ word_at (seen items base width vs) d at
-word_is items base width vs at v h x d e =
+pub word_is : {T : Type 0} (base width : ℕ) (vs : List (List T)) (at : ℕ) (v : List T) → Holds base width vs at v → (x d : T) → x ≡ get_or v (index_of base at % width) x → x ≡ word_at (seen base width vs) d at
+word_is base width vs at v h x d e =
     let r = index_of base at % width in
-    e ∙ (get_or_default (items v) r x d (word_exists items base width vs at v h) ∙ (ap (λ p. get_or p r d) (sym (part_is items base width vs at v h)) ∙ sym (word_at-place (seen items base width vs) d at h.is_open.place)))
+    e ∙ (get_or_default v r x d (word_exists base width vs at v h) ∙ (ap (λ p. get_or p r d) (sym (part_is base width vs at v h)) ∙ sym (word_at-place (seen base width vs) d at h.is_open.place)))
 
 -- one word of the parts is written
 abbrev set_in : {T : Type 0} → List (List T) → ℕ → ℕ → T → List (List T)
@@ -84,24 +84,24 @@ word_at-set_in ws at x d h a =
     ]
 
 -- a part that is kept is replaced by one with this word
-pub record Writes {V T : Type 0} (items : V → List T) (base width : ℕ) (vs : List V) (at : ℕ) (v w : V) (x : T) : Type 0 where
-  pub holds : Holds items base width vs at v
-  pub word : items w ≡ set (items v) (index_of base at % width) x
+pub record Writes {T : Type 0} (base width : ℕ) (vs : List (List T)) (at : ℕ) (v w : List T) (x : T) : Type 0 where
+  pub holds : Holds base width vs at v
+  pub word : w ≡ set v (index_of base at % width) x
 
-parts_written : {V T : Type 0} (items : V → List T) (base width : ℕ) (vs : List V) (at : ℕ) (v w : V) (x : T) → Writes items base width vs at v w x → map items (set vs (index_of base at / width) w) ≡ set_in (map items vs) (index_of base at / width) (index_of base at % width) x
-parts_written items base width vs at v w x h =
+parts_written : {T : Type 0} (base width : ℕ) (vs : List (List T)) (at : ℕ) (v w : List T) (x : T) → Writes base width vs at v w x → set vs (index_of base at / width) w ≡ set_in vs (index_of base at / width) (index_of base at % width) x
+parts_written base width vs at v w x h =
     let q = index_of base at / width in
-    map-set items vs q w ∙ ap (set (map items vs) q) (h.word ∙ ap (λ p. set p (index_of base at % width) x) (sym (part_is items base width vs at v h.holds)))
+    ap (set vs q) (h.word ∙ ap (λ p. set p (index_of base at % width) x) (sym (part_is base width vs at v h.holds)))
 
-pub word_at-written : {V T : Type 0} (items : V → List T) (base width : ℕ) (vs : List V) (at : ℕ) (v w : V) (x : T) → Writes items base width vs at v w x → (d : T) → word_at (seen items base width (set vs (index_of base at / width) w)) d ≡ update (word_at (seen items base width vs) d) at x
-word_at-written items base width vs at v w x h d =
-    fun_ext (λ a. rw (parts_written items base width vs at v w x h) (word_at-set_in (seen items base width vs) at x d h.holds.is_open a))
+pub word_at-written : {T : Type 0} (base width : ℕ) (vs : List (List T)) (at : ℕ) (v w : List T) (x : T) → Writes base width vs at v w x → (d : T) → word_at (seen base width (set vs (index_of base at / width) w)) d ≡ update (word_at (seen base width vs) d) at x
+word_at-written base width vs at v w x h d =
+    fun_ext (λ a. rw (parts_written base width vs at v w x h) (word_at-set_in (seen base width vs) at x d h.holds.is_open a))
 
 length-set_in : {T : Type 0} (ps : List (List T)) (q r : ℕ) (x : T) → q < length ps → map length (set_in ps q r x) ≡ map length ps
 length-set_in ps q r x hq =
     map-set length ps q (set (get_or ps q []) r x) ∙ (ap (set (map length ps) q) (length-set (get_or ps q []) r x ∙ sym (get_or-map length ps q [] 0 hq)) ∙ set-get_or (map length ps) q 0)
 
-pub extent_of-written : {V T : Type 0} (items : V → List T) (base width : ℕ) (vs : List V) (at : ℕ) (v w : V) (x : T) → Writes items base width vs at v w x → extent_of (seen items base width (set vs (index_of base at / width) w)) ≡ extent_of (seen items base width vs)
-extent_of-written items base width vs at v w x h =
+pub extent_of-written : {T : Type 0} (base width : ℕ) (vs : List (List T)) (at : ℕ) (v w : List T) (x : T) → Writes base width vs at v w x → extent_of (seen base width (set vs (index_of base at / width) w)) ≡ extent_of (seen base width vs)
+extent_of-written base width vs at v w x h =
     let q = index_of base at / width in
-    ap (λ ws. record { base = base; width = width; words = ws }) (ap (map length) (parts_written items base width vs at v w x h) ∙ length-set_in (map items vs) q (index_of base at % width) x (omega (arith, part_exists items base width vs at h.holds.is_open, length-map vs items)))
+    ap (λ ws. record { base = base; width = width; words = ws }) (ap (map length) (parts_written base width vs at v w x h) ∙ length-set_in vs q (index_of base at % width) x (omega (arith, part_exists base width vs at h.holds.is_open)))

@@ -34,7 +34,7 @@ changed_at none zero f (x ∷ xs) = f x ∷ xs
 changed_at none (suc n) f [] = none ∷ changed_at none n f []
 changed_at none (suc n) f (x ∷ xs) = x ∷ changed_at none n f xs
 
--- the words of a range are opened
+-- the words of a range are opened, and those before it in its part
 abbrev pub extended : Extent → ℕ → ℕ → Extent
 extended e at len =
     let n = index_of e.base at in

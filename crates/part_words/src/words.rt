@@ -9,8 +9,8 @@ use crate::word::Word;
 use std::alloc::{AllocError, Global};
 use std::marker::Model;
 
-/// One word for each 16 bytes of address space (this project's own). The words lie in parts, which begin `stride`
-/// bytes after one another, the first of them at `base`; a part is open from its beginning up to some word.
+/// One word for each 16 bytes of address space (this project's own). The words lie in parts, which begin at equal distances,
+/// the first of them at `base`; a part is open from its beginning up to some word.
 #[derive(Debug, Drop)]
 pub struct Words<T: Word> {
     base: u64,
@@ -20,7 +20,7 @@ pub struct Words<T: Word> {
 }
 
 impl<T: Word> Model for Words<T> {
-    ghost use Rattle.std.specs.Prelude.{◌<◌, map};
+    ghost use Rattle.std.specs.Prelude.{◌<◌};
     ghost use Rattle.part_words.specs.Parts.{Parts};
 
     ghost Value = { Parts T };
@@ -28,14 +28,14 @@ impl<T: Word> Model for Words<T> {
     ghost view = { λ s. record {
       base = s.base;
       width = s.width;
-      parts = map (λ p. p.words) s.parts.items;
+      parts = s.parts.items;
     } };
 
     ghost invariant = { λ s. 0 < s.width };
 }
 
 impl<T: Word> Words<T> {
-    /// No words. Parts begin at `base`, and every `stride` bytes after it.
+    /// No words. Parts begin at `base`, and every `stride` bytes after it, rounded down to whole words.
     pub fn new(alloc: Global, base: u64, stride: u64) -> Words<T>
         requires { 16 ≤ stride }
         ensures { result ≡ no_words base stride }
@@ -68,8 +68,8 @@ impl<T: Word> Words<T> {
         words.set(place, value);
     }
 
-    /// Opens the words of a range. Nothing changes where memory is short, or where a part gets too long to be kept (2^40 bytes);
-    /// either is so only where there is something to open.
+    /// Opens the words of a range, and those before it in its part. Nothing changes where memory is short, or where the part would
+    /// have 2^40 bytes or more; either is so only where there is something to open.
     pub fn open(&mut self, alloc: Global, at: u64, len: u64) -> Result<(), AllocError>
         requires { IsWithinPart (extent_of self.old) at len }
         ensures words { word_at self.new T.UNWRITTEN ≡ word_at self.old T.UNWRITTEN }
@@ -144,14 +144,14 @@ fn open_part<T: Word>(
     end: usize,
 ) -> Result<(), AllocError>
     requires { part < 2 ^ 60 }
-    ensures ok { OnOk result (map (λ p. p.words) parts.new.items
-        ≡ changed_at [] part (filled end T.UNWRITTEN) (map (λ p. p.words) parts.old.items)) }
-    ensures err { OnErr result (map (λ p. p.words) parts.new.items
-        ≡ map (λ p. p.words) parts.old.items
+    ensures ok { OnOk result (parts.new.items
+        ≡ changed_at [] part (filled end T.UNWRITTEN) parts.old.items) }
+    ensures err { OnErr result (parts.new.items
+        ≡ parts.old.items
         ++ replicate (length parts.new.items - length parts.old.items) []) }
     ensures full { OnErr result
-        (changed_at 0 part (max end) (map length (map (λ p. p.words) parts.old.items))
-        ≢ map length (map (λ p. p.words) parts.old.items)) }
+        (changed_at 0 part (max end) (map length parts.old.items)
+        ≢ map length parts.old.items) }
 {
     add_parts(parts, alloc, part + 1)?;
     let words = &mut parts[part];
@@ -165,8 +165,8 @@ fn add_parts<T: Word>(
     count: usize,
 ) -> Result<(), AllocError>
     ensures ok { OnOk result (length parts.new.items ≡ max count (length parts.old.items)) }
-    ensures items { map (λ p. p.words) parts.new.items
-        ≡ map (λ p. p.words) parts.old.items
+    ensures items { parts.new.items
+        ≡ parts.old.items
         ++ replicate (length parts.new.items - length parts.old.items) [] }
     ensures full { OnErr result (length parts.old.items < count) }
 {

@@ -10,5 +10,5 @@ loop-added-preserved g c =
       count = rw e (omega (arith, n));
       within = omega arith;
       more = rw e (omega (arith, n));
-      items = rw e (one_more (λ p. p.words) _ _ _ c.loop-added.invariant.items c.loop-added.invariant.more c.new.ensures);
+      items = rw e (one_more _ _ _ c.loop-added.invariant.items c.loop-added.invariant.more c.new.ensures);
     }

@@ -1,4 +1,4 @@
-use Rattle.std.proofs.Common.{◌≡◌, ◌≤◌, ◌-◌, ◌∙◌, ap, length, map, get_or, arith}
+use Rattle.std.proofs.Common.{◌≡◌, ◌≤◌, ◌-◌, ◌∙◌, ap, length, get_or, arith}
 use Rattle.std.specs.Int.{div_ceil}
 use Rattle.std.proofs.lemmas.List.{length-map}
 use Rattle.part_words.specs.Parts.{extent_of}
@@ -13,7 +13,7 @@ loop-part-init g c =
 
 count : (g : _) → (c : After-len g) → get_or (extent_of c.args.self.now).words c.loop-part.part 0 ≡ c.len.result
 count g c =
-    let e = length_read (λ p. p.words) c.self.inside.parts.items c.loop-part.part c.index-words.result.now c.index-words.ensures (omega (arith, c.loop-part-test.true, c.len-part-end.ensures, c.self.inside.parts.ok.0)) in
+    let e = length_read c.self.inside.parts.items c.loop-part.part c.index-words.result.now c.index-words.ensures (omega (arith, c.loop-part-test.true, c.len-part-end.ensures, c.self.inside.parts.ok.0)) in
     rw (← c.self.view_is) (omega (arith, e, c.len.ensures))
 
 pub loop-part-preserved : goal.loop-part-preserved
@@ -27,5 +27,5 @@ returns-then-place-len g c =
 
 pub returns-clause-none : goal.returns-clause-none
 returns-clause-none g c =
-    let past : length (extent_of c.args.self.now).words ≤ c.loop-part.part = rw (← c.self.view_is) (omega (arith, length-map (map (λ p. p.words) c.self.inside.parts.items) length, length-map c.self.inside.parts.items (λ p. p.words), c.loop-part-test.false, c.len-part-end.ensures, c.self.inside.parts.ok.0)) in
+    let past : length (extent_of c.args.self.now).words ≤ c.loop-part.part = rw (← c.self.view_is) (omega (arith, length-map c.self.inside.parts.items length, c.loop-part-test.false, c.len-part-end.ensures, c.self.inside.parts.ok.0)) in
     λ b from lt. passed_all _ _ _ _ c.loop-part.invariant past b from

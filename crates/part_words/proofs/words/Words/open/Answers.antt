@@ -13,7 +13,7 @@ returns-in-Ok-clause-extent g c =
 
 pub returns-in-Err-clause-err : goal.returns-in-Err-clause-err
 returns-in-Err-clause-err g c =
-    rw (c.truncate.ensures.items, ← c.self.view_is) (ap (λ ps. record { base = c.self.inside.base; width = c.self.inside.width; parts = ps }) (cut_back (λ p. p.words) _ c.self.inside.parts.items _ _ c.in-Err.ensures.err (omega (arith, c.len-before.ensures, c.self.inside.parts.ok.0))))
+    rw (c.truncate.ensures.items, ← c.self.view_is) (ap (λ ps. record { base = c.self.inside.base; width = c.self.inside.width; parts = ps }) (cut_back _ c.self.inside.parts.items _ _ c.in-Err.ensures.err (omega (arith, c.len-before.ensures, c.self.inside.parts.ok.0))))
 
 pub returns-in-Err-clause-words : goal.returns-in-Err-clause-words
 returns-in-Err-clause-words g c = ap (λ ws. word_at ws g.T.Word.UNWRITTEN) (returns-in-Err-clause-err g c)
