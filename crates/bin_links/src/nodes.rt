@@ -31,7 +31,7 @@ impl Word for LinkCodes {
 
     ghost UNWRITTEN = { no_codes };
 
-    /// Those of a chunk that is in no bin.
+    /// Those of a chunk that was in no bin yet.
     const UNWRITTEN: LinkCodes = LinkCodes { fd: 0, bk: 0 };
 }
 

@@ -1,6 +1,6 @@
 -- Lists that are filled up.
-use Rattle.std.proofs.Common.{◌≡◌, ℕ, ◌-◌, max, List, [], ◌∷◌, ◌++◌, length, replicate, get_or, refl, arith, zero, suc}
-use Rattle.std.proofs.lemmas.List.{length-append, length-replicate}
+use Rattle.std.proofs.Common.{◌≡◌, ℕ, ◌-◌, ◌≤◌, max, List, [], ◌∷◌, ◌++◌, length, replicate, get_or, refl, arith, zero, suc}
+use Rattle.std.proofs.lemmas.List.{append-nil, length-append, length-replicate}
 use Rattle.part_words.specs.Parts.{filled}
 
 -- with more of the default a list reads as before
@@ -17,3 +17,9 @@ get_or-filled n fill ws i = get_or-more (n - length ws) fill ws i
 pub length_filled : {T : Type 0} (n : ℕ) (fill : T) (ws : List T) → length (filled n fill ws) ≡ max n (length ws)
 length_filled n fill ws =
     omega (arith, length-append ws (replicate (n - length ws) fill), length-replicate (n - length ws) fill)
+
+-- nothing is filled up where there is as much
+pub filled_enough : {T : Type 0} (n : ℕ) (fill : T) (ws : List T) → n ≤ length ws → filled n fill ws ≡ ws
+filled_enough n fill ws le =
+    let none : n - length ws ≡ 0 = omega (arith, le) in
+    rw none (append-nil ws)

@@ -2,7 +2,7 @@
 use Rattle.std.proofs.Common.{◌≡◌, ℕ, ◌+◌, ◌-◌, ◌*◌, ◌/◌, ◌%◌, ◌<◌, ◌≤◌, ◌^◌, List, [], ◌∷◌, ◌++◌, length, map, take, replicate, get_or, set, sym, ap, ◌∙◌, refl, inl, inr, arith, zero, suc}
 use Rattle.std.proofs.Math.Path.{fun_ext}
 use Rattle.std.proofs.lemmas.Bool.{cases_eq, cases_lt}
-use Rattle.std.proofs.lemmas.List.{append-nil, length-set, length-append, length-replicate, take_all, get_or_past, get_or-set_same, get_or-set_other, ext_get_or, get_or_default}
+use Rattle.std.proofs.lemmas.List.{length-set, length-append, length-replicate, take_all, get_or_past, get_or-set_same, get_or-set_other, ext_get_or, get_or_default}
 use Rattle.std.proofs.lemmas.List.FromFn.{length-map-range_with_len, get_or-map-range_with_len}
 use Rattle.std.specs.List.{range_with_len}
 use Rattle.std.specs.Prelude.{Result, Ok, Err, OnErr}
@@ -59,7 +59,7 @@ pub length-page : {T : Type 0} (none : T) (ws vs : List T) → vs ≡ ws ++ repl
 length-page none ws vs e =
     ap length e ∙ (length-append ws (replicate page none) ∙ ap (λ n. length ws + n) (length-replicate page none))
 
--- the next page gets a rank, and a page without words comes behind the others
+-- the next page gets a rank, and its words come behind the others
 pub paged_next : (ps : List ℕ) (i p w w' c c' : ℕ) → ArePaged ps w c → i < length ps → get_or ps i 0 ≡ 0 → w ≡ page * p → w' ≡ w + page → c ≤ c' → ArePaged (set ps i (suc p)) w' c'
 paged_next ps i p w w' c c' h lt none whole more le =
     record {
@@ -82,7 +82,7 @@ paged_next ps i p w w' c c' h lt none whole more le =
       room = rw (length-set ps i (suc p)) (omega (arith, h.room, le));
     }
 
--- no word changes where pages without words come
+-- no word changes where unwritten ones come behind those that are kept
 word_in-more : {T : Type 0} (none : T) (ws : List T) (m rank n : ℕ) → word_in none (ws ++ replicate m none) rank n ≡ word_in none ws rank n
 word_in-more none ws m zero n = refl
 word_in-more none ws m (suc p) n = get_or-more m none ws (p * page + n)
@@ -173,31 +173,22 @@ words_written none len ps ws c n x h below some =
       | inr other ↦ word_of-others none ps ws c n x h.paged some i other ∙ (sym (get_or-words none len ps ws c i h) ∙ sym (get_or-set_other old n i x none other))
     ])
 
--- what a caller sees of a part
-abbrev pub seen_part : {T : Type 0} → T → ℕ → List ℕ → List T → List T
-seen_part none len ps ws = words_in none len ps ws
+-- what a caller sees of a part, who knows it as a list s
+pub length-seen : {T : Type 0} (none : T) (len : ℕ) (ps : List ℕ) (ws : List T) (s : List T) → words_in none len ps ws ≡ s → length s ≡ len
+length-seen none len ps ws s is = ap length (sym is) ∙ length-words none len ps ws
 
-pub length-seen : {T : Type 0} (none : T) (len : ℕ) (ps : List ℕ) (ws : List T) (s : List T) → seen_part none len ps ws ≡ s → length s ≡ len
-length-seen none len ps ws s is = ap (λ (p : List _). length p) (sym is) ∙ length-words none len ps ws
-
-pub get_or-seen : {T : Type 0} (none : T) (len : ℕ) (ps : List ℕ) (ws : List T) (c : ℕ) (s : List T) → seen_part none len ps ws ≡ s → IsPart none len ps ws c → (n : ℕ) (d : T) → n < length s → get_or s n d ≡ word_of none ps ws n
+pub get_or-seen : {T : Type 0} (none : T) (len : ℕ) (ps : List ℕ) (ws : List T) (c : ℕ) (s : List T) → words_in none len ps ws ≡ s → IsPart none len ps ws c → (n : ℕ) (d : T) → n < length s → get_or s n d ≡ word_of none ps ws n
 get_or-seen none len ps ws c s is h n d lt =
-    get_or_default s n d none lt ∙ (ap (λ (p : List _). get_or p n none) (sym is) ∙ get_or-words none len ps ws c n h)
+    get_or_default s n d none lt ∙ (ap (λ l. get_or l n none) (sym is) ∙ get_or-words none len ps ws c n h)
 
 -- the rank of a page that is read
 pub rank_read : (ps : List ℕ) (n rank : ℕ) → rank ≡ get_or ps n rank → n < length ps → get_or ps n 0 ≡ rank
 rank_read ps n rank e lt = sym (e ∙ get_or_default ps n rank 0 lt)
 
 -- more words are opened
-pub seen_longer : {T : Type 0} (none : T) (len end count : ℕ) (ps : List ℕ) (ws : List T) (c : ℕ) (s : List T) → seen_part none len ps ws ≡ s → IsPart none len ps ws c → len ≤ end → words_in none end (filled count 0 ps) ws ≡ filled end none s
+pub seen_longer : {T : Type 0} (none : T) (len end count : ℕ) (ps : List ℕ) (ws : List T) (c : ℕ) (s : List T) → words_in none len ps ws ≡ s → IsPart none len ps ws c → len ≤ end → words_in none end (filled count 0 ps) ws ≡ filled end none s
 seen_longer none len end count ps ws c s is h le =
-    words_longer none len end ps (filled count 0 ps) ws c h le (word_of-more none count ps ws) ∙ ap (λ (p : List _). filled end none p) is
-
--- nothing is filled up where there is as much
-pub filled_enough : {T : Type 0} (n : ℕ) (fill : T) (ws : List T) → n ≤ length ws → filled n fill ws ≡ ws
-filled_enough n fill ws le =
-    let none : n - length ws ≡ 0 = omega (arith, le) in
-    rw none (append-nil ws)
+    words_longer none len end ps (filled count 0 ps) ws c h le (word_of-more none count ps ws) ∙ ap (filled end none) is
 
 pub on_err : {T E P : Type 0} (r : Result T E) → P → OnErr r P
 on_err (Ok u) p = tt
@@ -218,6 +209,6 @@ part_written none len ps ws c n x h below some =
     }
 
 -- and what a caller sees of it
-pub seen_written : {T : Type 0} (none : T) (len : ℕ) (ps qs : List ℕ) (ws vs : List T) (c n : ℕ) (x : T) (s : List T) → seen_part none len ps ws ≡ s → IsPart none len qs vs c → ((i : ℕ) → word_of none qs vs i ≡ word_of none ps ws i) → n < len → 0 < get_or qs (n / page) 0 → words_in none len qs (set vs (kept_at qs n) x) ≡ set s n x
+pub seen_written : {T : Type 0} (none : T) (len : ℕ) (ps qs : List ℕ) (ws vs : List T) (c n : ℕ) (x : T) (s : List T) → words_in none len ps ws ≡ s → IsPart none len qs vs c → ((i : ℕ) → word_of none qs vs i ≡ word_of none ps ws i) → n < len → 0 < get_or qs (n / page) 0 → words_in none len qs (set vs (kept_at qs n) x) ≡ set s n x
 seen_written none len ps qs ws vs c n x s is h same below some =
-    words_written none len qs vs c n x h below some ∙ (ap (λ l. set l n x) (ap (λ f. map f (range_with_len 0 len)) (fun_ext same)) ∙ ap (λ (p : List _). set p n x) is)
+    words_written none len qs vs c n x h below some ∙ (ap (λ l. set l n x) (ap (λ f. map f (range_with_len 0 len)) (fun_ext same)) ∙ ap (λ l. set l n x) is)

@@ -1,5 +1,6 @@
 use Rattle.std.proofs.Common.{sym, arith}
-use Rattle.part_words.proofs.PageLaws.{length-seen, seen_longer, filled_enough, on_err}
+use Rattle.part_words.proofs.Filled.{filled_enough}
+use Rattle.part_words.proofs.PageLaws.{length-seen, seen_longer, on_err}
 use Rattle.part_words.proofs.part.Part.open.Goals as goal
 
 pub returns-then-end-self-clause-ok : goal.returns-then-end-self-clause-ok
