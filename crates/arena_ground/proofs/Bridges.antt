@@ -35,7 +35,7 @@ same_at ts n m =
 
 -- ---- how often a chunk stands in a list
 
-times_here : (ts : List Tile) (n : ℕ) (xs : List ℕ) → times_in (tile_chunk ts n) (chunks_at ts xs) ≡ times_at n xs
+pub times_here : (ts : List Tile) (n : ℕ) (xs : List ℕ) → times_in (tile_chunk ts n) (chunks_at ts xs) ≡ times_at n xs
 times_here ts n [] = refl
 times_here ts n (x ∷ xs) = omega (
   arith,

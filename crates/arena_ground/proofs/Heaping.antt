@@ -168,12 +168,15 @@ pub dropped_moved : (r s : Regions) (w v : TileRow) (l m : Linked) (last : Optio
 dropped_moved r s w v l m last e g other end h =
     heap_dropped_placed (arena_with r w l last) s.closed.items h.closed.0 e g.sound (subst (IsHeapPlaced (arena_with r w l last)) h.closed.1 (g.ground.placed.other other)) end
 
+pub dropped_bins : (r s : Regions) (w v : TileRow) (l m : Linked) (last : Option ℕ) (e : HeapEnd) → IsSoundGround r w l last → end_before_heap (arena_with r w l last) ≡ Some e → IsHeapGone r s w v l m last e → (without_heap (arena_with r w l last) e).bins ≡ bins_at w.tiles m.lists
+dropped_bins r s w v l m last e g end h = sym (ap (bins_at w.tiles) h.lists ∙ end_bins r w l last e g end)
+
 pub dropped_done : (r s : Regions) (w v : TileRow) (l m : Linked) (last : Option ℕ) (e : HeapEnd) → IsSoundGround r w l last → is_main (arena_with r w l last) ≡ false → end_before_heap (arena_with r w l last) ≡ Some e → IsHeapGone r s w v l m last e → IsDone s v m last (without_heap (arena_with r w l last) e)
 dropped_done r s w v l m last e g other end h =
     let a : Plain = arena_with r w l last in
     let new : Plain = without_heap a e in
     let k = (dropped_moved r s w v l m last e g other end h).drop in
-    let bins : new.bins ≡ bins_at w.tiles m.lists = sym (ap (bins_at w.tiles) h.lists ∙ end_bins r w l last e g end) in
+    let bins : new.bins ≡ bins_at w.tiles m.lists = dropped_bins r s w v l m last e g end h in
     let same = but_rows a e.before in
     let is : arena_of s v.tiles (bins_at w.tiles m.lists) last ≡ new =
     h.arena (bins_at w.tiles m.lists) ∙ (other_bins a (bins_at w.tiles m.lists) e ∙ ap (λ bins. record new { bins = bins }) (sym bins)) in

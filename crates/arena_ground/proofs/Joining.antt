@@ -113,6 +113,11 @@ pair_done r w l m last t u f c size came p moved lists links =
 
 -- ---- the two joins
 
+without_tile : (r : Regions) (w : TileRow) (l : Linked) (last : Option ℕ) (t : Tile) → IsSoundGround r w l last → is_free t ≡ true → tile_at t.addr w.tiles ≡ Some t → bins_at w.tiles (map (apart_from t.addr) l.lists) ≡ (unlinked (arena_with r w l last) (chunk_of t)).bins
+without_tile r w l last t g free found =
+    let a : Plain = arena_with r w l last in
+    bins_without a l.lists (chunk_of t) (lists_of r w l last g) (omega (arith, tile_listed a t g.sound free found))
+
 pub pair_before : (r : Regions) (w : TileRow) (l : Linked) (last : Option ℕ) (c : Chunk) (t : Tile) → IsSoundGround r w l last → IsTrue (is_own (arena_with r w l last) c) → free_before_of c.at w.tiles ≡ Some t → ArePair r w l last t (tile_of Used c.at c.size) t c
 pair_before r w l last c t g own e =
     let f : IsFreeTile (tile_before c.at w.tiles) t = free_found (tile_before c.at w.tiles) t e in
@@ -151,36 +156,41 @@ pair_behind r w l last c u g own behind free =
     }
 
 -- the chunk that they are, in its arena
-pub record IsJoinDone (r : Regions) (w : TileRow) (l : Linked) (last : Option ℕ) (c : Chunk) (new : Hand) : Type 0 where
+pub record IsJoinDone (r : Regions) (w : TileRow) (l : Linked) (last : Option ℕ) (c : Chunk) (new : Hand) (left : List (List Chunk)) : Type 0 where
   pub is : hand c (arena_with r w l last) ≡ new
   pub done : IsDone r w l last new.arena
+  pub bins : new.arena.bins ≡ left
 
-pub join_before_done : (r : Regions) (w : TileRow) (l m : Linked) (last : Option ℕ) (c : Chunk) (t : Tile) → IsSoundGround r w l last → IsTrue (is_own (arena_with r w l last) c) → free_before_of c.at w.tiles ≡ Some t → m.lists ≡ map (apart_from t.addr) l.lists → m.extent ≡ l.extent → IsJoinDone r (record w { tiles = fused t.addr (tile_of Used t.addr (t.size + c.size)) w.tiles }) m last (record { at = t.addr; size = t.size + c.size }) (joined_before (hand c (arena_with r w l last)))
+pub join_before_done : (r : Regions) (w : TileRow) (l m : Linked) (last : Option ℕ) (c : Chunk) (t : Tile) → IsSoundGround r w l last → IsTrue (is_own (arena_with r w l last) c) → free_before_of c.at w.tiles ≡ Some t → m.lists ≡ map (apart_from t.addr) l.lists → m.extent ≡ l.extent → IsJoinDone r (record w { tiles = fused t.addr (tile_of Used t.addr (t.size + c.size)) w.tiles }) m last (record { at = t.addr; size = t.size + c.size }) (joined_before (hand c (arena_with r w l last))) (bins_at w.tiles m.lists)
 join_before_done r w l m last c t g own e lists links =
     let a : Plain = arena_with r w l last in
     let h : Hand = hand c a in
+    let p = pair_before r w l last c t g own e in
     let f : IsFreeTile (tile_before c.at w.tiles) t = free_found (tile_before c.at w.tiles) t e in
     let pair : ℕ → Hand = λ size. hand (record { at = t.addr; size = size }) (record (unlinked a (chunk_of t)) { tiles = fused t.addr (tile_of Used t.addr size) w.tiles }) in
     let is : joined_before h ≡ pair (t.size + c.size) = before_is h t f ∙ ap pair (let e : c.size + t.size ≡ t.size + c.size = omega arith in e) in
     let j = (joined_before_moved h g.sound (own_count a c own)).joined in
     let moved : Moved a (pair (t.size + c.size)).arena (λ e. once e c) (λ e. once e (pair (t.size + c.size)).chunk) nothing nothing = subst (λ (new : Hand). Moved a new.arena (λ e. once e c) (λ e. once e new.chunk) nothing nothing) is j.moved in
-    let d = pair_done r w l m last t (tile_of Used c.at c.size) t c (t.size + c.size) _ (pair_before r w l last c t g own e) moved lists links in
+    let d = pair_done r w l m last t (tile_of Used c.at c.size) t c (t.size + c.size) _ p moved lists links in
     record {
       is = ap (λ b. hand (record { at = t.addr; size = t.size + c.size }) b) d.is ∙ sym is;
       done = record { is = d.is ∙ ap (λ (x : Hand). x.arena) (sym is); kept = d.kept };
+      bins = ap (λ (x : Hand). x.arena.bins) is ∙ sym (ap (bins_at w.tiles) lists ∙ without_tile r w l last t g p.free p.tile);
     }
 
-pub join_behind_done : (r : Regions) (w : TileRow) (l m : Linked) (last : Option ℕ) (c : Chunk) (u : Tile) → IsSoundGround r w l last → IsTrue (is_own (arena_with r w l last) c) → tile_behind c.at w.tiles ≡ Some u → is_free u ≡ true → m.lists ≡ map (apart_from u.addr) l.lists → m.extent ≡ l.extent → IsJoinDone r (record w { tiles = fused c.at (tile_of Used c.at (c.size + u.size)) w.tiles }) m last (record { at = c.at; size = c.size + u.size }) (joined_behind (hand c (arena_with r w l last)))
+pub join_behind_done : (r : Regions) (w : TileRow) (l m : Linked) (last : Option ℕ) (c : Chunk) (u : Tile) → IsSoundGround r w l last → IsTrue (is_own (arena_with r w l last) c) → tile_behind c.at w.tiles ≡ Some u → is_free u ≡ true → m.lists ≡ map (apart_from u.addr) l.lists → m.extent ≡ l.extent → IsJoinDone r (record w { tiles = fused c.at (tile_of Used c.at (c.size + u.size)) w.tiles }) m last (record { at = c.at; size = c.size + u.size }) (joined_behind (hand c (arena_with r w l last))) (bins_at w.tiles m.lists)
 join_behind_done r w l m last c u g own behind free lists links =
     let a : Plain = arena_with r w l last in
     let h : Hand = hand c a in
+    let p = pair_behind r w l last c u g own behind free in
     let is : joined_behind h ≡ joined h u c.at = behind_is h u (record { is = behind; free = free }) in
     let j = (joined_behind_moved h g.sound (own_count a c own)).joined in
     let moved : Moved a (joined h u c.at).arena (λ e. once e c) (λ e. once e (joined h u c.at).chunk) nothing nothing = subst (λ (new : Hand). Moved a new.arena (λ e. once e c) (λ e. once e new.chunk) nothing nothing) is j.moved in
-    let d = pair_done r w l m last (tile_of Used c.at c.size) u u c (c.size + u.size) _ (pair_behind r w l last c u g own behind free) moved lists links in
+    let d = pair_done r w l m last (tile_of Used c.at c.size) u u c (c.size + u.size) _ p moved lists links in
     record {
       is = ap (λ b. hand (record { at = c.at; size = c.size + u.size }) b) d.is ∙ sym is;
       done = record { is = d.is ∙ ap (λ (x : Hand). x.arena) (sym is); kept = d.kept };
+      bins = ap (λ (x : Hand). x.arena.bins) is ∙ sym (ap (bins_at w.tiles) lists ∙ without_tile r w l last u g p.free p.tile);
     }
 
 -- ---- two used chunks

@@ -1,4 +1,5 @@
 pub mod Bridges
+pub mod Guiding
 pub mod Heaping
 pub mod Joining
 pub mod Keeping

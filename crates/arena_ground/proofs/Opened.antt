@@ -25,6 +25,10 @@ opened_ground r w v l m last at len (Err x) g ok err lists links =
     (subst (λ (x : TileRow). IsWider x.extent m.extent) (sym err) (subst (IsWider w.extent) (sym links) (Covers-more w.extent l.extent at len g.covers)))
     (ap (λ (x : TileRow). x.extent.base) err) (ap (λ (x : TileRow). x.extent.width) err)
 
+pub opened_bins : {T E : Type 0} (w v : TileRow) (l m : Linked) (at len : ℕ) (res : Result T E) → OnOk res (v ≡ record w { extent = extended w.extent at len }) → OnErr res (v ≡ w) → m.lists ≡ l.lists → bins_at w.tiles l.lists ≡ bins_at v.tiles m.lists
+opened_bins w v l m at len (Ok x) ok err lists = ap (λ (x : TileRow). bins_at x.tiles l.lists) (sym ok) ∙ ap (bins_at v.tiles) (sym lists)
+opened_bins w v l m at len (Err x) ok err lists = ap (λ (x : TileRow). bins_at x.tiles l.lists) (sym err) ∙ ap (bins_at v.tiles) (sym lists)
+
 pub opened_room : {T E : Type 0} (w v : TileRow) (at len : ℕ) (res : Result T E) → IsWithinPart w.extent at len → OnOk res (v ≡ record w { extent = extended w.extent at len }) → OnOk res (AreOpen v.extent at len)
 opened_room w v at len (Ok x) within ok = subst (λ (x : TileRow). AreOpen x.extent at len) (sym ok) (AreOpen-range w.extent at len within)
 opened_room w v at len (Err x) within ok = ok

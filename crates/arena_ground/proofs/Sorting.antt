@@ -82,7 +82,7 @@ falling_at r w l last nb g large =
 -- ---- the bin of a size
 
 -- the bins without a listed chunk, by addresses
-rest_bins : (r : Regions) (w : TileRow) (l : Linked) (last : Option ℕ) (c : Chunk) → IsSoundGround r w l last → 0 < times_listed c (arena_with r w l last) → bins_at w.tiles (map (apart_from c.at) l.lists) ≡ (unlinked (arena_with r w l last) c).bins
+pub rest_bins : (r : Regions) (w : TileRow) (l : Linked) (last : Option ℕ) (c : Chunk) → IsSoundGround r w l last → 0 < times_listed c (arena_with r w l last) → bins_at w.tiles (map (apart_from c.at) l.lists) ≡ (unlinked (arena_with r w l last) c).bins
 rest_bins r w l last c g some = bins_without (arena_with r w l last) l.lists c (lists_of r w l last g) some
 
 pub unsorted_listed : (a : Plain) (c : Chunk) → 0 < times_in c (unsorted_of a) → 0 < times_listed c a

@@ -22,6 +22,7 @@ use bin_links::LinkWords;
 use chunk_image::TileWords;
 use chunk_tags::{Addr, Chunk, NoMemory, Size, Tile, TileKind, small_index};
 use heap_top::Regions;
+use large_bins::Guides;
 use std::alloc::Global;
 use std::marker::Model;
 
@@ -31,6 +32,8 @@ use std::marker::Model;
 pub struct Ground {
     tiles: TileWords,
     links: LinkWords,
+    /// Where walks over large bins begin.
+    guides: Guides,
     regions: Regions,
     /// The last remainder.
     last: Option<Addr>,
@@ -42,11 +45,11 @@ impl Model for Ground {
 
     ghost Value = { GroundView };
 
-    ghost use Rattle.arena_ground.specs.Grounds.{view_of, IsGround};
+    ghost use Rattle.arena_ground.specs.Grounds.{view_of, IsGuided};
 
     ghost view = { λ g. view_of g.regions g.tiles g.links g.last };
 
-    ghost invariant = { λ g. IsGround g.regions g.tiles g.links g.last };
+    ghost invariant = { λ g. IsGuided g.regions g.tiles g.links g.last g.guides };
 }
 
 impl Ground {
@@ -56,9 +59,11 @@ impl Ground {
     {
         let stride = PIECE_START - MAIN_START;
         let links = LinkWords::new(alloc, MAIN_START, stride)?;
+        let guides = Guides::new(alloc)?;
         Ok(Ground {
             tiles: TileWords::new(alloc, Addr(MAIN_START), stride),
             links,
+            guides,
             regions: Regions::main(alloc),
             last: None,
             alloc,
@@ -144,7 +149,14 @@ impl Moves for Ground {
                     size,
                     kind: TileKind::Used,
                 };
-                join(&mut self.tiles, &mut self.links, &t, &chunk, t.addr)
+                join(
+                    &mut self.tiles,
+                    &mut self.links,
+                    &mut self.guides,
+                    &t,
+                    &chunk,
+                    t.addr,
+                )
             }
         }
     }
@@ -158,7 +170,14 @@ impl Moves for Ground {
         };
         let u = self.tiles.behind(&chunk);
         if is_free(&u) {
-            join(&mut self.tiles, &mut self.links, &chunk, &u, u.addr)
+            join(
+                &mut self.tiles,
+                &mut self.links,
+                &mut self.guides,
+                &chunk,
+                &u,
+                u.addr,
+            )
         } else {
             Chunk { at, size }
         }
@@ -177,7 +196,7 @@ impl Moves for Ground {
     }
 
     fn claim(&mut self, c: Chunk) {
-        claim(&mut self.tiles, &mut self.links, c);
+        claim(&mut self.tiles, &mut self.links, &mut self.guides, c);
     }
 
     fn part(&mut self, c: Chunk, nb: Size) -> Chunk {
@@ -216,7 +235,7 @@ impl Moves for Ground {
     }
 
     fn sort_in(&mut self, c: Chunk) {
-        sort_in(&self.tiles, &mut self.links, c);
+        sort_in(&self.tiles, &mut self.links, &mut self.guides, c);
     }
 
     fn oldest_unsorted(&self) -> Option<Chunk> {
@@ -240,7 +259,7 @@ impl Moves for Ground {
     }
 
     fn best(&self, nb: Size) -> Option<Chunk> {
-        best(&self.tiles, &self.links, nb)
+        best(&self.tiles, &self.links, &self.guides, nb)
     }
 
     fn first_larger(&mut self, nb: Size) -> Option<Chunk> {
@@ -308,6 +327,7 @@ impl Moves for Ground {
         heaps: u16,
         len: u64,
     ) -> Result<Ground, NoMemory> {
+        let guides = Guides::new(alloc)?;
         let mut regions = Regions::other(alloc, number, heap_max, heaps)?;
         let start = regions.heap_start(0);
         let mut links = LinkWords::new(alloc, start, heap_max)?;
@@ -318,6 +338,7 @@ impl Moves for Ground {
         Ok(Ground {
             tiles,
             links,
+            guides,
             regions,
             last: None,
             alloc,
@@ -365,7 +386,7 @@ impl Moves for Ground {
     }
 
     fn drop_heap(&mut self, end: &HeapEnd) {
-        unlink_end(&mut self.links, end);
+        unlink_end(&self.tiles, &mut self.links, &mut self.guides, end);
         self.regions.drop_heap(&mut self.tiles, end);
     }
 

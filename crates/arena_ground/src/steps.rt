@@ -7,8 +7,9 @@ ghost use Rattle.chunk_tags.specs.declared.tiles.Tile.{Tile as Square};
 ghost use Rattle.chunk_tags.specs.Sizes.{IsChunkSize, bin_of as bin_index};
 ghost use Rattle.chunk_tags.specs.Tiles.{Row, is_edge, is_free as is_free_tile, is_top as is_top_tile, fused, swapped, tile_at, tile_behind};
 ghost use Rattle.part_words.specs.Extents.{IsWider};
-ghost use Rattle.bin_links.specs.Lists.{bin_count, list_at, put_front, times_listed, without};
-ghost use Rattle.large_bins.specs.SeenChunks.{large_chunks, HaveTiles};
+ghost use Rattle.bin_links.specs.Lists.{bin_count, list_at, put_front, times_in, times_listed, without};
+ghost use Rattle.large_bins.specs.Guides.{AreGuides};
+ghost use Rattle.large_bins.specs.SeenChunks.{size_at, large_chunks, HaveTiles};
 ghost use Rattle.arena_rules.specs.Moves.{tile_of};
 ghost use Rattle.heap_top.specs.Regions.{address_of};
 ghost use Rattle.arena_ground.specs.Grounds.{bins_at, tile_chunk, chunks_at, sorted_lists, lists_without};
@@ -18,6 +19,7 @@ use arena_rules::HeapEnd;
 use bin_links::LinkWords;
 use chunk_image::TileWords;
 use chunk_tags::{Addr, Chunk, NoMemory, Size, Tile, TileKind, is_small, large_index, small_index};
+use large_bins::{Guides, forget};
 use std::alloc::Global;
 
 /// The bin of unsorted chunks (glibc's `unsorted_chunks`).
@@ -75,6 +77,7 @@ pub(crate) fn oldest_in(tiles: &TileWords, links: &LinkWords, bin: u8) -> Option
 pub(crate) fn join(
     tiles: &mut TileWords,
     links: &mut LinkWords,
+    guides: &mut Guides,
     t: &Tile,
     u: &Tile,
     free: Addr,
@@ -84,6 +87,8 @@ pub(crate) fn join(
     requires chunk { is_edge t.now ≡ false }
     requires behind { tile_behind t.now.addr tiles.old.tiles ≡ Some u.now }
     requires listed { 1 ≤ times_listed free links.old.lists }
+    requires tiles { HaveTiles tiles.old.tiles links.old.lists }
+    requires guides { AreGuides (size_at tiles.old.tiles) links.old.lists guides.old }
     requires below { t.now.size + u.now.size < 2 ^ 34 }
     ensures chunk { result ≡ record { at = t.now.addr; size = t.now.size + u.now.size } }
     ensures tiles { tiles.new ≡ record tiles.old {
@@ -92,24 +97,30 @@ pub(crate) fn join(
     } }
     ensures lists { links.new.lists ≡ map (without free) links.old.lists }
     ensures extent { links.new.extent ≡ links.old.extent }
+    ensures guides { AreGuides (size_at tiles.old.tiles) links.new.lists guides.new }
 {
+    forget(links, tiles, guides, free);
     links.unlink(free);
     tiles.fuse(t, u, TileKind::Used);
     chunk_of(tiles, t.addr)
 }
 
 /// A free chunk leaves its bin and is used.
-pub(crate) fn claim(tiles: &mut TileWords, links: &mut LinkWords, c: Chunk)
+pub(crate) fn claim(tiles: &mut TileWords, links: &mut LinkWords, guides: &mut Guides, c: Chunk)
     requires row { Row tiles.old.tiles }
     requires tile { tile_at c.at tiles.old.tiles ≡ Some (tile_of TileKind.Free c.at c.size) }
     requires listed { 1 ≤ times_listed c.at links.old.lists }
+    requires tiles { HaveTiles tiles.old.tiles links.old.lists }
+    requires guides { AreGuides (size_at tiles.old.tiles) links.old.lists guides.old }
     ensures tiles { tiles.new ≡ record tiles.old {
       tiles = swapped c.at (tile_of TileKind.Used c.at c.size ∷ []) tiles.old.tiles;
     } }
     ensures lists { links.new.lists ≡ map (without c.at) links.old.lists }
     ensures extent { links.new.extent ≡ links.old.extent }
+    ensures guides { AreGuides (size_at tiles.old.tiles) links.new.lists guides.new }
 {
     let Chunk { at, size } = c;
+    forget(links, tiles, guides, at);
     links.unlink(at);
     tiles.set_kind(
         &Tile {
@@ -122,14 +133,26 @@ pub(crate) fn claim(tiles: &mut TileWords, links: &mut LinkWords, c: Chunk)
 }
 
 /// The free chunk at the end of a heap leaves its bin.
-pub(crate) fn unlink_end(links: &mut LinkWords, end: &HeapEnd)
-    requires { (u : Square) → end.now.before ≡ Some u → 1 ≤ times_listed u.addr links.old.lists }
+pub(crate) fn unlink_end(
+    tiles: &TileWords,
+    links: &mut LinkWords,
+    guides: &mut Guides,
+    end: &HeapEnd,
+)
+    requires listed { (u : Square) → end.now.before ≡ Some u
+        → 1 ≤ times_listed u.addr links.old.lists }
+    requires tiles { HaveTiles tiles.now.tiles links.old.lists }
+    requires guides { AreGuides (size_at tiles.now.tiles) links.old.lists guides.old }
     ensures lists { links.new.lists ≡ lists_without (address_of end.now.before) links.old.lists }
     ensures extent { links.new.extent ≡ links.old.extent }
+    ensures guides { AreGuides (size_at tiles.now.tiles) links.new.lists guides.new }
 {
     match end.before {
         None => (),
-        Some(chunk) => links.unlink(chunk.addr),
+        Some(chunk) => {
+            forget(links, tiles, guides, chunk.addr);
+            links.unlink(chunk.addr);
+        }
     }
 }
 
@@ -174,38 +197,42 @@ pub(crate) fn part(tiles: &mut TileWords, c: Chunk, nb: Size) -> Chunk
 }
 
 /// A free chunk leaves its bin and goes to that of its size (as the scan of glibc's `_int_malloc` does).
-pub(crate) fn sort_in(tiles: &TileWords, links: &mut LinkWords, c: Chunk)
+pub(crate) fn sort_in(tiles: &TileWords, links: &mut LinkWords, guides: &mut Guides, c: Chunk)
     requires row { Row tiles.now.tiles }
     requires tile { tile_at c.at tiles.now.tiles ≡ Some (tile_of TileKind.Free c.at c.size) }
     requires covers { IsWider tiles.now.extent links.old.extent }
     requires high { bin_count ≤ c.at }
-    requires listed { 1 ≤ times_listed c.at links.old.lists }
+    requires unsorted { 1 ≤ times_in c.at (list_at 1 links.old.lists) }
     requires tiles { HaveTiles tiles.now.tiles links.old.lists }
+    requires guides { AreGuides (size_at tiles.now.tiles) links.old.lists guides.old }
     requires falling { 1024 ≤ c.size → IsFalling
         (large_chunks tiles.now.tiles c.size (map (without c.at) links.old.lists)) }
     ensures lists { links.new.lists ≡ sorted_lists tiles.now.tiles c links.old.lists }
     ensures extent { links.new.extent ≡ links.old.extent }
+    ensures guides { AreGuides (size_at tiles.now.tiles) links.new.lists guides.new }
 {
+    links.laws();
     let t = tiles.tile(c.at);
     links.unlink(t.addr);
     if is_small(t.size) {
         links.push_front(small_index(t.size), t.addr);
     } else {
-        large_bins::insert(links, tiles, t.addr, t.size);
+        large_bins::insert(links, tiles, guides, t.addr, t.size);
     }
 }
 
 /// The smallest chunk of the large bin for a size that fits; of several equals the second.
-pub(crate) fn best(tiles: &TileWords, links: &LinkWords, nb: Size) -> Option<Chunk>
+pub(crate) fn best(tiles: &TileWords, links: &LinkWords, guides: &Guides, nb: Size) -> Option<Chunk>
     requires large { 1024 ≤ nb }
     requires tiles { HaveTiles tiles.now.tiles links.now.lists }
     requires falling { IsFalling (large_chunks tiles.now.tiles nb links.now.lists) }
+    requires guides { AreGuides (size_at tiles.now.tiles) links.now.lists guides.now }
     requires free { (c : Piece) →
         best_of nb (large_chunks tiles.now.tiles nb links.now.lists) ≡ Some c
         → tile_at c.at tiles.now.tiles ≡ Some (tile_of TileKind.Free c.at c.size) }
     ensures { result ≡ best_of nb (large_chunks tiles.now.tiles nb links.now.lists) }
 {
-    match large_bins::best(links, tiles, nb) {
+    match large_bins::best(links, tiles, guides, nb) {
         None => None,
         Some(at) => Some(chunk_of(tiles, at)),
     }

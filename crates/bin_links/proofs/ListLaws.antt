@@ -146,7 +146,7 @@ bin_of_listed n (xs ∷ lists) h = elim (cases_lt 0 (times_in n xs)) [
 -- Where a chunk stands once, what its own list becomes.
 
 -- a chunk of one list stands in no other
-elsewhere : (n bin k : ℕ) (lists : List (List ℕ)) → bin < length lists → k ≢ bin → times_listed n lists ≤ 1 → 1 ≤ times_in n (list_at bin lists) → times_in n (list_at k lists) ≡ 0
+pub elsewhere : (n bin k : ℕ) (lists : List (List ℕ)) → bin < length lists → k ≢ bin → times_listed n lists ≤ 1 → 1 ≤ times_in n (list_at bin lists) → times_in n (list_at k lists) ≡ 0
 elsewhere n bin k lists h ne once some =
     let rest = within n k (set lists bin []) in
     omega (arith, once, some, rest, sum_by-set (times_in n) lists bin [] [] h, ap (times_in n) (get_or-set_other lists bin k [] [] ne))

@@ -5,11 +5,11 @@ use Rattle.std.proofs.lemmas.Bool.{le-leb, lt-leb, eq-eqb, ne_eqb}
 use Rattle.std.proofs.lemmas.Bool.Decides.{eqb_tells}
 use Rattle.std.proofs.lemmas.List.{append-nil, append_assoc}
 use Rattle.chunk_tags.specs.declared.tiles.Chunk.{Chunk}
-use Rattle.bin_links.specs.Lists.{last_of}
+use Rattle.bin_links.specs.Lists.{first_of, last_of}
 use Rattle.chunk_tags.specs.BinOrder.{IsFalling, smallest_fit, of_size, second_of, best_of, second_of_size}
 use Rattle.large_bins.specs.SeenChunks.{chunks_by}
-use Rattle.large_bins.specs.Places.{AllAbove, AllBelow, FitsLast}
-use Rattle.large_bins.proofs.Insertion.{ends_in, At}
+use Rattle.large_bins.specs.Places.{AllAbove, AllBelow, BeginsPast, EndsBelow, FitsLast}
+use Rattle.large_bins.proofs.Insertion.{ends_in, last_of_push, no_last, At}
 
 -- Which size is the smallest that fits.
 
@@ -69,92 +69,78 @@ same_past f s (x ∷ front) xs h =
     let no : eqb (f x) s ≡ false = ne_eqb (f x) s (λ e. absurd (omega (arith, e, h.0))) in
     rw no (same_past f s front xs h.1)
 
--- A walk from the back: over chunks that are too small, and before `next`.
-pub record Backs (f : ℕ → ℕ) (nb : ℕ) (xs : List ℕ) (next : Option ℕ) : Type 0 where
-  pub front : List ℕ
-  pub rest : List ℕ
-  pub split : xs ≡ front ++ rest
-  pub below : AllBelow f nb rest
-  pub last : last_of front ≡ next
+-- A walk from the back: over chunks that are too small.
 
-pub back_start : (f : ℕ → ℕ) (nb : ℕ) (xs : List ℕ) (next : Option ℕ) → last_of xs ≡ next → Backs f nb xs next
+pub back_start : (f : ℕ → ℕ) (nb : ℕ) (xs : List ℕ) (next : Option ℕ) → last_of xs ≡ next → EndsBelow f nb xs next
 back_start f nb xs next e = record { front = xs; rest = []; split = sym (append-nil xs); below = tt; last = e }
 
-pub back_at : {f : ℕ → ℕ} {nb : ℕ} {xs : List ℕ} {n : ℕ} → (w : Backs f nb xs (Some n)) → At xs n (ends_in w.front n w.last).front w.rest
+pub back_at : {f : ℕ → ℕ} {nb : ℕ} {xs : List ℕ} {n : ℕ} → (w : EndsBelow f nb xs (Some n)) → At xs n (ends_in w.front n w.last).front w.rest
 back_at {n = n} w =
     let e = ends_in w.front n w.last in
     record { split = w.split ∙ (ap (λ (ys : List ℕ). ys ++ w.rest) e.is ∙ append_assoc e.front (n ∷ []) w.rest) }
 
-pub back_on : {f : ℕ → ℕ} {nb : ℕ} {xs : List ℕ} {next : Option ℕ} {n : ℕ} → (w : Backs f nb xs (Some n)) → f n < nb → last_of (ends_in w.front n w.last).front ≡ next → Backs f nb xs next
+pub back_on : {f : ℕ → ℕ} {nb : ℕ} {xs : List ℕ} {next : Option ℕ} {n : ℕ} → (w : EndsBelow f nb xs (Some n)) → f n < nb → last_of (ends_in w.front n w.last).front ≡ next → EndsBelow f nb xs next
 back_on {n = n} w lt e = record { front = (ends_in w.front n w.last).front; rest = n ∷ w.rest; split = (back_at w).split; below = (lt, w.below); last = e }
 
-pub back_fits : {f : ℕ → ℕ} {nb : ℕ} {xs : List ℕ} {n : ℕ} → (w : Backs f nb xs (Some n)) → nb ≤ f n → FitsLast f nb xs n
+pub back_fits : {f : ℕ → ℕ} {nb : ℕ} {xs : List ℕ} {n : ℕ} → (w : EndsBelow f nb xs (Some n)) → nb ≤ f n → FitsLast f nb xs n
 back_fits {n = n} w le = record { front = (ends_in w.front n w.last).front; back = w.rest; split = (back_at w).split; fits = le; below = w.below }
 
-no_last : (xs : List ℕ) → last_of xs ≡ None → xs ≡ []
-no_last [] e = refl
-no_last (x ∷ []) e = absurd cc
-no_last (x ∷ y ∷ ys) e = let later : y ∷ ys ≡ [] = no_last (y ∷ ys) e in absurd cc
-
-pub back_none : {f : ℕ → ℕ} {nb : ℕ} {xs : List ℕ} → Backs f nb xs None → AllBelow f nb xs
+pub back_none : {f : ℕ → ℕ} {nb : ℕ} {xs : List ℕ} → EndsBelow f nb xs None → AllBelow f nb xs
 back_none {f} {nb} {xs} w = subst (AllBelow f nb) (sym (w.split ∙ ap (λ (ys : List ℕ). ys ++ w.rest) (no_last w.front w.last))) w.below
 
--- A walk on over equals, of which `first` is the first yet seen, and `second` the second, if there are two.
-pub record Climbs (f : ℕ → ℕ) (s : ℕ) (xs : List ℕ) (first second : ℕ) : Type 0 where
-  pub front : List ℕ
-  pub rest : List ℕ
-  pub split : xs ≡ front ++ first ∷ rest
-  pub size : f first ≡ s
-  pub second_is : Some second ≡ second_of (first ∷ same f s rest)
+-- Behind a chunk that is smaller all are.
+pub all_below : (f : ℕ → ℕ) (nb x : ℕ) (xs : List ℕ) → IsFalling (chunks_by f (x ∷ xs)) → f x < nb → AllBelow f nb (x ∷ xs)
+all_below f nb x [] falls lt = (lt, tt)
+all_below f nb x (y ∷ ys) falls lt = (lt, all_below f nb y ys falls.1 (omega (arith, lt, falls.0)))
 
-pub climb_start : {f : ℕ → ℕ} {nb : ℕ} {xs : List ℕ} {n : ℕ} → FitsLast f nb xs n → (s : ℕ) → f n ≡ s → Climbs f s xs n n
-climb_start {f} {nb} {xs} {n} h s e = record {
-  front = h.front;
-  rest = h.back;
-  split = h.split;
-  size = e;
-  second_is = sym (ap (λ (ys : List ℕ). second_of (n ∷ ys)) (same_none_below f nb s h.back (omega (arith, e, h.fits)) h.below));
-}
+pub falling_from : (f : ℕ → ℕ) (front xs : List ℕ) → IsFalling (chunks_by f (front ++ xs)) → IsFalling (chunks_by f xs)
+falling_from f [] xs falls = falls
+falling_from f (x ∷ front) xs falls = falling_from f front xs (falling_rest f x (front ++ xs) falls)
 
-pub climb_at : {f : ℕ → ℕ} {s : ℕ} {xs : List ℕ} {first second n : ℕ} → (c : Climbs f s xs first second) → (last : last_of c.front ≡ Some n) → At xs n (ends_in c.front n last).front (first ∷ c.rest)
-climb_at {first = first} {n = n} c last =
-    let b = ends_in c.front n last in
-    record { split = c.split ∙ (ap (λ (ys : List ℕ). ys ++ first ∷ c.rest) b.is ∙ append_assoc b.front (n ∷ []) (first ∷ c.rest)) }
-
-pub climb_on : {f : ℕ → ℕ} {s : ℕ} {xs : List ℕ} {first second n : ℕ} → (c : Climbs f s xs first second) → last_of c.front ≡ Some n → f n ≡ s → Climbs f s xs n first
-climb_on {f} {s} {xs} {first} {second} {n} c last e =
-    let b = ends_in c.front n last in
-    let hit : eqb (f first) s ≡ true = eq-eqb (f first) s c.size in
+-- a walk that begins at a chunk that is too small
+pub back_behind : (f : ℕ → ℕ) (nb : ℕ) (xs front back : List ℕ) (at : ℕ) → IsFalling (chunks_by f xs) → xs ≡ front ++ at ∷ back → f at < nb → EndsBelow f nb xs (Some at)
+back_behind f nb xs front back at falls split lt =
+    let below = all_below f nb at back (falling_from f front (at ∷ back) (subst (λ (ys : List ℕ). IsFalling (chunks_by f ys)) split falls)) lt in
     record {
-      front = b.front;
-      rest = first ∷ c.rest;
-      split = c.split ∙ (ap (λ (ys : List ℕ). ys ++ first ∷ c.rest) b.is ∙ append_assoc b.front (n ∷ []) (first ∷ c.rest));
-      size = e;
-      second_is = rw hit refl;
+      front = front ++ at ∷ [];
+      rest = back;
+      split = split ∙ sym (append_assoc front (at ∷ []) back);
+      below = below.1;
+      last = last_of_push front at;
     }
 
--- what stands before the first of the equals is greater
-above_first : (f : ℕ → ℕ) (l n : ℕ) (front rest : List ℕ) → IsFalling (chunks_by f (front ++ l ∷ rest)) → last_of front ≡ Some n → f n ≢ f l → AllAbove f (f l) front
-above_first f l n [] rest falls last ne = tt
-above_first f l n (x ∷ []) rest falls last ne =
-    (let e : x ≡ n = cc in let other : f x ≢ f l = λ q. ne (ap f (sym e) ∙ q) in omega (arith, falls.0, other), tt)
-above_first f l n (x ∷ y ∷ ys) rest falls last ne =
-    let later = above_first f l n (y ∷ ys) rest falls.1 last ne in
-    (omega (arith, falls.0, later.0), later)
-
--- The second of the equals is the best fit.
-best_is : {f : ℕ → ℕ} {nb s : ℕ} {xs : List ℕ} {l first second : ℕ} → IsFalling (chunks_by f xs) → FitsLast f nb xs l → f l ≡ s → (c : Climbs f s xs first second) → AllAbove f s c.front → Some second ≡ option_map (λ (c : Chunk). c.at) (best_of nb (chunks_by f xs))
-best_is {f} {nb} {s} {xs} {l} {first} {second} falls h e c above =
+-- Behind the first of the equals its second stands, if there are two.
+best_is : {f : ℕ → ℕ} {nb s : ℕ} {xs : List ℕ} {l first second : ℕ} → IsFalling (chunks_by f xs) → FitsLast f nb xs l → f l ≡ s → (b : BeginsPast f s xs first) → f first ≡ s → Some second ≡ second_of (first ∷ same f s b.back) → Some second ≡ option_map (λ (c : Chunk). c.at) (best_of nb (chunks_by f xs))
+best_is {f} {nb} {s} {xs} {l} {first} {second} falls h e b size is =
     let cs = chunks_by f xs in
     let fit : smallest_fit nb cs ≡ Some s = ap (λ (ys : List ℕ). smallest_fit nb (chunks_by f ys)) h.split ∙ (fit_last f nb l h.front h.back (subst (λ (ys : List ℕ). IsFalling (chunks_by f ys)) h.split falls) h.fits h.below ∙ ap Some e) in
-    let hit : eqb (f first) s ≡ true = eq-eqb (f first) s c.size in
-    let equals : same f s xs ≡ first ∷ same f s c.rest = ap (same f s) c.split ∙ (same_past f s c.front (first ∷ c.rest) above ∙ rw hit refl) in
+    let hit : eqb (f first) s ≡ true = eq-eqb (f first) s size in
+    let equals : same f s xs ≡ first ∷ same f s b.back = ap (same f s) b.split ∙ (same_past f s b.front (first ∷ b.back) b.greater ∙ rw hit refl) in
     let back : option_map (λ (c : Chunk). c.at) (second_of (of_size s cs)) ≡ second_of (same f s xs) = ap (λ (ds : List Chunk). option_map (λ (c : Chunk). c.at) (second_of ds)) (of_size_is f s xs) ∙ second_is f (same f s xs) in
-    c.second_is ∙ (sym (ap second_of equals) ∙ (sym back ∙ sym (ap (λ o. option_map (λ (c : Chunk). c.at) (second_of_size o cs)) fit)))
+    is ∙ (sym (ap second_of equals) ∙ (sym back ∙ sym (ap (λ o. option_map (λ (c : Chunk). c.at) (second_of_size o cs)) fit)))
 
-pub best_before : {f : ℕ → ℕ} {nb s : ℕ} {xs : List ℕ} {l first second n : ℕ} → IsFalling (chunks_by f xs) → FitsLast f nb xs l → f l ≡ s → (c : Climbs f s xs first second) → last_of c.front ≡ Some n → f n ≢ s → Some second ≡ option_map (λ (c : Chunk). c.at) (best_of nb (chunks_by f xs))
-best_before {f} {xs = xs} {first = first} {n = n} falls h e c last ne =
-    best_is falls h e c (subst (λ m. AllAbove f m c.front) c.size (above_first f first n c.front c.rest (subst (λ (ys : List ℕ). IsFalling (chunks_by f ys)) c.split falls) last (λ q. ne (q ∙ c.size))))
+-- the first of the equals is the only one
+abbrev pub IsAlone : (ℕ → ℕ) → ℕ → Option ℕ → Type 0
+IsAlone f s None = Unit {0}
+IsAlone f s (Some next) = f next ≢ s
 
-pub best_at_front : {f : ℕ → ℕ} {nb s : ℕ} {xs : List ℕ} {l first second : ℕ} → IsFalling (chunks_by f xs) → FitsLast f nb xs l → f l ≡ s → (c : Climbs f s xs first second) → last_of c.front ≡ None → Some second ≡ option_map (λ (c : Chunk). c.at) (best_of nb (chunks_by f xs))
-best_at_front {f} {s = s} falls h e c last = best_is falls h e c (subst (AllAbove f s) (sym (no_last c.front last)) tt)
+alone_same : (f : ℕ → ℕ) (first s : ℕ) (back : List ℕ) (next : Option ℕ) → IsFalling (chunks_by f (first ∷ back)) → f first ≡ s → first_of back ≡ next → IsAlone f s next → same f s back ≡ []
+alone_same f first s [] next falls e is alone = refl
+alone_same f first s (y ∷ ys) next falls e is alone =
+    let other : f y ≢ s = subst (IsAlone f s) (sym is) alone in
+    same_none_below f s s (y ∷ ys) (omega arith) (all_below f s y ys falls.1 (omega (arith, e, other, falls.0)))
+
+pub best_alone : {f : ℕ → ℕ} {nb s : ℕ} {xs : List ℕ} {l first : ℕ} (next : Option ℕ) → IsFalling (chunks_by f xs) → FitsLast f nb xs l → f l ≡ s → (b : BeginsPast f s xs first) → f first ≡ s → first_of b.back ≡ next → IsAlone f s next → Some first ≡ option_map (λ (c : Chunk). c.at) (best_of nb (chunks_by f xs))
+best_alone {f} {s = s} {first = first} next falls h e b size is alone =
+    let from = falling_from f b.front (first ∷ b.back) (subst (λ (ys : List ℕ). IsFalling (chunks_by f ys)) b.split falls) in
+    best_is falls h e b size (ap (λ (ys : List ℕ). second_of (first ∷ ys)) (sym (alone_same f first s b.back next from size is alone)))
+
+same_second : (f : ℕ → ℕ) (first s second : ℕ) (back : List ℕ) → first_of back ≡ Some second → f second ≡ s → Some second ≡ second_of (first ∷ same f s back)
+same_second f first s second [] is e = absurd cc
+same_second f first s second (y ∷ ys) is e =
+    let here : y ≡ second = cc in
+    let hit : eqb (f y) s ≡ true = eq-eqb (f y) s (ap f here ∙ e) in
+    rw hit (ap Some (sym here))
+
+pub best_second : {f : ℕ → ℕ} {nb s : ℕ} {xs : List ℕ} {l first second : ℕ} → IsFalling (chunks_by f xs) → FitsLast f nb xs l → f l ≡ s → (b : BeginsPast f s xs first) → f first ≡ s → first_of b.back ≡ Some second → f second ≡ s → Some second ≡ option_map (λ (c : Chunk). c.at) (best_of nb (chunks_by f xs))
+best_second {f} {s = s} {first = first} {second = second} falls h e b size is equal = best_is falls h e b size (same_second f first s second b.back is equal)

@@ -1,5 +1,5 @@
 -- Where a chunk goes in a large bin, by addresses.
-use Rattle.std.proofs.Common.{◌≡◌, ℕ, ◌<◌, List, [], ◌∷◌, ◌++◌, sym, ap, ◌∙◌, subst, arith, refl, map, set, Option, Some, None}
+use Rattle.std.proofs.Common.{◌≡◌, ℕ, ◌<◌, ◌≤◌, max, List, [], ◌∷◌, ◌++◌, sym, ap, ◌∙◌, subst, arith, refl, map, set, Option, Some, None}
 use Rattle.std.proofs.lemmas.List.{append-nil, append_assoc}
 use Rattle.std.specs.Prelude.{IfNone, IfSome}
 use Rattle.chunk_tags.specs.declared.tiles.Chunk.{Chunk}
@@ -8,7 +8,7 @@ use Rattle.chunk_tags.specs.Sizes.{large_index_of}
 use Rattle.bin_links.specs.Lists.{list_at, put_front, first_of, last_of}
 use Rattle.chunk_tags.specs.BinOrder.{IsFalling, inserted}
 use Rattle.large_bins.specs.SeenChunks.{size_at, chunks_by, put_large}
-use Rattle.large_bins.specs.Places.{put_by, GoesInFront, GoesBehind, AllAbove}
+use Rattle.large_bins.specs.Places.{put_by, GoesInFront, GoesBehind, AllAbove, BeginsPast}
 use Rattle.chunk_tags.proofs.Falling.{compares, below, equal, above}
 
 -- the addresses of chunks that were seen
@@ -56,9 +56,6 @@ pub record Walks (f : ℕ → ℕ) (size : ℕ) (xs : List ℕ) (after next : Op
   pub last : last_of front ≡ after
   pub first : first_of rest ≡ next
 
-pub walk_start : (f : ℕ → ℕ) (size : ℕ) (xs : List ℕ) (next : Option ℕ) → first_of xs ≡ next → Walks f size xs None next
-walk_start f size xs next e = record { front = []; rest = xs; split = refl; greater = tt; last = refl; first = e }
-
 -- a list that has a last chunk
 pub record EndsIn (xs : List ℕ) (n : ℕ) : Type 0 where
   pub front : List ℕ
@@ -73,6 +70,11 @@ pub last_of_push : (xs : List ℕ) (n : ℕ) → last_of (xs ++ n ∷ []) ≡ So
 last_of_push [] n = refl
 last_of_push (x ∷ []) n = refl
 last_of_push (x ∷ y ∷ ys) n = last_of_push (y ∷ ys) n
+
+pub no_last : (xs : List ℕ) → last_of xs ≡ None → xs ≡ []
+no_last [] e = refl
+no_last (x ∷ []) e = absurd cc
+no_last (x ∷ y ∷ ys) e = let later : y ∷ ys ≡ [] = no_last (y ∷ ys) e in absurd cc
 
 -- a list that has a first chunk
 pub record BeginsWith (xs : List ℕ) (n : ℕ) : Type 0 where
@@ -126,12 +128,7 @@ stop_end {f} {size} w = ended w.rest w.first
     ended (x ∷ xs) e = absurd cc
 
 pub stops_front : {f : ℕ → ℕ} {size : ℕ} {xs : List ℕ} {next : Option ℕ} → (w : Walks f size xs None next) → Stops f size w.rest → GoesInFront f size xs
-stops_front {f} {size} {xs} w s = record { put = λ at. stops_at w s at ∙ (ap (λ (ys : List ℕ). ys ++ at ∷ w.rest) (none w.front w.last) ∙ ap (λ (ys : List ℕ). at ∷ ys) (sym (w.split ∙ ap (λ (ys : List ℕ). ys ++ w.rest) (none w.front w.last)))) }
-  where
-    none : (front : List ℕ) → last_of front ≡ None → front ≡ []
-    none [] e = refl
-    none (x ∷ []) e = absurd cc
-    none (x ∷ y ∷ ys) e = let later : y ∷ ys ≡ [] = none (y ∷ ys) e in absurd cc
+stops_front {f} {size} {xs} w s = record { put = λ at. stops_at w s at ∙ (ap (λ (ys : List ℕ). ys ++ at ∷ w.rest) (no_last w.front w.last) ∙ ap (λ (ys : List ℕ). at ∷ ys) (sym (w.split ∙ ap (λ (ys : List ℕ). ys ++ w.rest) (no_last w.front w.last)))) }
 
 pub stops_behind : {f : ℕ → ℕ} {size : ℕ} {xs : List ℕ} {next : Option ℕ} {n : ℕ} → (w : Walks f size xs (Some n) next) → Stops f size w.rest → GoesBehind f size xs n
 stops_behind {f} {size} {xs} {next} {n} w s =
@@ -155,7 +152,7 @@ goes_second {f} {size} {n = n} w e =
     }
 
 -- a chunk that is smaller than the last one
-all_greater : (f : ℕ → ℕ) (size : ℕ) (xs : List ℕ) (n : ℕ) → IsFalling (chunks_by f xs) → last_of xs ≡ Some n → size < f n → AllAbove f size xs
+pub all_greater : (f : ℕ → ℕ) (size : ℕ) (xs : List ℕ) (n : ℕ) → IsFalling (chunks_by f xs) → last_of xs ≡ Some n → size < f n → AllAbove f size xs
 all_greater f size [] n falls last lt = tt
 all_greater f size (x ∷ []) n falls last lt = (let e : x ≡ n = cc in subst (λ m. size < f m) (sym e) lt, tt)
 all_greater f size (x ∷ y ∷ ys) n falls last lt =
@@ -198,3 +195,50 @@ put_front_is tiles lists bin size at e g =
 pub put_behind_is : (tiles : List Tile) (lists : List (List ℕ)) (bin size at after : ℕ) → bin ≡ large_index_of size → (g : GoesBehind (size_at tiles) size (list_at bin lists) after) → set lists bin (g.front ++ after ∷ at ∷ g.back) ≡ put_large tiles (record { at = at; size = size }) lists
 put_behind_is tiles lists bin size at after e g =
     ap (set lists bin) (sym (put_by_is (size_at tiles) size at (list_at bin lists) ∙ g.put at)) ∙ ap (λ i. set lists i (map (λ (c : Chunk). c.at) (inserted (record { at = at; size = size }) (chunks_by (size_at tiles) (list_at i lists))))) e
+
+-- A walk towards the front, from one chunk to another over chunks that aren't greater than a size.
+pub record Climbs (f : ℕ → ℕ) (size : ℕ) (xs : List ℕ) (start at : ℕ) : Type 0 where
+  pub front : List ℕ
+  pub back : List ℕ
+  pub split : xs ≡ front ++ at ∷ back
+  pub least : f start ≤ f at
+  pub most : f at ≤ max size (f start)
+
+pub climb_start : (f : ℕ → ℕ) (size : ℕ) (xs front back : List ℕ) (start : ℕ) → xs ≡ front ++ start ∷ back → Climbs f size xs start start
+climb_start f size xs front back start split = record { front = front; back = back; split = split; least = omega arith; most = omega arith }
+
+-- the chunk before it, by the end of what stands before
+pub climb_at : {f : ℕ → ℕ} {size : ℕ} {xs : List ℕ} {start at before : ℕ} → (c : Climbs f size xs start at) → (last : last_of c.front ≡ Some before) → At xs before (ends_in c.front before last).front (at ∷ c.back)
+climb_at {at = at} {before = before} c last =
+    let e = ends_in c.front before last in
+    record { split = c.split ∙ (ap (λ (ys : List ℕ). ys ++ at ∷ c.back) e.is ∙ append_assoc e.front (before ∷ []) (at ∷ c.back)) }
+
+falling_two : (f : ℕ → ℕ) (before at : ℕ) (front back : List ℕ) → IsFalling (chunks_by f (front ++ before ∷ at ∷ back)) → f at ≤ f before
+falling_two f before at [] back falls = falls.0
+falling_two f before at (x ∷ []) back falls = falls.1.0
+falling_two f before at (x ∷ y ∷ ys) back falls = falling_two f before at (y ∷ ys) back falls.1
+
+pub climb_on : {f : ℕ → ℕ} {size : ℕ} {xs : List ℕ} {start at before : ℕ} → IsFalling (chunks_by f xs) → (c : Climbs f size xs start at) → last_of c.front ≡ Some before → f before ≤ size → Climbs f size xs start before
+climb_on {f} {size} {xs} {start} {at} {before} falls c last le =
+    let e = ends_in c.front before last in
+    let a = climb_at c last in
+    let up : f at ≤ f before = falling_two f before at e.front c.back (subst (λ (ys : List ℕ). IsFalling (chunks_by f ys)) a.split falls) in
+    record { front = e.front; back = at ∷ c.back; split = a.split; least = omega (arith, up, c.least); most = omega (arith, le) }
+
+falling_front : (f : ℕ → ℕ) (front rest : List ℕ) → IsFalling (chunks_by f (front ++ rest)) → IsFalling (chunks_by f front)
+falling_front f [] rest falls = tt
+falling_front f (x ∷ []) rest falls = tt
+falling_front f (x ∷ y ∷ ys) rest falls = (falls.0, falling_front f (y ∷ ys) rest falls.1)
+
+-- it ends behind a greater chunk, or at the front
+pub past_last : {f : ℕ → ℕ} {size : ℕ} {xs : List ℕ} {start at before : ℕ} → IsFalling (chunks_by f xs) → (c : Climbs f size xs start at) → last_of c.front ≡ Some before → size < f before → BeginsPast f size xs at
+past_last {f} {size} {at = at} {before = before} falls c last lt =
+    let front = falling_front f c.front (at ∷ c.back) (subst (λ (ys : List ℕ). IsFalling (chunks_by f ys)) c.split falls) in
+    record { front = c.front; back = c.back; split = c.split; greater = all_greater f size c.front before front last lt }
+
+pub past_front : {f : ℕ → ℕ} {size : ℕ} {xs : List ℕ} {start at : ℕ} → (c : Climbs f size xs start at) → last_of c.front ≡ None → BeginsPast f size xs at
+past_front {f} {size} c last = record { front = c.front; back = c.back; split = c.split; greater = subst (AllAbove f size) (sym (no_last c.front last)) tt }
+
+-- a walk to the back from there
+pub walk_past : {f : ℕ → ℕ} {size : ℕ} {xs : List ℕ} {at : ℕ} {after : Option ℕ} → (b : BeginsPast f size xs at) → last_of b.front ≡ after → Walks f size xs after (Some at)
+walk_past {at = at} b last = record { front = b.front; rest = at ∷ b.back; split = b.split; greater = b.greater; last = last; first = refl }

@@ -1,9 +1,9 @@
 -- What an insertion lists, and what a best fit is. Other crates may cite this file.
-use Rattle.std.proofs.Common.{◌≡◌, ℕ, ◌+◌, ◌<◌, ◌≤◌, List, [], ◌∷◌, cond, eqb, leb, sym, ap, ◌∙◌, subst, inl, inr, arith, refl, map, set, length, Option, Some, None}
+use Rattle.std.proofs.Common.{◌≡◌, ℕ, ◌+◌, ◌<◌, ◌≤◌, List, [], ◌∷◌, cond, eqb, leb, sym, ap, ◌∙◌, subst, inl, inr, arith, refl, map, length, Option, Some, None}
 use Rattle.std.specs.Option.{IsSome, option_map}
-use Rattle.std.proofs.lemmas.Bool.{cases_Bool, leb-true}
+use Rattle.std.proofs.lemmas.Bool.{cases_Bool, eq-eqb, leb-true}
 use Rattle.std.proofs.lemmas.Bool.Decides.{eqb_tells}
-use Rattle.std.proofs.lemmas.List.{get_or-set_same}
+use Rattle.std.proofs.lemmas.List.{get_or-set_same, get_or-set_other}
 use Rattle.std.proofs.lemmas.List.Sums.{sum_by-set}
 use Rattle.chunk_tags.specs.declared.tiles.Tile.{Tile}
 use Rattle.chunk_tags.specs.Sizes.{large_index_of}
@@ -15,6 +15,8 @@ use Rattle.chunk_tags.specs.BinOrder.{IsFalling, inserted, smallest_fit, lesser,
 use Rattle.large_bins.specs.SeenChunks.{size_at, chunks_by, large_chunks, put_large, HaveTiles}
 use Rattle.large_bins.specs.Places.{put_by}
 use Rattle.chunk_tags.proofs.Falling.{compares, below, equal, above, falling_inserted}
+use Rattle.large_bins.specs.Guides.{band_of, AreGuides, IsGuide}
+use Rattle.large_bins.proofs.GuideLaws.{guides_longer, band_bin, IsLonger}
 use Rattle.large_bins.proofs.Insertion.{put_by_is}
 use Rattle.large_bins.proofs.Fitting.{same, of_size_is, second_is}
 
@@ -35,6 +37,27 @@ put_large_listed n tiles c lists h =
     let more : times_in n put ≡ times_in n (list_at bin lists) + cond (eqb n c.at) 1 0 =
     ap (times_in n) (put_by_is (size_at tiles) c.size c.at (list_at bin lists)) ∙ put_by_times (size_at tiles) c.size c.at n (list_at bin lists) in
     omega (arith, more, sum_by-set (times_in n) lists bin put [] h)
+
+put_large_is : (tiles : List Tile) (c : Chunk) (lists : List (List ℕ)) → large_index_of c.size < length lists → list_at (large_index_of c.size) (put_large tiles c lists) ≡ put_by (size_at tiles) c.size c.at (list_at (large_index_of c.size) lists)
+put_large_is tiles c lists h =
+    let bin = large_index_of c.size in
+    let put = map (λ (x : Chunk). x.at) (inserted c (large_chunks tiles c.size lists)) in
+    get_or-set_same lists bin put [] h ∙ put_by_is (size_at tiles) c.size c.at (list_at bin lists)
+
+-- no list has a chunk less often, and the bin has the new one
+pub put_large_longer : (tiles : List Tile) (c : Chunk) (lists : List (List ℕ)) → large_index_of c.size < length lists → (bin : ℕ) → IsLonger (list_at bin lists) (list_at bin (put_large tiles c lists))
+put_large_longer tiles c lists h bin =
+    let put = map (λ (x : Chunk). x.at) (inserted c (large_chunks tiles c.size lists)) in
+    elim (eqb_tells bin (large_index_of c.size)) [
+      | inl t ↦ subst (λ i. IsLonger (list_at i lists) (list_at i (put_large tiles c lists))) (sym t.1) (record {
+        each = λ n. omega (arith, put_by_times (size_at tiles) c.size c.at n (list_at (large_index_of c.size) lists), ap (times_in n) (put_large_is tiles c lists h));
+      })
+      | inr t ↦ record { each = λ n. omega (arith, ap (times_in n) (get_or-set_other lists (large_index_of c.size) bin put [] t.1)) }
+    ]
+
+pub put_large_stands : (tiles : List Tile) (c : Chunk) (lists : List (List ℕ)) → large_index_of c.size < length lists → 1 ≤ times_in c.at (list_at (large_index_of c.size) (put_large tiles c lists))
+put_large_stands tiles c lists h =
+    omega (arith, ap (times_in c.at) (put_large_is tiles c lists h), put_by_times (size_at tiles) c.size c.at c.at (list_at (large_index_of c.size) lists), ap (λ b. cond {A = ℕ} b 1 0) (eq-eqb c.at c.at refl))
 
 -- The best fit stands in its bin, and fits.
 
@@ -107,11 +130,8 @@ put_by_chunks f c (x ∷ xs) e = elim (compares (f x) c.size) [
 -- the bin stays in order
 pub put_large_falls : (tiles : List Tile) (c : Chunk) (lists : List (List ℕ)) → size_at tiles c.at ≡ c.size → large_index_of c.size < length lists → IsFalling (large_chunks tiles c.size lists) → IsFalling (large_chunks tiles c.size (put_large tiles c lists))
 put_large_falls tiles c lists e h falls =
-    let bin = large_index_of c.size in
-    let xs = list_at bin lists in
-    let put = map (λ (x : Chunk). x.at) (inserted c (large_chunks tiles c.size lists)) in
-    let is : list_at bin (set lists bin put) ≡ put_by (size_at tiles) c.size c.at xs = get_or-set_same lists bin put [] h ∙ put_by_is (size_at tiles) c.size c.at xs in
-    subst IsFalling (sym (ap (chunks_by (size_at tiles)) is ∙ put_by_chunks (size_at tiles) c xs e)) (falling_inserted c (large_chunks tiles c.size lists) falls)
+    let xs = list_at (large_index_of c.size) lists in
+    subst IsFalling (sym (ap (chunks_by (size_at tiles)) (put_large_is tiles c lists h) ∙ put_by_chunks (size_at tiles) c xs e)) (falling_inserted c (large_chunks tiles c.size lists) falls)
 
 -- each listed chunk has a tile still, and where none is listed each has
 pub put_large_tiles : (tiles : List Tile) (c : Chunk) (lists : List (List ℕ)) → large_index_of c.size < length lists → IsSome (tile_at c.at tiles) → HaveTiles tiles lists → HaveTiles tiles (put_large tiles c lists)
@@ -124,3 +144,15 @@ put_large_tiles tiles c lists h stands have = record {
 
 pub no_tiles_needed : (tiles : List Tile) → HaveTiles tiles empty_lists
 no_tiles_needed tiles = record { each = λ n some. absurd (omega (arith, some, none_listed n)) }
+
+-- Guides after an insertion: as they were, or with the new chunk as that of its band.
+
+pub put_large_guides : (tiles : List Tile) (c : Chunk) (lists : List (List ℕ)) {gs : List ℕ} → large_index_of c.size < length lists → AreGuides (size_at tiles) lists gs → AreGuides (size_at tiles) (put_large tiles c lists) gs
+put_large_guides tiles c lists h g = guides_longer g (put_large_longer tiles c lists h)
+
+pub put_large_guide : (tiles : List Tile) (c : Chunk) (lists : List (List ℕ)) → large_index_of c.size < length lists → 1024 ≤ c.size → size_at tiles c.at ≡ c.size → IsGuide (size_at tiles) (put_large tiles c lists) (band_of c.size) c.at
+put_large_guide tiles c lists h large e = record {
+  listed = omega (arith, put_large_stands tiles c lists h, ap (λ i. times_in c.at (list_at i (put_large tiles c lists))) (band_bin c.size large));
+  large = omega (arith, large, e);
+  within = ap band_of e;
+}

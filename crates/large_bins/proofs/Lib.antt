@@ -1,4 +1,5 @@
 mod Fitting
+pub mod GuideLaws
 mod Insertion
 pub mod LargeLaws
 mod Turns

@@ -60,7 +60,7 @@ pub once_in : (lists : List (List ℕ)) (bin : ℕ) → ((n : ℕ) → times_lis
 once_in lists bin once = record { each = λ n. omega (arith, once n, within n bin lists) }
 
 -- a large bin is one of the bins
-large_below : (s : ℕ) → large_index_of s < bin_count
+pub large_below : (s : ℕ) → large_index_of s < bin_count
 large_below s = grind (arith, nat_tests)
 
 pub bin_below : {bin : ℕ} (s : ℕ) → bin ≡ large_index_of s → bin < bin_count

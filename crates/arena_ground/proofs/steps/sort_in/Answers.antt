@@ -1,7 +1,10 @@
-use Rattle.std.proofs.Common.{◌≡◌, sym, subst, arith}
+use Rattle.std.proofs.Common.{◌≡◌, ◌<◌, ◌≤◌, ap, sym, ◌∙◌, subst, arith, ltb-true}
 use Rattle.part_words.proofs.Opening.{IsOpen-covers}
 use Rattle.part_words.specs.Extents.{IsOpen}
-use Rattle.bin_links.proofs.ListLaws.{unlinked_itself}
+use Rattle.std.proofs.lemmas.List.{length-map}
+use Rattle.bin_links.specs.Lists.{list_at, times_in, times_listed, without}
+use Rattle.bin_links.proofs.ListLaws.{unlinked_itself, within}
+use Rattle.large_bins.proofs.GuideLaws.{guides_fronted, guides_without, none_unsorted}
 use Rattle.arena_rules.proofs.Changes.{tile_is}
 use Rattle.arena_rules.proofs.Rows.{addr_at}
 use Rattle.arena_ground.proofs.Bridges.{open_here}
@@ -33,3 +36,26 @@ push_front-requires-clause-used c =
     let tile = tile_is _ _ c.requires.row c.requires.tile in
     let same : c.tile-t.result.size ≡ c.args.c.size = cc in
     omega (arith, tile.size.0, same, c.small_index.ensures)
+
+pub unlink-requires : goal.unlink-requires
+unlink-requires c =
+    let here = addr_at c.args.c.at c.tile-t.result c.args.tiles.now.tiles c.tile-t.ensures.tile in
+    omega (arith, c.requires.unsorted, within c.args.c.at 1 c.args.links.now.lists, ap (λ n. times_listed n c.args.links.now.lists) here)
+
+pub insert-requires-clause-guides : goal.insert-requires-clause-guides
+insert-requires-clause-guides c =
+    let at = c.tile-t.result.addr in
+    let lists = c.args.links.now.lists in
+    let here = addr_at c.args.c.at c.tile-t.result c.args.tiles.now.tiles c.tile-t.ensures.tile in
+    let stands : 1 ≤ times_in at (list_at 1 lists) = omega (arith, c.requires.unsorted, ap (λ n. times_in n (list_at 1 lists)) here) in
+    rw c.unlink.ensures.lists (guides_without at c.requires.guides (none_unsorted at c.requires.guides c.laws.ensures.width (c.laws.ensures.once at) stands))
+
+pub returns-then-is_small-clause-guides : goal.returns-then-is_small-clause-guides
+returns-then-is_small-clause-guides c =
+    let at = c.tile-t.result.addr in
+    let lists = c.args.links.now.lists in
+    let here = addr_at c.args.c.at c.tile-t.result c.args.tiles.now.tiles c.tile-t.ensures.tile in
+    let stands : 1 ≤ times_in at (list_at 1 lists) = omega (arith, c.requires.unsorted, ap (λ n. times_in n (list_at 1 lists)) here) in
+    let rest = guides_without at c.requires.guides (none_unsorted at c.requires.guides c.laws.ensures.width (c.laws.ensures.once at) stands) in
+    let small : c.tile-t.result.size < 1024 = ltb-true c.tile-t.result.size 1024 (sym c.is_small.ensures ∙ c.if-is_small.true) in
+    rw (c.push_front.ensures.lists, c.unlink.ensures.lists) (guides_fronted c.small_index.result at rest (omega (arith, small, c.small_index.ensures, length-map lists (without at), c.laws.ensures.width)))

@@ -1,6 +1,9 @@
 use Rattle.std.proofs.Common.{◌≡◌, arith}
 use Rattle.bin_links.specs.Lists.{empty_lists, times_listed}
 use Rattle.bin_links.proofs.ListLaws.{none_listed}
+use Rattle.large_bins.specs.Guides.{band_count}
+use Rattle.large_bins.specs.SeenChunks.{size_at}
+use Rattle.large_bins.proofs.GuideLaws.{no_guides}
 use Rattle.large_bins.proofs.LargeLaws.{no_tiles_needed}
 use Rattle.chunk_tests.proofs.large_tests.equals_and_others_in_order.Goals as goal
 
@@ -33,3 +36,6 @@ pub put-requires-5-clause-unlisted : goal.put-requires-5-clause-unlisted
 put-requires-5-clause-unlisted g c =
     let none : times_listed 12176 c.in_ok-links.links.lists ≡ 0 = rw c.in_ok-links.ensures.lists (none_listed 12176) in
     omega (arith, none, c.put.ensures.listed 12176, c.put-2.ensures.listed 12176, c.put-3.ensures.listed 12176, c.put-4.ensures.listed 12176)
+
+pub put-requires-clause-guides : goal.put-requires-clause-guides
+put-requires-clause-guides g c = rw c.in_ok-guides.ensures (no_guides (size_at c.in_ok-tiles.tiles.tiles) c.in_ok-links.links.lists band_count)

@@ -2,13 +2,14 @@ use Rattle.std.proofs.Common.{◌<◌, ◌≤◌, Some, subst, sym, arith}
 use Rattle.bin_links.specs.Lists.{list_at, times_listed}
 use Rattle.bin_links.proofs.ListLaws.{listed_in}
 use Rattle.large_bins.specs.SeenChunks.{size_at}
-use Rattle.large_bins.proofs.Fitting.{Backs, back_at, back_on, back_fits, back_none}
+use Rattle.large_bins.specs.Places.{EndsBelow}
+use Rattle.large_bins.proofs.Fitting.{back_at, back_on, back_fits, back_none}
 use Rattle.large_bins.proofs.Turns.{turns_back, fewer_back, once_in}
 use Rattle.large_bins.proofs.bins.last_fitting.Goals as goal
 use Rattle.large_bins.proofs.bins.last_fitting.Goals.{In-Some}
 
-walk : (c : In-Some) → Backs (size_at c.args.tiles.now.tiles) c.args.nb (list_at c.args.bin c.args.links.now.lists) (Some c.in-Some.at)
-walk c = subst (Backs (size_at c.args.tiles.now.tiles) c.args.nb (list_at c.args.bin c.args.links.now.lists)) c.in-Some.is c.loop-next.invariant
+walk : (c : In-Some) → EndsBelow (size_at c.args.tiles.now.tiles) c.args.nb (list_at c.args.bin c.args.links.now.lists) (Some c.in-Some.at)
+walk c = subst (EndsBelow (size_at c.args.tiles.now.tiles) c.args.nb (list_at c.args.bin c.args.links.now.lists)) c.in-Some.is c.loop-next.invariant
 
 listed : (c : In-Some) → 1 ≤ times_listed c.in-Some.at c.args.links.now.lists
 listed c = listed_in c.in-Some.at c.args.bin c.args.links.now.lists _ _ (back_at (walk c)).split
@@ -37,4 +38,4 @@ loop-next-preserved c =
 
 pub returns-clause-none : goal.returns-clause-none
 returns-clause-none c =
-    back_none (subst (Backs (size_at c.args.tiles.now.tiles) c.args.nb (list_at c.args.bin c.args.links.now.lists)) c.in_default.is c.loop-next.invariant)
+    back_none (subst (EndsBelow (size_at c.args.tiles.now.tiles) c.args.nb (list_at c.args.bin c.args.links.now.lists)) c.in_default.is c.loop-next.invariant)

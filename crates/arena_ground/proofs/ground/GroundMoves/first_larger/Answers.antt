@@ -7,7 +7,7 @@ use Rattle.arena_ground.proofs.Sorting.{have_tiles}
 use Rattle.arena_ground.proofs.ground.GroundMoves.first_larger.Goals as goal
 
 pub first_oldest_from-requires-clause-tiles : goal.first_oldest_from-requires-clause-tiles
-first_oldest_from-requires-clause-tiles c = have_tiles _ _ _ _ (held _ _ _ _ _ c.self.invariant c.self.view_is c.requires.sound)
+first_oldest_from-requires-clause-tiles c = have_tiles _ _ _ _ (held _ _ _ _ _ c.self.invariant.ground c.self.view_is c.requires.sound)
 
 pub returns-clause-chunk : goal.returns-clause-chunk
 returns-clause-chunk c =

@@ -2,34 +2,37 @@ use Rattle.std.proofs.Common.{◌≡◌, sym, ap, ◌∙◌, subst}
 use Rattle.arena_rules.specs.Moves.{hand, joined_behind, is_free_tile}
 use Rattle.arena_ground.specs.Grounds.{GroundView, arena_with}
 use Rattle.heap_top.proofs.TopLaws.{pair_below}
+use Rattle.arena_ground.proofs.Guiding.{by_address, by_chunk, still}
 use Rattle.arena_ground.proofs.Keeping.{ground_below, held}
+use Rattle.arena_ground.proofs.Sorting.{have_tiles}
 use Rattle.arena_ground.proofs.Moving.{own_tile}
 use Rattle.arena_ground.proofs.Joining.{pair_behind, join_behind_done, behind_not}
 use Rattle.arena_ground.proofs.ground.GroundMoves.join_behind.Goals as goal
 
 pub behind-u-requires-clause-tile : goal.behind-u-requires-clause-tile
 behind-u-requires-clause-tile c =
-    let g = held _ _ _ _ _ c.self.invariant c.self.view_is c.requires.sound in
+    let g = held _ _ _ _ _ c.self.invariant.ground c.self.view_is c.requires.sound in
     own_tile _ _ _ _ c.args.c g (rw (← c.self.view_is) at c.requires.own)
 
 pub join-requires-clause-tile : goal.join-requires-clause-tile
 join-requires-clause-tile c =
-    let g = held _ _ _ _ _ c.self.invariant c.self.view_is c.requires.sound in
+    let g = held _ _ _ _ _ c.self.invariant.ground c.self.view_is c.requires.sound in
     own_tile _ _ _ _ c.args.c g (rw (← c.self.view_is) at c.requires.own)
 
 pub join-requires-clause-listed : goal.join-requires-clause-listed
 join-requires-clause-listed c =
-    let g = held _ _ _ _ _ c.self.invariant c.self.view_is c.requires.sound in
+    let g = held _ _ _ _ _ c.self.invariant.ground c.self.view_is c.requires.sound in
     (pair_behind _ _ _ _ c.args.c _ g (rw (← c.self.view_is) at c.requires.own) c.behind-u.ensures (sym c.is_free.ensures ∙ c.if-is_free.true)).linked
 
 pub invariant_of-self : goal.invariant_of-self
 invariant_of-self c =
-    let g = held _ _ _ _ _ c.self.invariant c.self.view_is c.requires.sound in
-    rw c.join.ensures.tiles (join_behind_done _ _ _ _ _ c.args.c _ g (rw (← c.self.view_is) at c.requires.own) c.behind-u.ensures (sym c.is_free.ensures ∙ c.if-is_free.true) c.join.ensures.lists c.join.ensures.extent).done.kept
+    let g = held _ _ _ _ _ c.self.invariant.ground c.self.view_is c.requires.sound in
+    let j = join_behind_done _ _ _ _ _ c.args.c _ g (rw (← c.self.view_is) at c.requires.own) c.behind-u.ensures (sym c.is_free.ensures ∙ c.if-is_free.true) c.join.ensures.lists c.join.ensures.extent in
+    rw c.join.ensures.tiles (still j.done j.bins (by_chunk _ _ _ c.join.ensures.guides))
 
 pub returns-then-is_free : goal.returns-then-is_free
 returns-then-is_free c =
-    let g = held _ _ _ _ _ c.self.invariant c.self.view_is c.requires.sound in
+    let g = held _ _ _ _ _ c.self.invariant.ground c.self.view_is c.requires.sound in
     rw (c.join.ensures.tiles, c.join.ensures.chunk) (join_behind_done _ _ _ _ _ c.args.c _ g (rw (← c.self.view_is) at c.requires.own) c.behind-u.ensures (sym c.is_free.ensures ∙ c.if-is_free.true) c.join.ensures.lists c.join.ensures.extent).is
     ∙ ap (λ (v : GroundView). joined_behind (hand c.args.c v.arena)) c.self.view_is
 
@@ -41,5 +44,11 @@ returns-else-is_free c =
 
 pub join-requires-clause-below : goal.join-requires-clause-below
 join-requires-clause-below c =
-    let g = held _ _ _ _ _ c.self.invariant c.self.view_is c.requires.sound in
-    pair_below c.self.inside.tiles.tiles _ _ c.args.c.at (ground_below _ _ _ _ c.self.invariant) (own_tile _ _ _ _ c.args.c g (rw (← c.self.view_is) at c.requires.own)) c.behind-u.ensures
+    let g = held _ _ _ _ _ c.self.invariant.ground c.self.view_is c.requires.sound in
+    pair_below c.self.inside.tiles.tiles _ _ c.args.c.at (ground_below _ _ _ _ c.self.invariant.ground) (own_tile _ _ _ _ c.args.c g (rw (← c.self.view_is) at c.requires.own)) c.behind-u.ensures
+
+pub join-requires-clause-tiles : goal.join-requires-clause-tiles
+join-requires-clause-tiles c = have_tiles _ _ _ _ (held _ _ _ _ _ c.self.invariant.ground c.self.view_is c.requires.sound)
+
+pub join-requires-clause-guides : goal.join-requires-clause-guides
+join-requires-clause-guides c = by_address c.self.inside.tiles.tiles c.self.inside.links.lists c.self.inside.guides c.self.invariant.guides

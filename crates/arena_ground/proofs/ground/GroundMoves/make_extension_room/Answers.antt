@@ -12,18 +12,18 @@ open_words-requires-clause-within c =
     let a = arena_with c.self.inside.regions c.self.inside.tiles c.self.inside.links c.self.inside.last in
     let closed = c.self.inside.regions.closed.items in
     let other = rw (← c.self.view_is) at c.requires.other in
-    let placed = c.self.invariant.placed.other other in
+    let placed = c.self.invariant.ground.placed.other other in
     let start : c.heap_start.result ≡ heap_start a (length closed) = c.heap_start.ensures ∙ ap (heap_start a) (c.from-heap.ensures ∙ c.last_heap.ensures) in
     let size : c.last_length.result ≡ last_length a = c.last_length.ensures in
     subst (λ (v : GroundView). IsWithinPart v.extent (c.heap_start.result + c.last_length.result) c.args.growth) c.self.view_is
     (subst (λ at. IsWithinPart c.self.inside.tiles.extent at c.args.growth) (λ i. sym start i + sym size i)
-    (heap_within _ _ _ _ (length closed) (last_length a) c.args.growth c.self.invariant other placed.last.whole c.requires.pages c.requires.some (subst (λ (v : GroundView). last_length v.arena + c.args.growth ≤ v.arena.windows.heap_max) (sym c.self.view_is) c.requires.window)))
+    (heap_within _ _ _ _ (length closed) (last_length a) c.args.growth c.self.invariant.ground other placed.last.whole c.requires.pages c.requires.some (subst (λ (v : GroundView). last_length v.arena + c.args.growth ≤ v.arena.windows.heap_max) (sym c.self.view_is) c.requires.window)))
 
 pub returns-clause-room : goal.returns-clause-room
 returns-clause-room c =
     let a = arena_with c.self.inside.regions c.self.inside.tiles c.self.inside.links c.self.inside.last in
     let closed = c.self.inside.regions.closed.items in
-    let placed = c.self.invariant.placed.other (rw (← c.self.view_is) at c.requires.other) in
+    let placed = c.self.invariant.ground.placed.other (rw (← c.self.view_is) at c.requires.other) in
     let start : c.heap_start.result ≡ heap_start a (length closed) = c.heap_start.ensures ∙ ap (heap_start a) (c.from-heap.ensures ∙ c.last_heap.ensures) in
     let size : c.last_length.result ≡ last_length a = c.last_length.ensures in
     let at : c.heap_start.result + c.last_length.result ≡ top_end c.args.self.now.arena = (λ i. start i + size i) ∙ (extension_at a closed placed ∙ ap (λ (v : GroundView). top_end v.arena) c.self.view_is) in
@@ -33,7 +33,7 @@ pub returns-clause-full : goal.returns-clause-full
 returns-clause-full c =
     let a = arena_with c.self.inside.regions c.self.inside.tiles c.self.inside.links c.self.inside.last in
     let closed = c.self.inside.regions.closed.items in
-    let placed = c.self.invariant.placed.other (rw (← c.self.view_is) at c.requires.other) in
+    let placed = c.self.invariant.ground.placed.other (rw (← c.self.view_is) at c.requires.other) in
     let start : c.heap_start.result ≡ heap_start a (length closed) = c.heap_start.ensures ∙ ap (heap_start a) (c.from-heap.ensures ∙ c.last_heap.ensures) in
     let size : c.last_length.result ≡ last_length a = c.last_length.ensures in
     let at : c.heap_start.result + c.last_length.result ≡ top_end c.args.self.now.arena = (λ i. start i + size i) ∙ (extension_at a closed placed ∙ ap (λ (v : GroundView). top_end v.arena) c.self.view_is) in

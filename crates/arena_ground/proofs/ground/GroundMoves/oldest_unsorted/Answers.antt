@@ -8,7 +8,7 @@ use Rattle.arena_ground.proofs.Sorting.{have_tiles}
 use Rattle.arena_ground.proofs.ground.GroundMoves.oldest_unsorted.Goals as goal
 
 pub oldest_in-requires-clause-tiles : goal.oldest_in-requires-clause-tiles
-oldest_in-requires-clause-tiles c = have_tiles _ _ _ _ (held _ _ _ _ _ c.self.invariant c.self.view_is c.requires)
+oldest_in-requires-clause-tiles c = have_tiles _ _ _ _ (held _ _ _ _ _ c.self.invariant.ground c.self.view_is c.requires)
 
 pub returns : goal.returns
 returns c =

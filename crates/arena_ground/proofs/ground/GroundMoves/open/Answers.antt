@@ -4,6 +4,9 @@ use Rattle.chunk_image.specs.Rows.{TileRow, no_tiles}
 use Rattle.arena_rules.specs.PlainArena.{Plain, HeapWindows, empty_bins}
 use Rattle.arena_rules.specs.Heaps.{heap_start, opened_arena, unopened}
 use Rattle.heap_top.specs.Regions.{arena_of, bare_arena}
+use Rattle.large_bins.specs.Guides.{band_count}
+use Rattle.arena_ground.specs.Grounds.{HaveGuides}
+use Rattle.arena_ground.proofs.Guiding.{unguided}
 use Rattle.arena_ground.proofs.Heaping.{first_words, opened_done, opened_is_sound, IsOpened}
 use Rattle.arena_ground.proofs.ground.GroundMoves.open.Goals as goal
 
@@ -37,7 +40,7 @@ invariant_of-result c =
       tiles = c.open_heap.ensures.extent ∙ words;
       links = c.in_ok-open.ensures.extent ∙ ap (λ e. extended e c.heap_start-start.result c.args.len) c.in_ok-links.ensures.extent;
     } in
-    (opened_done _ _ _ _ _ _ _ o).kept
+    record { ground = (opened_done _ _ _ _ _ _ _ o).kept; guides = subst (HaveGuides _) (sym c.in_ok-guides.ensures) (unguided _ band_count) }
 
 pub returns-clause-arena : goal.returns-clause-arena
 returns-clause-arena c =

@@ -2,49 +2,51 @@ use Rattle.std.proofs.Common.{ap, ◌∙◌, arith}
 use Rattle.arena_rules.specs.Search.{sorted_in}
 use Rattle.arena_rules.proofs.ChunkMoves.{listed_tile}
 use Rattle.arena_ground.specs.Grounds.{GroundView, arena_with}
-use Rattle.arena_ground.proofs.Bridges.{listed_times}
-use Rattle.arena_ground.proofs.Keeping.{held, high_tile, lists_of}
+use Rattle.arena_ground.proofs.Guiding.{by_address, by_chunk, unsorted_stands}
+use Rattle.arena_ground.proofs.Keeping.{held, high_tile}
 use Rattle.arena_ground.proofs.Sorting.{have_tiles, falling_rest, unsorted_listed, sort_done}
 use Rattle.arena_ground.proofs.ground.GroundMoves.sort_in.Goals as goal
 
 pub sort_in-requires-clause-tile : goal.sort_in-requires-clause-tile
 sort_in-requires-clause-tile c =
     let a = arena_with c.self.inside.regions c.self.inside.tiles c.self.inside.links c.self.inside.last in
-    let g = held _ _ _ _ _ c.self.invariant c.self.view_is c.requires.sound in
+    let g = held _ _ _ _ _ c.self.invariant.ground c.self.view_is c.requires.sound in
     listed_tile a c.args.c g.sound (unsorted_listed a c.args.c (rw (← c.self.view_is) at c.requires.unsorted))
 
 pub sort_in-requires-clause-high : goal.sort_in-requires-clause-high
 sort_in-requires-clause-high c =
     let a = arena_with c.self.inside.regions c.self.inside.tiles c.self.inside.links c.self.inside.last in
-    let g = held _ _ _ _ _ c.self.invariant c.self.view_is c.requires.sound in
+    let g = held _ _ _ _ _ c.self.invariant.ground c.self.view_is c.requires.sound in
     let some = unsorted_listed a c.args.c (rw (← c.self.view_is) at c.requires.unsorted) in
     omega (arith, high_tile _ _ _ _ c.args.c.at _ g (listed_tile a c.args.c g.sound some))
 
-pub sort_in-requires-clause-listed : goal.sort_in-requires-clause-listed
-sort_in-requires-clause-listed c =
-    let a = arena_with c.self.inside.regions c.self.inside.tiles c.self.inside.links c.self.inside.last in
-    let g = held _ _ _ _ _ c.self.invariant c.self.view_is c.requires.sound in
-    let some = unsorted_listed a c.args.c (rw (← c.self.view_is) at c.requires.unsorted) in
-    omega (arith, some, listed_times a c.self.inside.links.lists c.args.c (lists_of _ _ _ _ g) some)
+pub sort_in-requires-clause-unsorted : goal.sort_in-requires-clause-unsorted
+sort_in-requires-clause-unsorted c =
+    let stands = unsorted_stands c.self.inside.tiles.tiles c.args.c c.self.inside.links.lists (rw (← c.self.view_is) at c.requires.unsorted) in
+    omega (arith, stands)
+
+pub sort_in-requires-clause-guides : goal.sort_in-requires-clause-guides
+sort_in-requires-clause-guides c = by_address c.self.inside.tiles.tiles c.self.inside.links.lists c.self.inside.guides c.self.invariant.guides
 
 pub sort_in-requires-clause-tiles : goal.sort_in-requires-clause-tiles
-sort_in-requires-clause-tiles c = have_tiles _ _ _ _ (held _ _ _ _ _ c.self.invariant c.self.view_is c.requires.sound)
+sort_in-requires-clause-tiles c = have_tiles _ _ _ _ (held _ _ _ _ _ c.self.invariant.ground c.self.view_is c.requires.sound)
 
 pub sort_in-requires-clause-falling : goal.sort_in-requires-clause-falling
 sort_in-requires-clause-falling c =
     let a = arena_with c.self.inside.regions c.self.inside.tiles c.self.inside.links c.self.inside.last in
-    let g = held _ _ _ _ _ c.self.invariant c.self.view_is c.requires.sound in
+    let g = held _ _ _ _ _ c.self.invariant.ground c.self.view_is c.requires.sound in
     falling_rest _ _ _ _ c.args.c g (unsorted_listed a c.args.c (rw (← c.self.view_is) at c.requires.unsorted))
 
 pub invariant_of-self : goal.invariant_of-self
 invariant_of-self c =
     let a = arena_with c.self.inside.regions c.self.inside.tiles c.self.inside.links c.self.inside.last in
-    let g = held _ _ _ _ _ c.self.invariant c.self.view_is c.requires.sound in
-    (sort_done _ _ _ _ _ c.args.c g (unsorted_listed a c.args.c (rw (← c.self.view_is) at c.requires.unsorted)) c.sort_in.ensures.lists c.sort_in.ensures.extent).kept
+    let g = held _ _ _ _ _ c.self.invariant.ground c.self.view_is c.requires.sound in
+    let d = sort_done _ _ _ _ _ c.args.c g (unsorted_listed a c.args.c (rw (← c.self.view_is) at c.requires.unsorted)) c.sort_in.ensures.lists c.sort_in.ensures.extent in
+    record { ground = d.kept; guides = by_chunk _ _ _ c.sort_in.ensures.guides }
 
 pub returns : goal.returns
 returns c =
     let a = arena_with c.self.inside.regions c.self.inside.tiles c.self.inside.links c.self.inside.last in
-    let g = held _ _ _ _ _ c.self.invariant c.self.view_is c.requires.sound in
+    let g = held _ _ _ _ _ c.self.invariant.ground c.self.view_is c.requires.sound in
     (sort_done _ _ _ _ _ c.args.c g (unsorted_listed a c.args.c (rw (← c.self.view_is) at c.requires.unsorted)) c.sort_in.ensures.lists c.sort_in.ensures.extent).is
     ∙ ap (λ (v : GroundView). sorted_in v.arena c.args.c) c.self.view_is
