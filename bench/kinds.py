@@ -5,7 +5,7 @@ sizes back always; in `small` sizes are up to 128; in `queue` too, but the oldes
 are spread over all bins; in `calloc` calloc takes every second of such blocks, and in `aligned` posix_memalign takes them;
 in `vector` realloc makes blocks larger by half until they are freed. With a number behind it, as in `mixed/4`, the names
 are spread over so many threads, each of which hands on one in eight blocks by a tray, while there are trays, and another
-frees it.
+frees it. In `equals` large blocks of one size, each between small ones, are taken, freed and taken again.
 """
 import random
 from collections import deque
@@ -70,8 +70,22 @@ def turns(kind, pick, names):
         yield pick.randint(1, names)
 
 
+def equals(names):
+    """Half of the names are of large blocks; a larger one, which comes last, has them all sorted into their bin."""
+    large = range(1, names - 1, 2)
+    for name in large:
+        yield f"0 m {name} 2000\n0 m {name + 1} 24\n"
+    yield from (f"0 f {name}\n" for name in large)
+    yield f"0 m {names} 2020\n"
+    yield from (f"0 m {name} 2000\n" for name in large)
+
+
 def trace(kind, lines, names):
-    """The lines of a trace of so many lines of thread 0 over so many names."""
+    """The lines of a trace of so many lines of thread 0 over so many names. Of `equals` there are 2 * names - 1."""
+    if kind == "equals":
+        yield "ptmtrace 1\n"
+        yield from equals(names)
+        return
     pick = random.Random(lines * 65537 + names)
     sizes = {}
     yield "ptmtrace 1\n"

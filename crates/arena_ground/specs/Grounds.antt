@@ -74,6 +74,8 @@ pub record IsGround (r : Regions) (w : TileRow) (l : Linked) (last : Option ℕ)
   pub base : w.extent.base ≡ words_start (arena_with r w l last)
   pub width : w.extent.width ≡ part_bytes (arena_with r w l last) / 16
 
+-- Guides as large_bins has them, said of chunks with their sizes: what leaves the bins as they are leaves them too.
+
 -- a chunk of the bin of a band of sizes, whose size lies in the band
 pub record IsGuideIn (bins : List (List Chunk)) (band at : ℕ) : Type 0 where
   pub size : ℕ
@@ -85,7 +87,7 @@ pub record IsGuideIn (bins : List (List Chunk)) (band at : ℕ) : Type 0 where
 pub record HaveGuides (bins : List (List Chunk)) (guides : List ℕ) : Type 0 where
   pub each : (band : ℕ) → 0 < slice_index guides band → IsGuideIn bins band (slice_index guides band)
 
--- the same with the guides
+-- a ground with its guides
 pub record IsGuided (r : Regions) (w : TileRow) (l : Linked) (last : Option ℕ) (bands : List ℕ) : Type 0 where
   pub ground : IsGround r w l last
   pub guides : HaveGuides (bins_at w.tiles l.lists) bands

@@ -38,9 +38,10 @@ times_append n xs ys = sum_by-append (λ y. cond (eqb n y) 1 0) xs ys
 pub stands_there : (n : ℕ) (front back : List ℕ) → 1 ≤ times_in n (front ++ n ∷ back)
 stands_there n front back = omega (arith, times_append n front (n ∷ back), in_here n n back refl)
 
-pub either_listed : (xs : List ℕ) (o : Option ℕ) (n : ℕ) → IfSome o (λ at. 1 ≤ times_in at xs) → 1 ≤ times_in n xs → 1 ≤ times_in (unwrap_or o n) xs
-either_listed xs None n some other = other
-either_listed xs (Some at) n some other = some
+-- what is so of a chunk that may be none, and of another one in its place
+pub either_if : (P : ℕ → Type 0) (o : Option ℕ) (n : ℕ) → IfSome o P → P n → P (unwrap_or o n)
+either_if P None n some other = other
+either_if P (Some at) n some other = some
 
 -- the chunk behind another one, which stands there once
 pub record StandsNext (xs : List ℕ) (at next : ℕ) : Type 0 where

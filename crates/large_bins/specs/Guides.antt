@@ -13,12 +13,11 @@ band_count = 2016
 -- which band of its bin a large size lies in
 abbrev pub band_in_bin : ℕ → ℕ
 band_in_bin s =
-    if nat_lt s 3136 then s % 64 / 16
-    else (if nat_lt s 10752 then s % 512 / 16
-    else (if nat_lt s 45056 then s % 4096 / 128
+    if nat_lt s 10752 then s % 512 / 16
+    else (if nat_lt s 40960 then s % 4096 / 128
     else (if nat_lt s 163840 then s % 32768 / 1024
-    else (if nat_lt s 786432 then s % 262144 / 8192
-    else min ((s - 786432) / 65536) 31))))
+    else (if nat_lt s 524288 then s % 262144 / 8192
+    else min ((s - 524288) / 65536) 31)))
 
 -- the band of a large size
 abbrev pub band_of : ℕ → ℕ
@@ -38,7 +37,7 @@ pub record IsGuide (size : ℕ → ℕ) (lists : List (List ℕ)) (band at : ℕ
 pub record AreGuides (size : ℕ → ℕ) (lists : List (List ℕ)) (guides : List ℕ) : Type 0 where
   pub each : (band : ℕ) → 0 < slice_index guides band → IsGuide size lists band (slice_index guides band)
 
--- a chunk that is none
+-- a chunk that is no guide
 abbrev pub IsNoGuide : List ℕ → ℕ → Type 0
 IsNoGuide guides at = (band : ℕ) → 0 < slice_index guides band → slice_index guides band ≢ at
 

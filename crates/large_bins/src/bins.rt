@@ -1,6 +1,6 @@
 //! Insertion into a large bin, and its best fit.
 
-ghost use Rattle.std.specs.Prelude.{◌≡◌, ℕ, ◌<◌, ◌≤◌, ◌≢◌, ◌⊎◌, List, ◌∷◌, Some, max, IsSome, IfSome, IfNone};
+ghost use Rattle.std.specs.Prelude.{◌≡◌, ℕ, ◌<◌, ◌≤◌, ◌≢◌, List, ◌∷◌, Some, max, IsSome, IfSome, IfNone};
 ghost use Rattle.std.specs.Option.{option_map};
 ghost use Rattle.bin_links.specs.Extents.{IsOpen};
 ghost use Rattle.bin_links.specs.Lists.{bin_count, list_at, times_in, times_listed};
@@ -47,8 +47,8 @@ pub fn insert(links: &mut LinkWords, tiles: &TileWords, guides: &mut Guides, at:
 {
     links.laws();
     let band = band_index(size);
-    let own = guides.of(band);
-    put(links, tiles, at, size, guides.near(band));
+    let own = guides.get(band);
+    put(links, tiles, at, size, guides.at_or_below(band));
     if goes_before(tiles, size.0, own) {
         guides.set(band, Some(at));
     }
@@ -201,10 +201,9 @@ pub fn best(links: &LinkWords, tiles: &TileWords, guides: &Guides, nb: Size) -> 
 {
     links.laws();
     let bin = large_index(nb);
-    let band = band_index(nb);
-    let last = last_fitting(links, tiles, bin, nb.0, guides.below(band))?;
+    let last = last_fitting(links, tiles, bin, nb.0, guides.below(band_index(nb)))?;
     let size = size_of(tiles, last);
-    let start = equal_or(tiles, size, guides.from(band), last);
+    let start = equal_guide(links, tiles, guides, bin, size).unwrap_or(last);
     let first = past_greater(links, tiles, bin, size, start);
     match links.next(first) {
         None => Some(first),
@@ -218,23 +217,28 @@ pub fn best(links: &LinkWords, tiles: &TileWords, guides: &Guides, nb: Size) -> 
     }
 }
 
-/// A guide, if it has some size, else another chunk of that size.
-fn equal_or(tiles: &TileWords, size: u64, guide: Option<Addr>, other: Addr) -> Addr
-    requires tile { IfSome guide (λ at. IsSome (tile_at at tiles.now.tiles)) }
-    requires other { size_at tiles.now.tiles other ≡ size }
-    ensures size { size_at tiles.now.tiles result ≡ size }
-    ensures one { (result ≡ other) ⊎ (guide ≡ Some result) }
+/// The guide of a size's band, if it is in some bin and has this very size.
+fn equal_guide(
+    links: &LinkWords,
+    tiles: &TileWords,
+    guides: &Guides,
+    bin: u8,
+    size: u64,
+) -> Option<Addr>
+    requires large { 1024 ≤ size }
+    requires tiles { HaveTiles tiles.now.tiles links.now.lists }
+    requires guides { AreGuides (size_at tiles.now.tiles) links.now.lists guides.now }
+    ensures size { IfSome result (λ at. size_at tiles.now.tiles at ≡ size) }
+    ensures listed { IfSome result (λ at. 1 ≤ times_in at (list_at bin links.now.lists)) }
 {
-    match guide {
-        None => other,
-        Some(at) => {
-            if size_of(tiles, at) == size {
-                at
-            } else {
-                other
-            }
-        }
+    if large_index(Size(size)) != bin {
+        return None;
     }
+    let guide = guides.get(band_index(Size(size)))?;
+    if size_of(tiles, guide) != size {
+        return None;
+    }
+    Some(guide)
 }
 
 /// The last chunk of a bin that has this size at least. It is looked for from a listed chunk on, if that is smaller.

@@ -1,4 +1,4 @@
-//! Where walks over large bins begin.
+//! Guides: chunks of large bins, by their size.
 
 ghost use Rattle.std.specs.Prelude.{◌≡◌, ℕ, ◌≢◌, ◌<◌, ◌≤◌, true, false, replicate, slice_index, slice_set, MatchOption, IfOk, IfSome};
 ghost use Rattle.large_bins.specs.Guides.{band_count, band_of, IsOfBin};
@@ -46,7 +46,7 @@ impl Guides {
     }
 
     /// The guide of a band.
-    pub(crate) fn of(&self, band: usize) -> Option<Addr>
+    pub(crate) fn get(&self, band: usize) -> Option<Addr>
         requires { band < band_count }
         ensures { MatchOption result (slice_index self.now band ≡ 0)
             (λ at. (at ≡ slice_index self.now band) × (0 < at)) }
@@ -66,7 +66,7 @@ impl Guides {
         guide != 0 && guide == at.0
     }
 
-    /// The guide of the highest band below some band that has one, in the same bin.
+    /// Of the bands of the same bin that are below some band and have a guide, that of the highest.
     pub(crate) fn below(&self, band: usize) -> Option<Addr>
         requires { band < band_count }
         ensures { IfSome result (λ at. IsOfBin self.now band at) }
@@ -80,29 +80,15 @@ impl Guides {
         None
     }
 
-    /// The guide of a band, or else of the highest one below that has one, in the same bin.
-    pub(crate) fn near(&self, band: usize) -> Option<Addr>
+    /// The guide of a band, or else of the highest one of the same bin that is below and has one.
+    pub(crate) fn at_or_below(&self, band: usize) -> Option<Addr>
         requires { band < band_count }
         ensures { IfSome result (λ at. IsOfBin self.now band at) }
     {
-        match self.of(band) {
+        match self.get(band) {
             None => self.below(band),
             Some(guide) => Some(guide),
         }
-    }
-
-    /// The guide of the lowest band from some band on that has one, in the same bin.
-    pub(crate) fn from(&self, band: usize) -> Option<Addr>
-        requires { band < band_count }
-        ensures { IfSome result (λ at. IsOfBin self.now band at) }
-    {
-        for higher in band..(band / BIN_BANDS + 1) * BIN_BANDS {
-            let at = self.chunks[higher];
-            if at != 0 {
-                return Some(Addr(at));
-            }
-        }
-        None
     }
 
     /// Gives a band another guide, or none.
@@ -125,18 +111,16 @@ pub(crate) fn band_index(size: Size) -> usize
     ensures below { result < band_count }
 {
     let bytes = size.0;
-    let place = if bytes < 3136 {
-        bytes % 64 / 16
-    } else if bytes < 10_752 {
+    let place = if bytes < 10_752 {
         bytes % 512 / 16
-    } else if bytes < 45_056 {
+    } else if bytes < 40_960 {
         bytes % 4096 / 128
     } else if bytes < 163_840 {
         bytes % 32_768 / 1024
-    } else if bytes < 786_432 {
+    } else if bytes < 524_288 {
         bytes % 262_144 / 8192
     } else {
-        ((bytes - 786_432) / 65_536).min(31)
+        ((bytes - 524_288) / 65_536).min(31)
     };
     (large_index(size) as usize - FIRST_LARGE) * BIN_BANDS + place as usize
 }

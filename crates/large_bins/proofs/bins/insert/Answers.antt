@@ -12,13 +12,13 @@ use Rattle.large_bins.proofs.bins.insert.Goals as goal
 pub put-requires-clause-start : goal.put-requires-clause-start
 put-requires-clause-start c =
     let bin : bin_of_band c.band_index-band.result ≡ large_index_of c.args.size = ap bin_of_band c.band_index-band.ensures.band ∙ band_bin c.args.size c.requires.large in
-    of_bin_listed c.band_index-band.result (large_index_of c.args.size) c.near.result c.requires.guides bin c.near.ensures
+    of_bin_listed c.band_index-band.result (large_index_of c.args.size) c.at_or_below.result c.requires.guides bin c.at_or_below.ensures
 
 pub goes_before-requires : goal.goes_before-requires
 goes_before-requires c =
     let bin : bin_of_band c.band_index-band.result ≡ large_index_of c.args.size = ap bin_of_band c.band_index-band.ensures.band ∙ band_bin c.args.size c.requires.large in
-    tile_if (large_index_of c.args.size) c.of-own.result c.requires.tiles
-    (of_bin_listed c.band_index-band.result (large_index_of c.args.size) c.of-own.result c.requires.guides bin (own_of_bin c.args.guides.now c.band_index-band.result c.of-own.result c.of-own.ensures))
+    tile_if (large_index_of c.args.size) c.get-own.result c.requires.tiles
+    (of_bin_listed c.band_index-band.result (large_index_of c.args.size) c.get-own.result c.requires.guides bin (own_of_bin c.args.guides.now c.band_index-band.result c.get-own.result c.get-own.ensures))
 
 pub returns-then-goes_before-clause-falling : goal.returns-then-goes_before-clause-falling
 returns-then-goes_before-clause-falling c = falling_inserted _ _ c.requires.falling

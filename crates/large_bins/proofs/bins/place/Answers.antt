@@ -2,7 +2,7 @@ use Rattle.std.proofs.Common.{◌<◌, ◌≤◌, [], Some, None, subst, sym, ap
 use Rattle.bin_links.specs.Lists.{list_at, times_in, times_listed}
 use Rattle.bin_links.proofs.ListLaws.{listed_in, last_listed}
 use Rattle.large_bins.specs.SeenChunks.{size_at}
-use Rattle.large_bins.proofs.GuideLaws.{either_listed, stands_there}
+use Rattle.large_bins.proofs.GuideLaws.{either_if, stands_there}
 use Rattle.large_bins.proofs.Insertion.{ends_in, Walks, Stopped, walk_at, walk_on, stop_smaller, stop_end, front_if, behind_if, goes_second, goes_last, goes_alone}
 use Rattle.large_bins.proofs.Turns.{turns_on, fewer_on, once_in}
 use Rattle.large_bins.proofs.bins.place.Goals as goal
@@ -72,4 +72,4 @@ pub past_greater-first-requires-clause-start : goal.past_greater-first-requires-
 past_greater-first-requires-clause-start c =
     let last = ends_in (list_at c.args.bin c.args.links.now.lists) c.in_ok-last.last (sym c.last.ensures ∙ c.in_ok-last.was) in
     subst (λ n. 1 ≤ times_in n (list_at c.args.bin c.args.links.now.lists)) (sym c.unwrap_or.ensures)
-    (either_listed (list_at c.args.bin c.args.links.now.lists) c.args.start c.in_ok-last.last c.requires.start (omega (arith, ap (times_in c.in_ok-last.last) last.is, stands_there c.in_ok-last.last last.front [])))
+    (either_if (λ n. 1 ≤ times_in n (list_at c.args.bin c.args.links.now.lists)) c.args.start c.in_ok-last.last c.requires.start (omega (arith, ap (times_in c.in_ok-last.last) last.is, stands_there c.in_ok-last.last last.front [])))
