@@ -71,7 +71,7 @@ def turns(kind, pick, names):
 
 
 def equals(names):
-    """Half of the names are of large blocks; a larger one, which comes last, has them all sorted into their bin."""
+    """Half of the names are of large blocks; that of the last name, which is larger, has them sorted into their bin."""
     large = range(1, names - 1, 2)
     for name in large:
         yield f"0 m {name} 2000\n0 m {name + 1} 24\n"
@@ -81,7 +81,8 @@ def equals(names):
 
 
 def trace(kind, lines, names):
-    """The lines of a trace of so many lines of thread 0 over so many names. Of `equals` there are 2 * names - 1."""
+    """The lines of a trace of so many lines of thread 0 over so many names; of `equals` there are 2 * names - 1, and names are
+    odd in number."""
     if kind == "equals":
         yield "ptmtrace 1\n"
         yield from equals(names)
