@@ -451,7 +451,7 @@ pub none_weigh : (weigh : Option Block → ℕ) → weight_in no_names weigh ≡
 unfolding weight_in no_names
 none_weigh weigh = refl
 
-no_row : length no_names.near ≤ 65536
+no_row : length no_names.near ≤ 1048576
 unfolding no_names
 no_row = omega arith
 

@@ -8,7 +8,7 @@ use Rattle.std.specs.Ordering.{nat_cmp}
 use Rattle.chunk_tags.specs.declared.block.Block.{Block}
 use Rattle.block_names.specs.Blocks.{IsHeld}
 
--- The places of names, each empty or with a block: for names below 65,536 a place for each up to the largest that was made
+-- The places of names, each empty or with a block: for names below 2 ^ 20 a place for each up to the largest that was made
 -- ready, in a row; for the others only their own, by rising name.
 pub record NameTable : Type 0 where
   pub near : List (Option Block)
@@ -16,7 +16,7 @@ pub record NameTable : Type 0 where
 
 -- the names whose places are in a row
 abbrev pub is_near : ℕ → Bool
-is_near name = nat_lt name 65536
+is_near name = nat_lt name 1048576
 
 -- no places
 unfoldable pub no_names : NameTable
@@ -104,7 +104,7 @@ weight_in names weigh = sum_by weigh names.near + sum_by weigh (values_of names.
 
 -- what is true of every table: the row has near names alone, and the blocks are such as a thread may hold
 pub record IsTable (names : NameTable) : Type 0 where
-  pub row : length names.near ≤ 65536
+  pub row : length names.near ≤ 1048576
   pub held : (name : ℕ) → IfSome (block_at names name) IsHeld
 
 -- the names that have places of their own rise, so that each has one

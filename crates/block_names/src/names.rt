@@ -11,9 +11,9 @@ use std::alloc::Global;
 use std::marker::Model;
 
 /// The names below this have their places in a row (this project's own).
-const NEAR_NAMES: u32 = 65536;
+const NEAR_NAMES: u32 = 1_048_576;
 
-/// The blocks of a thread, each under a name; a name is a number. Below 65,536 the table has a place for each up to the
+/// The blocks of a thread, each under a name; a name is a number. Below 2^20 the table has a place for each up to the
 /// largest that was made ready, and of the others one for each that was (this project's own).
 #[derive(Debug, Drop)]
 pub struct Names {

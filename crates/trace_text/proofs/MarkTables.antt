@@ -16,7 +16,7 @@ pub unmarked : (k : ℕ) → has [] k ≡ false
 unmarked k = ap (λ bit. eqb bit 1) (bit_at-zero (k % 64))
 
 none_of : (k : ℕ) → holds none_held k ≡ false
-none_of k = elim (cases_Bool (ltb k 65536)) [ inl near ↦ rw near (unmarked k) | inr far ↦ rw far refl ]
+none_of k = elim (cases_Bool (ltb k 1048576)) [ inl near ↦ rw near (unmarked k) | inr far ↦ rw far refl ]
 
 -- before any line, no thread holds a name
 pub none_held_at : (count i k : ℕ) → holds_at (replicate count none_held) i k ≡ false

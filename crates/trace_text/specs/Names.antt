@@ -4,7 +4,7 @@ use Rattle.std.specs.Prelude.{◌≡◌, ℕ, ◌==◌, nat_lt, nat_eq, Bool, no
 use Rattle.std.specs.List.{list_any}
 use Rattle.trace_text.specs.Marks.{has}
 
--- the names that a thread holds: the words with the marks of those below 65,536, and the others
+-- the names that a thread holds: the words with the marks of those below 2 ^ 20, and the others
 pub record Held : Type 0 where
   pub near : List ℕ
   pub far : List ℕ
@@ -15,7 +15,7 @@ none_held = record { near = []; far = [] }
 
 -- whether a name is held
 abbrev pub holds : Held → ℕ → Bool
-holds names n = if nat_lt n 65536 then has names.near n else list_any (nat_eq n) names.far
+holds names n = if nat_lt n 1048576 then has names.near n else list_any (nat_eq n) names.far
 
 -- the same of a thread
 abbrev pub holds_at : List Held → ℕ → ℕ → Bool

@@ -8,7 +8,7 @@ use chunk_tags::NoMemory;
 use std::alloc::Global;
 use std::marker::Model;
 
-/// How many words a table has once a number is marked: bits for all trays, or for the names that are near.
+/// How many words a table has at least once a number is marked: bits for all trays, or for the names of version 1.
 const WORDS: usize = 1024;
 
 /// Marked numbers (this project's own): a table with one bit a number, made when the first is marked.

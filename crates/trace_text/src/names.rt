@@ -9,8 +9,8 @@ use std::alloc::Global;
 use std::collections::HashSet;
 use std::marker::Model;
 
-/// The first name that is far: a table of all names would take 4 GiB.
-const FIRST_FAR: u32 = 65_536;
+/// The first name that is far: marks for all names would take 512 MiB.
+const FIRST_FAR: u32 = 1_048_576;
 
 /// The names that a thread holds (this project's own): a mark for each near one, and the far ones as a set.
 #[derive(Drop)]

@@ -9,10 +9,10 @@ use Rattle.stats_text.specs.declared.views.Place.TheVariants as places
 use Rattle.world_view.specs.declared.slot.Slot.{Slot}
 use Rattle.world_view.specs.Slots.{empty_slot}
 
--- the address of a unit of 16 bytes: they are counted from main's start, and from 2 ^ 40 on from the start of the heaps
+-- the address of a unit of 16 bytes: they are counted from main's start, and from 2 ^ 36 on from the start of the heaps
 abbrev pub addr_of_unit : ℕ → ℕ
 addr_of_unit unit =
-    if nat_lt unit 1099511627776 then main_start + unit * 16 else heaps_start + (unit - 1099511627776) * 16
+    if nat_lt unit 68719476736 then main_start + unit * 16 else heaps_start + (unit - 68719476736) * 16
 
 -- the place of a kind that has a number: from 64 on a kind is a thread, and the number the name
 abbrev pub place_of_kind : ℕ → ℕ → Place
@@ -23,10 +23,10 @@ place_of_kind kind number =
     else (if nat_eq kind 2 then places.Fast (number % 256)
     else (if nat_eq kind 3 then places.Bin (number % 256) else places.Tray number))))
 
--- the slot that a word stands for: from the highest bit on it has the unit of its address in 41 bits, the kind of its place in 7,
--- and a number in 16
+-- the slot that a word stands for: from the highest bit on it has the unit of its address in 37 bits, the kind of its place in 7,
+-- and a number in 20
 abbrev pub slot_of_word : ℕ → Slot
-slot_of_word w = record { addr = addr_of_unit (w / 8388608); place = place_of_kind (w / 65536 % 128) (w % 65536) }
+slot_of_word w = record { addr = addr_of_unit (w / 134217728); place = place_of_kind (w / 1048576 % 128) (w % 1048576) }
 
 -- the slot of a spot
 abbrev pub slot_of_spot : Spot Slot → Slot

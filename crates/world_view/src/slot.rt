@@ -21,16 +21,16 @@ impl Slot {
     };
 }
 
-/// From its highest bit on a word has the unit of its address in 41 bits, the kind of its place in 7, and a number in 16 (this
+/// From its highest bit on a word has the unit of its address in 37 bits, the kind of its place in 7, and a number in 20 (this
 /// project's own).
-const NUMBERS: u64 = 1 << 16;
+const NUMBERS: u64 = 1 << 20;
 
 const KINDS: u64 = 1 << 7;
 
 const UNIT_STEP: u64 = KINDS * NUMBERS;
 
 /// Units are of 16 bytes, the first ones from main's start on, and from this one on those from the start of the heaps on.
-const FIRST_OF_HEAPS: u64 = 1 << 40;
+const FIRST_OF_HEAPS: u64 = 1 << 36;
 
 const UNITS: u64 = 2 * FIRST_OF_HEAPS;
 
@@ -39,7 +39,7 @@ const NAMES: u64 = 64;
 
 /// The address of a unit.
 fn addr_of(unit: u64) -> u64
-    requires { unit < 2 ^ 41 }
+    requires { unit < 2 ^ 37 }
     ensures { result ≡ addr_of_unit unit }
 {
     if unit < FIRST_OF_HEAPS {
@@ -52,7 +52,7 @@ fn addr_of(unit: u64) -> u64
 /// The place of a kind that has a number.
 fn place_of(kind: u64, number: u64) -> Place
     requires kind { kind < 128 }
-    requires number { number < 65536 }
+    requires number { number < 2 ^ 20 }
     ensures { result ≡ place_of_kind kind number }
 {
     if kind >= NAMES {
