@@ -13,7 +13,7 @@ use Rattle.trace_text.specs.Spelling.{spelling_of, texts_of}
 use Rattle.trace_replay.specs.declared.sheet.Records.{Records}
 use Rattle.trace_replay.specs.declared.sheet.Sheet.{Sheet}
 use Rattle.trace_replay.specs.declared.sheet.Sheet.TheVariants.{Report, Summary}
-use Rattle.trace_replay.specs.Sheets.{HasNoted, HasRoomFor, Awaits, CanNote, NotesReply, LacksRoomFor}
+use Rattle.trace_replay.specs.Sheets.{HasNoted, HasRoomFor, IsTrace, Spells, Awaits, CanNote, NotesReply, LacksRoomFor}
 use Rattle.trace_replay.specs.Records.{outcome_of, outcomes_of, record_of, records_of}
 
 records_of-push : (replies : List (Line × Reply)) (x : Line × Reply) → records_of (replies ++ x ∷ []) ≡ records_of replies ++ record_of x
@@ -26,6 +26,11 @@ outcomes_of-push [] x = refl
 outcomes_of-push (r ∷ rs) x = ap (λ said. outcome_of r.0.call r.1 ∷ said) (outcomes_of-push rs x)
 
 -- ---- a sheet before any line
+
+-- the bytes of a trace do for a report and for a summary
+pub bytes_spell : (summary : Bool) (bytes : List ℕ) (lines : List Line) → IsTrace lines bytes → Spells summary bytes lines
+bytes_spell true bytes lines h = tt
+bytes_spell false bytes lines h = h
 
 pub no_records : (text first : List ℕ) → text ≡ first → text ≡ first ++ records_of []
 unfolding records_of

@@ -97,13 +97,6 @@ fn text_of_made<K: Kernel>(
     text_over(alloc, asked, trace.lines, texts, kernels)
 }
 
-/// Of a trace's bytes those that a run needs: all for a report, and none for a summary.
-fn bytes_for(alloc: Global, summary: bool, bytes: Vec<u8>) -> Vec<u8>
-    ensures { (lines : List Line) → IsTrace lines bytes.items → Spells summary result.items lines }
-{
-    if summary { Vec::new(alloc) } else { bytes }
-}
-
 /// The text for the bytes of a trace, which aren't too many, and the ports.
 fn text_of_bytes<K: Kernel>(
     alloc: Global,
@@ -122,7 +115,8 @@ fn text_of_bytes<K: Kernel>(
     ensures kind { IfErr result IsTextRefusal }
 {
     let lines = read_lines(alloc, bytes.as_slice())?;
-    let bytes = bytes_for(alloc, asked.summary, bytes);
+    // A summary needs the bytes no more, and keeps them all the same: a C library that gets so much back at once maps only what
+    // is larger from then on, and copies the lists that grow in the run.
     Ok(text_over(alloc, asked, lines, bytes, kernels)?)
 }
 
