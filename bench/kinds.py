@@ -5,7 +5,8 @@ sizes back always; in `small` sizes are up to 128; in `queue` too, but the oldes
 are spread over all bins; in `calloc` calloc takes every second of such blocks, and in `aligned` posix_memalign takes them;
 in `vector` realloc makes blocks larger by half until they are freed. With a number behind it, as in `mixed/4`, the names
 are spread over so many threads, each of which hands on one in eight blocks by a tray, while there are trays, and another
-frees it. In `equals` large blocks of one size, each between small ones, are taken, freed and taken again.
+frees it. In `equals` large blocks of one size, each between small ones, are taken, freed and taken again. A trace in which a
+thread has more names than version 1 has is of version 2.
 """
 import random
 from collections import deque
@@ -13,6 +14,7 @@ from itertools import islice
 
 LONGEST = 20000
 TRAYS = 65536
+NAMES_OF_VERSION_1 = 65535
 
 
 def mixed_size(pick):
@@ -80,16 +82,20 @@ def equals(names):
     yield from (f"0 m {name} 2000\n" for name in large)
 
 
+def header(names):
+    """That of version 2 where a thread has more names than version 1 has."""
+    return f"ptmtrace {1 if names <= NAMES_OF_VERSION_1 else 2}\n"
+
+
 def trace(kind, lines, names):
     """The lines of a trace of so many lines of thread 0 over so many names; of `equals` there are 2 * names - 1, and names are
     odd in number."""
+    yield header(names)
     if kind == "equals":
-        yield "ptmtrace 1\n"
         yield from equals(names)
         return
     pick = random.Random(lines * 65537 + names)
     sizes = {}
-    yield "ptmtrace 1\n"
     for name in islice(turns(kind, pick, names), lines):
         if name not in sizes:
             sizes[name] = 24
@@ -107,7 +113,7 @@ def trace_of_threads(kind, threads, lines, names):
     pick = random.Random(lines * 65537 + names)
     sizes, queues, next_tray = {}, [deque() for _ in range(threads)], 0
     names_of = [turns(kind, pick, names // threads) for _ in range(threads)]
-    yield "ptmtrace 1\n"
+    yield header(names // threads)
     for _ in range(lines):
         thread = pick.randrange(threads)
         name = next(names_of[thread])

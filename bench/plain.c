@@ -9,14 +9,17 @@
 #include <stdlib.h>
 #include <string.h>
 
-enum { THREADS = 64, NAMES = 65536, TRAYS = 65536, LISTS = 64, FULL = 7 };
+enum { THREADS = 64, TRAYS = 65536, LISTS = 64, FULL = 7 };
 
 struct name {
     void *block;
     unsigned char held;
 };
 
+/* The first number that is no name: of version 2 names below 2^24 are read. */
+static uint64_t names_end = 65536;
 static struct name *names[THREADS];
+static uint64_t largest[THREADS];
 static unsigned char ended[THREADS];
 static void *trays[TRAYS];
 static unsigned cached[LISTS];
@@ -87,10 +90,12 @@ static char *put_block(char *to, const void *block) {
 }
 
 static struct name *find(uint64_t thread, uint64_t n, unsigned long line) {
-    if (n < 1 || n > 65535)
+    if (n < 1 || n >= names_end)
         fail(line, "Name");
-    if (!names[thread] && !(names[thread] = calloc(NAMES, sizeof(struct name))))
+    if (!names[thread] && !(names[thread] = calloc(names_end, sizeof(struct name))))
         exit(8);
+    if (n > largest[thread])
+        largest[thread] = n;
     return &names[thread][n];
 }
 
@@ -241,11 +246,13 @@ static void write_place(const void *block, const char *front, unsigned number) {
 }
 
 int main(int words, char **word) {
-    static const char header[] = "ptmtrace 1\n";
+    static const char header[] = "ptmtrace 1\n", header_2[] = "ptmtrace 2\n";
     summary = words > 1 && strcmp(word[1], "--summary") == 0;
     size_t length;
     char *bytes = read_all(&length), *end = bytes + length;
-    if (length < sizeof header - 1 || memcmp(bytes, header, sizeof header - 1))
+    if (length >= sizeof header - 1 && memcmp(bytes, header_2, sizeof header - 1) == 0)
+        names_end = 1 << 24;
+    else if (length < sizeof header - 1 || memcmp(bytes, header, sizeof header - 1))
         fail(1, "Header");
     if (!summary)
         puts("ptmreport 1 serial");
@@ -260,7 +267,7 @@ int main(int words, char **word) {
     if (summary)
         printf("ptmsummary 1\nlines %lu\ngot %lu\nnull %lu\nmissed %lu\nskip %lu\n", line - 2, got, null, missed, skip);
     for (unsigned thread = 0; !summary && thread < THREADS; thread++)
-        for (unsigned n = 1; names[thread] && n < NAMES; n++)
+        for (uint64_t n = 1; names[thread] && n <= largest[thread]; n++)
             if (names[thread][n].block) {
                 char front[32];
                 *put_text(put_number(put_text(front, " live "), thread), " ") = 0;
