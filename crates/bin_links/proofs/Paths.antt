@@ -18,6 +18,10 @@ pub record Amid (f b : ℕ → ℕ) (P : ℕ → Type 0) (n : ℕ) : Type 0 wher
   pub ahead_is : P (f n)
   pub back_is : P (b n)
 
+-- nor is it behind itself
+pub alone_ahead : {f b : ℕ → ℕ} {P : ℕ → Type 0} {n : ℕ} → Amid f b P n → f n ≢ n
+alone_ahead {f} {b} l = λ same. l.alone (sym (ap b same) ∙ l.behind.back)
+
 -- what is true of the nodes of a path
 pub record Along (P : ℕ → Type 0) (s e : ℕ) (xs : List ℕ) : Type 0 where
   pub start : P s
@@ -59,8 +63,8 @@ amid_path f b {P} n {s} {e} (x ∷ xs) ne p a h = elim (eqb_tells n x) [
 -- two nodes that meet still do when a third is skipped
 meet_skipped : {f b f' b' : ℕ → ℕ} {P : ℕ → Type 0} {at s x : ℕ} → Skips f b f' b' at → Amid f b P at → s ≢ at → x ≢ at → Meet f b s x → Meet f' b' s x
 meet_skipped {f} {b} k l ns nx m = record {
-  ahead = k.ahead_else _ (λ q. nx (sym m.ahead ∙ (ap f q ∙ l.before.ahead))) ∙ m.ahead;
-  back = k.back_else _ (λ q. ns (sym m.back ∙ (ap b q ∙ l.behind.back))) ∙ m.back;
+  ahead = k.ahead_else _ (λ q. nx (sym m.ahead ∙ (ap f q ∙ l.before.ahead))) ns ∙ m.ahead;
+  back = k.back_else _ (λ q. ns (sym m.back ∙ (ap b q ∙ l.behind.back))) nx ∙ m.back;
 }
 
 -- what the path is without it, from a node before, and from the skipped one

@@ -54,6 +54,9 @@ reopened {nodes} {nodes'} {v} s same more =
 pub neighbours : {nodes : Nodes} {v : Linked} → Seen nodes v → (at : ℕ) → 1 ≤ times_listed at v.lists → Amid (ahead nodes) (back nodes) (IsNode (extent nodes)) at
 neighbours s at k = amid_nodes s.linked at (omega (arith, k, ap (λ (w : Linked). times_listed at w.lists) s.view))
 
+pub is_chunk : {nodes : Nodes} {v : Linked} → Seen nodes v → (at : ℕ) → 1 ≤ times_listed at v.lists → bin_count ≤ at
+is_chunk s at k = ((spells s).places at k).high
+
 pub unlink_step : {nodes nodes' : Nodes} {v : Linked} {at : ℕ} → Seen nodes v → 1 ≤ times_listed at v.lists → Skips (ahead nodes) (back nodes) (ahead nodes') (back nodes') at → extent nodes' ≡ extent nodes → Becomes nodes' (map (without at) v.lists)
 unlink_step s k skips same = becomes s same (unlinked (spells s) k skips)
 

@@ -51,12 +51,12 @@ pub record Redirects (f f' : ℕ → ℕ) (node to : ℕ) : Type 0 where
   pub here : f' node ≡ to
   pub others : (n : ℕ) → n ≢ node → f' n ≡ f n
 
--- a node's neighbours lead past it
+-- a node's neighbours lead past it; its own links may be any
 pub record Skips (f b f' b' : ℕ → ℕ) (at : ℕ) : Type 0 where
   pub ahead : f' (b at) ≡ f at
   pub back : b' (f at) ≡ b at
-  pub ahead_else : (n : ℕ) → n ≢ b at → f' n ≡ f n
-  pub back_else : (n : ℕ) → n ≢ f at → b' n ≡ b n
+  pub ahead_else : (n : ℕ) → n ≢ b at → n ≢ at → f' n ≡ f n
+  pub back_else : (n : ℕ) → n ≢ f at → n ≢ at → b' n ≡ b n
 
 -- a node stands between another one and the one that was behind that
 pub record Splices (f b f' b' : ℕ → ℕ) (after at : ℕ) : Type 0 where

@@ -31,8 +31,12 @@ impl Word for LinkCodes {
 
     ghost UNWRITTEN = { no_codes };
 
-    /// Those of a chunk that was in no bin yet.
+    /// Those of a chunk that is in no bin.
     const UNWRITTEN: LinkCodes = LinkCodes { fd: 0, bk: 0 };
+
+    fn is_unwritten(&self) -> bool {
+        self.fd == 0 && self.bk == 0
+    }
 }
 
 /// How many bins there are, and the first number that isn't a bin's own node.
@@ -67,7 +71,7 @@ impl Nodes {
     ghost use Rattle.part_words.specs.Extents.{IsWithinPart, extended};
     ghost use Rattle.bin_links.specs.Lists.{bin_count, no_extent};
     ghost use Rattle.bin_links.specs.Rings.{IsNode, Redirects, Skips, Splices};
-    ghost use Rattle.bin_links.specs.NodeWords.{codes_at, links_at, ahead, back, extent, node_in, Wrote, IsFresh};
+    ghost use Rattle.bin_links.specs.NodeWords.{no_codes, codes_at, links_at, ahead, back, extent, node_in, Wrote, IsFresh};
 
     /// Each bin's node leads to itself.
     pub fn new(alloc: Global, base: u64, stride: u64) -> Result<Nodes, AllocError>
@@ -197,13 +201,28 @@ impl Nodes {
         }
     }
 
-    /// A node's neighbours lead past it (the end of glibc's `unlink_chunk`).
+    /// Clears the links of a chunk, so that its word is as if never written.
+    fn clear(&mut self, node: u64)
+        requires chunk { bin_count ≤ node }
+        requires node { IsNode (extent self.old) node }
+        ensures links { Wrote self.old self.new node no_codes }
+        ensures extent { extent self.new ≡ extent self.old }
+    {
+        self.words.set(node, LinkCodes::UNWRITTEN);
+    }
+
+    /// A chunk's neighbours, which are other nodes, lead past it, and it keeps no links (the end of glibc's
+    /// `unlink_chunk`, which lets them stand).
     pub fn skip(&mut self, node: u64)
+        requires chunk { bin_count ≤ node }
         requires node { IsNode (extent self.old) node }
         requires behind { IsNode (extent self.old) (ahead self.old node) }
         requires before { IsNode (extent self.old) (back self.old node) }
+        requires apart_behind { ahead self.old node ≢ node }
+        requires apart_before { back self.old node ≢ node }
         ensures links { Skips (ahead self.old) (back self.old)
             (ahead self.new) (back self.new) node }
+        ensures cleared { codes_at self.new node ≡ no_codes }
         ensures extent { extent self.new ≡ extent self.old }
     {
         let at = self.codes(node);
@@ -211,6 +230,7 @@ impl Nodes {
         let behind = self.node_of(at.fd);
         self.set_ahead(before, at.fd);
         self.set_back(behind, at.bk);
+        self.clear(node);
     }
 
     /// A node comes to stand behind another one (the end of an insertion in glibc's `_int_free` and `_int_malloc`).

@@ -83,7 +83,7 @@ impl Names {
         }
     }
 
-    /// The places of the names from 65,536 on, by name.
+    /// The places of the far names, by name.
     pub fn far(&self) -> &FarNames
         ensures { result.now ≡ self.now.far }
     {

@@ -5,6 +5,7 @@ use Rattle.part_words.specs.Extents.{IsOpen, extended}
 use Rattle.part_words.specs.Parts.{Parts, word_at, update, extent_of}
 use Rattle.part_words.proofs.Seeing.{word_at-seen_through, extent_of-seen_through, written_through, same_through}
 use Rattle.chunk_image.specs.declared.heads.Cell.{Cell}
+use Rattle.chunk_image.specs.declared.heads.Head.{Head}
 use Rattle.chunk_image.specs.Heads.{head_in, heads_of, feet_of, no_cell, head_at, foot_at}
 
 pub extent_of-heads : (cells : Parts Cell) → extent_of (heads_of cells) ≡ extent_of cells
@@ -41,9 +42,9 @@ heads_unopened cells at len (Ok x) some = tt
 heads_unopened cells at len (Err x) some = subst (λ e. extended e at len ≡ e → ⊥) (sym (extent_of-heads cells)) some
 
 -- what a word says
-pub head_at-cells : (cells : Parts Cell) (at : ℕ) → head_at (heads_of cells) at ≡ head_in (word_at cells no_cell at).head
-head_at-cells cells at =
-    ap (λ (f : ℕ → _). f at) (word_at-seen_through (λ c. head_in c.head) cells no_cell)
+pub head_read : (cells : Parts Cell) (at : ℕ) (cell : Cell) (h : Head) → cell ≡ word_at cells no_cell at → h ≡ head_in cell.head → h ≡ head_at (heads_of cells) at
+head_read cells at cell h read says =
+    rw (says, read) (sym (ap (λ (f : ℕ → _). f at) (word_at-seen_through (λ c. head_in c.head) cells no_cell)))
 
 pub foot_at-cells : (cells : Parts Cell) (at : ℕ) → foot_at (feet_of cells) at ≡ (word_at cells no_cell at).foot * 16
 foot_at-cells cells at =
@@ -62,9 +63,9 @@ feet_alike cells cells' e =
 pub record Writes (cells cells' : Parts Cell) (at : ℕ) (cell : Cell) : Type 0 where
   pub word : word_at cells' no_cell ≡ update (word_at cells no_cell) at cell
 
-pub heads_written : (cells cells' : Parts Cell) (at : ℕ) (cell : Cell) → Writes cells cells' at cell → head_at (heads_of cells') ≡ update (head_at (heads_of cells)) at (head_in cell.head)
-heads_written cells cells' at cell w =
-    written_through (λ c. head_in c.head) cells cells' no_cell at cell w.word
+pub heads_written : (cells cells' : Parts Cell) (at : ℕ) (cell : Cell) (h : Head) → Writes cells cells' at cell → head_in cell.head ≡ h → head_at (heads_of cells') ≡ update (head_at (heads_of cells)) at h
+heads_written cells cells' at cell h w says =
+    rw (← says) (written_through (λ c. head_in c.head) cells cells' no_cell at cell w.word)
 
 pub feet_written : (cells cells' : Parts Cell) (at : ℕ) (cell : Cell) → Writes cells cells' at cell → foot_at (feet_of cells') ≡ update (foot_at (feet_of cells)) at (cell.foot * 16)
 feet_written cells cells' at cell w =

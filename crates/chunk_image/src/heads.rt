@@ -26,6 +26,11 @@ impl Word for Cell {
 
     /// No tile begins or ends here.
     const UNWRITTEN: Cell = Cell { head: 0, foot: 0 };
+
+    /// Whether no tile begins or ends here.
+    fn is_unwritten(&self) -> bool {
+        self.head == 0 && self.foot == 0
+    }
 }
 
 /// What stands at the beginning of a tile (glibc's size word, with its flags).
@@ -77,16 +82,22 @@ fn kind_of(number: u32) -> TileKind
     }
 }
 
+/// The head that a word says.
+fn unpacked(word: u32) -> Head
+    ensures { result ≡ head_in word }
+{
+    Head {
+        size: u64::from(word / 4) * 16,
+        kind: kind_of(word % 4),
+    }
+}
+
 /// The head of an address.
 pub(crate) fn read_head(cells: &Words<Cell>, at: u64) -> Head
     requires { IsOpen (extent_of (heads_of cells.now)) at }
     ensures { result ≡ head_at (heads_of cells.now) at }
 {
-    let word = cells.get(at).head;
-    Head {
-        size: u64::from(word / 4) * 16,
-        kind: kind_of(word % 4),
-    }
+    unpacked(cells.get(at).head)
 }
 
 /// The foot of an address.
@@ -97,7 +108,8 @@ pub(crate) fn read_foot(cells: &Words<Cell>, at: u64) -> u64
     u64::from(cells.get(at).foot) * 16
 }
 
-/// Writes the head of an address. The feet go with it: that of the tile that was there, if it was free, is cleared.
+/// Writes the head of an address. The feet go with it: that of the tile that was there, if it was free, is cleared. The word
+/// of the address is read once.
 pub(crate) fn put(cells: &mut Words<Cell>, at: u64, head: Head)
     requires kept { IsKept (heads_of cells.old) (feet_of cells.old) }
     requires stands { CanStand (heads_of cells.old) at head }
@@ -105,23 +117,16 @@ pub(crate) fn put(cells: &mut Words<Cell>, at: u64, head: Head)
     ensures extent { extent_of (heads_of cells.new) ≡ extent_of (heads_of cells.old) }
     ensures kept { IsKept (heads_of cells.new) (feet_of cells.new) }
 {
-    let old = read_head(cells, at);
-    write_foot(cells, at, old, 0);
-    write_head(cells, at, head);
+    let cell = cells.get(at);
+    cells.set(
+        at,
+        Cell {
+            head: head.packed(),
+            ..cell
+        },
+    );
+    write_foot(cells, at, unpacked(cell.head), 0);
     write_foot(cells, at, head, head.size);
-}
-
-/// Writes the head of an address alone.
-fn write_head(cells: &mut Words<Cell>, at: u64, head: Head)
-    requires word { IsOpen (extent_of (heads_of cells.old)) at }
-    requires fits { IsWordSize head.size }
-    ensures heads { head_at (heads_of cells.new) ≡ update (head_at (heads_of cells.old)) at head }
-    ensures feet { foot_at (feet_of cells.new) ≡ foot_at (feet_of cells.old) }
-    ensures extent { extent_of cells.new ≡ extent_of cells.old }
-{
-    let foot = cells.get(at).foot;
-    let head = head.packed();
-    cells.set(at, Cell { head, foot });
 }
 
 /// Writes a value where the foot of a tile is, if that is free.

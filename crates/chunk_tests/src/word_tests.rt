@@ -13,6 +13,10 @@ impl Word for Mark {
     ghost UNWRITTEN = { record { number = 7 } };
 
     const UNWRITTEN: Mark = Mark { number: 7 };
+
+    fn is_unwritten(&self) -> bool {
+        self.number == 7
+    }
 }
 
 #[test]
@@ -40,5 +44,24 @@ fn words_of_pages_in_the_order_of_their_first_use(rt: HostRuntime) -> Result<(),
     assert_eq!(rt; words.get(4096).number, 7);
     assert_eq!(rt; words.get(4096 + 256).number, 7);
     assert_eq!(rt; words.get(4096 + 2032).number, 7);
+    Ok(())
+}
+
+/// A page's first word is alone, until a second one is written while it stands.
+#[test]
+fn words_of_a_page_one_after_another_and_side_by_side(rt: HostRuntime) -> Result<(), Fail> {
+    let mut words: Words<Mark> = Words::new(rt.alloc(), 4096, 4096);
+    words.open(rt.alloc(), 4096, 1024)?;
+    words.set(4096 + 16, Mark { number: 9 });
+    words.set(4096 + 512, Mark { number: 6 });
+    words.set(4096 + 16, Mark { number: 7 });
+    words.set(4096 + 48, Mark { number: 8 });
+    assert_eq!(rt; words.get(4096 + 16).number, 7);
+    assert_eq!(rt; words.get(4096 + 48).number, 8);
+    words.set(4096 + 240, Mark { number: 5 });
+    assert_eq!(rt; words.get(4096 + 16).number, 7);
+    assert_eq!(rt; words.get(4096 + 48).number, 8);
+    assert_eq!(rt; words.get(4096 + 240).number, 5);
+    assert_eq!(rt; words.get(4096 + 512).number, 6);
     Ok(())
 }

@@ -109,7 +109,7 @@ impl<K: Kernel> Thread<K> {
         self.own.names.in_row(name)
     }
 
-    /// The places of the names from 65,536 on, by name.
+    /// The places of the far names, by name.
     pub fn far(&self) -> &FarNames
         ensures { result.now ≡ (names_of self.now).far }
     {

@@ -1,8 +1,10 @@
+mod CodeLaws
 mod Filled
 mod Filling
-pub mod Opening
 mod PageLaws
 mod Passing
+mod Recoding
+mod WordLaws
+pub mod Opening
 pub mod Seeing
 pub mod Updates
-mod WordLaws

@@ -69,7 +69,7 @@ impl<T: Word> Words<T> {
     }
 
     /// Opens the words of a range, and those before it in its part. Nothing changes where memory is short, or where the part would
-    /// have 2^40 bytes or more; either is so only where there is something to open.
+    /// have more than 2,021,160,960 bytes; either is so only where there is something to open.
     pub fn open(&mut self, alloc: Global, at: u64, len: u64) -> Result<(), AllocError>
         requires { IsWithinPart (extent_of self.old) at len }
         ensures words { word_at self.new T.UNWRITTEN ≡ word_at self.old T.UNWRITTEN }

@@ -4,4 +4,4 @@ use Rattle.part_words.proofs.part.Part.len.Goals as goal
 
 pub returns : goal.returns
 returns g c =
-    sym (length-seen g.T.Word.UNWRITTEN _ c.self.inside.ranks.items c.self.inside.written.items _ c.self.view_is)
+    sym (length-seen g.T.Word.UNWRITTEN _ c.self.inside.codes.items c.self.inside.words.items _ c.self.view_is)

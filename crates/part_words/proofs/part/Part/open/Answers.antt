@@ -5,13 +5,13 @@ use Rattle.part_words.proofs.part.Part.open.Goals as goal
 
 pub returns-then-end-self-clause-ok : goal.returns-then-end-self-clause-ok
 returns-then-end-self-clause-ok g c =
-    sym (filled_enough c.args.end g.T.Word.UNWRITTEN c.args.self.now (omega (arith, c.if-end-self.true, length-seen g.T.Word.UNWRITTEN _ c.self.inside.ranks.items c.self.inside.written.items _ c.self.view_is)))
+    sym (filled_enough c.args.end g.T.Word.UNWRITTEN c.args.self.now (omega (arith, c.if-end-self.true, length-seen g.T.Word.UNWRITTEN _ c.self.inside.codes.items c.self.inside.words.items _ c.self.view_is)))
 
 pub returns-in_err-make_room_for_pages-clause-full : goal.returns-in_err-make_room_for_pages-clause-full
 returns-in_err-make_room_for_pages-clause-full g c =
-    on_err c.from_residual.result (omega (arith, c.if-end-self.false, length-seen g.T.Word.UNWRITTEN _ c.self.inside.ranks.items c.self.inside.written.items _ c.self.view_is))
+    on_err c.from_residual.result (omega (arith, c.if-end-self.false, length-seen g.T.Word.UNWRITTEN _ c.self.inside.codes.items c.self.inside.words.items _ c.self.view_is))
 
 pub returns-clause-ok : goal.returns-clause-ok
 returns-clause-ok g c =
-    let e = c.in_ok-make_room_for_pages.ensures.ranks in
-    rw (e, c.make_room_for_pages.ensures.written) (seen_longer g.T.Word.UNWRITTEN _ c.args.end _ c.self.inside.ranks.items c.self.inside.written.items _ _ c.self.view_is c.self.invariant (omega (arith, c.if-end-self.false)))
+    let e = c.in_ok-make_room_for_pages.ensures.codes in
+    rw (e, c.make_room_for_pages.ensures.words) (seen_longer g.T.Word.UNWRITTEN _ c.args.end _ c.self.inside.codes.items c.self.inside.words.items _ _ c.self.view_is c.self.invariant (omega (arith, c.if-end-self.false)))
