@@ -1,12 +1,13 @@
 """The traces of `compare` and `flat`, by kind.
 
 A trace frees and takes names that are picked at random, so half of them are live. In `cached` the thread's cache takes the
-sizes back always; in `small` sizes are up to 128; in `queue` too, but the oldest block is freed each time; in `mixed` they
-are spread over all bins; in `calloc` calloc takes every second of such blocks, and in `aligned` posix_memalign takes them;
-in `vector` realloc makes blocks larger by half until they are freed. With a number behind it, as in `mixed/4`, the names
-are spread over so many threads, each of which hands on one in eight blocks by a tray, while there are trays, and another
-frees it. In `equals` large blocks of one size, each between small ones, are taken, freed and taken again. A trace in which a
-thread has more names than version 1 has is of version 2.
+sizes back always; in `small` sizes are up to 128; in `queue` too, but the oldest block is freed each time; in `medium` they
+are up to 1,000, so 100,000 blocks nearly fill main's window; in `mixed` they are spread over all bins; in `calloc` calloc
+takes every second of such blocks, and in `aligned` posix_memalign takes them; in `vector` realloc makes blocks larger by
+half until they are freed. With a number behind it, as in `mixed/4`, the names are spread over so many threads, each of which
+hands on one in eight blocks by a tray, while there are trays, and another frees it. In `equals` large blocks of one size,
+each between small ones, are taken, freed and taken again. A trace in which a thread has more names than version 1 has is of
+version 2.
 """
 import random
 from collections import deque
@@ -32,6 +33,10 @@ def small_block(pick, name):
     return f"m {name} {pick.randint(0, 128)}"
 
 
+def medium_block(pick, name):
+    return f"m {name} {pick.randint(0, 1000)}"
+
+
 def mixed_block(pick, name):
     return f"m {name} {mixed_size(pick)}"
 
@@ -53,8 +58,8 @@ def vector_block(_pick, name):
 
 
 BLOCKS = {
-    "cached": cached_block, "small": small_block, "queue": small_block, "mixed": mixed_block, "calloc": calloc_block,
-    "aligned": aligned_block, "vector": vector_block,
+    "cached": cached_block, "small": small_block, "queue": small_block, "medium": medium_block, "mixed": mixed_block,
+    "calloc": calloc_block, "aligned": aligned_block, "vector": vector_block,
 }
 
 
