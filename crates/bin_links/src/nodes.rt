@@ -42,6 +42,9 @@ impl Word for LinkCodes {
 /// How many bins there are, and the first number that isn't a bin's own node.
 pub const BINS: u64 = 127;
 
+/// The words of a page: those of 1,024 bytes, since free chunks lie further apart than chunks do.
+const PAGE: usize = 64;
+
 /// The first code that counts from where the second part begins, and how many such codes there are.
 const FAR: u64 = 0x8000_0000;
 
@@ -60,7 +63,7 @@ pub struct Nodes {
     base: u64,
     /// The words from the beginning of one part to that of the next.
     width: u64,
-    words: Words<LinkCodes>,
+    words: Words<LinkCodes, PAGE>,
     ghost whole: { vec_len own ≡ 127 },
     ghost coded: { AreCoded base width (extent_of words) },
     ghost marks: { AreMarked map base width own.items },

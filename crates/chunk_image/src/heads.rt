@@ -33,6 +33,9 @@ impl Word for Cell {
     }
 }
 
+/// The words of a page: those of 256 bytes, in which most often one tile begins.
+pub(crate) const PAGE: usize = 16;
+
 /// What stands at the beginning of a tile (glibc's size word, with its flags).
 #[derive(Clone, Copy, Debug, PartialEq, Eq)]
 pub(crate) struct Head {
@@ -93,7 +96,7 @@ fn unpacked(word: u32) -> Head
 }
 
 /// The head of an address.
-pub(crate) fn read_head(cells: &Words<Cell>, at: u64) -> Head
+pub(crate) fn read_head(cells: &Words<Cell, PAGE>, at: u64) -> Head
     requires { IsOpen (extent_of (heads_of cells.now)) at }
     ensures { result ≡ head_at (heads_of cells.now) at }
 {
@@ -101,7 +104,7 @@ pub(crate) fn read_head(cells: &Words<Cell>, at: u64) -> Head
 }
 
 /// The foot of an address.
-pub(crate) fn read_foot(cells: &Words<Cell>, at: u64) -> u64
+pub(crate) fn read_foot(cells: &Words<Cell, PAGE>, at: u64) -> u64
     requires { IsOpen (extent_of (feet_of cells.now)) at }
     ensures { result ≡ foot_at (feet_of cells.now) at }
 {
@@ -110,7 +113,7 @@ pub(crate) fn read_foot(cells: &Words<Cell>, at: u64) -> u64
 
 /// Writes the head of an address. The feet go with it: that of the tile that was there, if it was free, is cleared. The word
 /// of the address is read once.
-pub(crate) fn put(cells: &mut Words<Cell>, at: u64, head: Head)
+pub(crate) fn put(cells: &mut Words<Cell, PAGE>, at: u64, head: Head)
     requires kept { IsKept (heads_of cells.old) (feet_of cells.old) }
     requires stands { CanStand (heads_of cells.old) at head }
     ensures heads { head_at (heads_of cells.new) ≡ update (head_at (heads_of cells.old)) at head }
@@ -130,7 +133,7 @@ pub(crate) fn put(cells: &mut Words<Cell>, at: u64, head: Head)
 }
 
 /// Writes a value where the foot of a tile is, if that is free.
-fn write_foot(cells: &mut Words<Cell>, at: u64, head: Head, value: u64)
+fn write_foot(cells: &mut Words<Cell, PAGE>, at: u64, head: Head, value: u64)
     requires word { is_free_head head ≡ true
         → IsOpen (extent_of (feet_of cells.old)) (at + head.size) × (at + head.size < 2 ^ 64) }
     requires fits { IsWordSize value }

@@ -6,7 +6,7 @@ ghost use Rattle.part_words.specs.Extents.{extended, IsWithinPart};
 ghost use Rattle.chunk_image.specs.Rows.{no_tiles, free_before_of, tile_ending, IsRoom, IsWordSize};
 ghost use Rattle.chunk_image.specs.Heads.{tiles_with};
 
-use crate::heads::{Cell, Head, put, read_foot, read_head};
+use crate::heads::{Cell, Head, PAGE, put, read_foot, read_head};
 use chunk_tags::{Addr, NoMemory, Size, Tile, TileKind};
 use part_words::Words;
 use std::alloc::Global;
@@ -17,7 +17,7 @@ use std::marker::Model;
 /// tile has less than 16 GiB. Each call takes constant time, but `tiles` and `open`.
 #[derive(Drop)]
 pub struct TileWords {
-    cells: Words<Cell>,
+    cells: Words<Cell, PAGE>,
 }
 
 impl Model for TileWords {

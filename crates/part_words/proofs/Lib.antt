@@ -2,8 +2,10 @@ mod CodeLaws
 mod Filled
 mod Filling
 mod PageLaws
+mod PoolLaws
 mod Passing
 mod Recoding
+mod SlotLaws
 mod WordLaws
 pub mod Opening
 pub mod Seeing

@@ -1,89 +1,123 @@
--- A page gets a place for one more word.
-use Rattle.std.proofs.Common.{◌≡◌, ℕ, ◌+◌, ◌*◌, ◌/◌, ◌%◌, ◌<◌, Some, List, ◌++◌, length, replicate, get_or, set, sym, ap, ◌∙◌, refl, inl, inr, arith}
+-- What is written into a page.
+use Rattle.std.proofs.Common.{◌≡◌, ℕ, ◌+◌, ◌-◌, ◌*◌, ◌/◌, ◌%◌, ◌<◌, ◌≤◌, Some, sym, ap, ◌∙◌, inl, inr, arith}
 use Rattle.std.proofs.lemmas.Bool.{cases_eq}
-use Rattle.std.proofs.lemmas.List.{length-set, length-append, length-replicate, get_or_past, get_or-set_same, get_or-set_other, get_or_append_left}
-use Rattle.part_words.specs.Pages.{page, starts, place_in, read_at, Recodes}
-use Rattle.part_words.proofs.CodeLaws.{in_whole, in_lone, in_neither, placed, taken_whole, taken_lone, IsLone, lone_offset, lone_placed}
-use Rattle.part_words.proofs.Filled.{get_or-more}
+use Rattle.part_words.specs.Slots.{Slots, word_in, Sets, Takes, Gives}
+use Rattle.part_words.specs.Pages.{slots, lone_slot, whole_slot, page_word, Trades, Recodes}
+use Rattle.part_words.proofs.CodeLaws.{whole_some, whole_none, lone_some, lone_none, word_whole, word_lone, word_none}
+use Rattle.part_words.proofs.PageLaws.{Writes}
+use Rattle.part_words.proofs.PoolLaws.{trades_same, trades_from, trades_after, trades_before, trades_gives, trades_takes}
 
--- a word that hasn't the page's one place is as if never written
-other_word : {T : Type 0} (none : T) (ws : List T) (code offset x : ℕ) → IsLone code offset → (code / starts ≡ page + x → ⊥) → read_at none ws (place_in code x) ≡ none
-other_word none ws code offset x h other = ap (read_at none ws) (in_neither code x h.whole other)
+-- the code of a page with a slot
+pub record HasCode (code kind slot : ℕ) : Type 0 where
+  pub kind_is : code / slots ≡ kind
+  pub slot_is : code % slots ≡ slot
 
--- and no word is anything else lies what stands there is
-was_unwritten : {T : Type 0} (none : T) (ws : List T) (code offset x : ℕ) → IsLone code offset → get_or ws (code % starts) none ≡ none → read_at none ws (place_in code x) ≡ none
-was_unwritten none ws code offset x h empty =
-    elim (cases_eq (code / starts) (page + x)) [
-      | inl e ↦ ap (read_at none ws) (in_lone code x e) ∙ empty
-      | inr other ↦ other_word none ws code offset x h other
-    ]
+pub has_code : (kind slot : ℕ) → slot < slots → HasCode (kind * slots + slot) kind slot
+has_code kind slot lt = record { kind_is = omega (arith, lt); slot_is = omega (arith, lt) }
 
--- the code by which a word alone has a place
-record Lone (code offset start : ℕ) : Type 0 where
-  pub kind : code / starts ≡ page + offset
-  pub begins : code % starts ≡ start
-
-lone : (offset start : ℕ) → start < starts → Lone ((page + offset) * starts + start) offset start
-lone offset start lt = record { kind = omega (arith, lt); begins = omega (arith, lt) }
-
--- the place of a word that is as if never written goes to another of its page
-pub lone_moves : {T : Type 0} (none : T) (ws : List T) (code offset : ℕ) → IsLone code offset → offset < page → code % starts < length ws → get_or ws (code % starts) none ≡ none → Recodes none ws code offset ws ((page + offset) * starts + code % starts)
-lone_moves none ws code offset h lt there empty =
-    let new = (page + offset) * starts + code % starts in
-    let l : Lone new offset (code % starts) = lone offset (code % starts) (omega arith) in
-    let here = in_lone new offset l.kind ∙ ap Some l.begins in
+-- the word that alone is written becomes again as if never written
+pub ends : {T : Type 0} (none : T) (page code : ℕ) (lone whole mid l : Slots T) (offset : ℕ) (value : T) → 1 < page → code / slots ≡ page + offset → Sets none 1 lone (code % slots) 0 value mid → Gives mid (code % slots) l → value ≡ none → Writes none page code lone whole offset value 0 l whole
+ends none page code lone whole mid l offset value some kind s g unwritten =
+    let has = lone_some page code (omega (arith, kind)) in
     record {
-      here = rw here refl;
-      coded = λ some whole. (omega (arith, l.kind), omega (arith, l.kind, lt));
-      count = rw (taken_lone code h.some h.whole, taken_lone new (λ z. omega (arith, l.kind, z)) (λ w. omega (arith, l.kind, w))) refl;
-      more = omega arith;
-      kept = λ n below. refl;
-      there = λ x place below e. elim (placed new x place e) [
-        | inl a ↦ absurd (omega (arith, a.0, l.kind))
-        | inr a ↦ omega (arith, a.1, l.begins, there)
-      ];
-      own = λ x place e below. elim (placed new x place e) [
-        | inl a ↦ absurd (omega (arith, a.0, l.kind))
-        | inr a ↦ (lone_offset code, omega (arith, h.low, h.high), lone_placed code offset h ∙ ap Some (sym (a.1 ∙ l.begins)))
-      ];
-      same = λ x below. elim (cases_eq x offset) [
-        | inl e ↦ rw e (ap (read_at none ws) here ∙ (empty ∙ sym (was_unwritten none ws code offset offset h empty)))
-        | inr other ↦ ap (read_at none ws) (in_neither new x (λ w. omega (arith, l.kind, w)) (λ e. other (omega (arith, l.kind, e)))) ∙ sym (was_unwritten none ws code offset x h empty)
+      recodes = record {
+        lone_trade = trades_after none 1 (lone_slot page) code 0 (code % slots) 0 value lone mid l has s (trades_gives none 1 (lone_slot page) code 0 (code % slots) mid l has (lone_none page 0 (omega (arith, some))) g);
+        whole_trade = trades_same none page whole_slot code 0 whole (sym (whole_none code (λ e. omega (arith, e, some, kind))));
+        needed = record { kind = omega (arith, some); alone = λ le. absurd (omega (arith, le, some)); two = λ e. absurd (omega (arith, e)) };
+      };
+      written = word_none none page 0 l whole offset (λ e. omega (arith, e)) (λ e. omega (arith, e, some)) ∙ sym unwritten;
+      others = λ x within apart. word_none none page 0 l whole x (λ e. omega (arith, e)) (λ e. omega (arith, e, some)) ∙ sym (word_none none page code lone whole x (λ e. omega (arith, e, some, kind)) (λ e. apart (omega (arith, e, kind))));
+    }
+
+-- a whole page may get another code, and no word of it changes
+pub record Narrows {T : Type 0} (none : T) (page code : ℕ) (lone whole : Slots T) (recode : ℕ) (l w : Slots T) : Type 0 where
+  pub recodes : Recodes none page code lone whole recode l w
+  pub words : (x : ℕ) → x < page → page_word none page recode l w x ≡ page_word none page code lone whole x
+
+-- where one word of it is written it has a slot for that one
+pub narrows_lone : {T : Type 0} (none : T) (page code recode : ℕ) (lone whole mid l w : Slots T) (first : ℕ) (value : T) → 1 < page → first < page → code / slots ≡ 1 → ((x : ℕ) → x < page → (x ≡ first → ⊥) → word_in none page whole.words (code % slots) x ≡ none) → value ≡ word_in none page whole.words (code % slots) first → (value ≡ none → ⊥) → Sets none page whole (code % slots) first none mid → Gives mid (code % slots) w → recode / slots ≡ page + first → Trades none 1 (lone_slot page) 0 recode lone l → word_in none 1 l.words (recode % slots) 0 ≡ value → Narrows none page code lone whole recode l w
+narrows_lone none page code recode lone whole mid l w first value some below kind clear is written s g new_kind t word =
+    let has = whole_some code kind in
+    record {
+      recodes = record {
+        lone_trade = trades_from none 1 (lone_slot page) code 0 recode lone l (lone_none page code (omega (arith, some, kind)) ∙ sym (lone_none page 0 (omega (arith, some)))) t;
+        whole_trade = trades_after none page whole_slot code recode (code % slots) first none whole mid w has s (trades_gives none page whole_slot code recode (code % slots) mid w has (whole_none recode (λ e. omega (arith, e, some, new_kind))) g);
+        needed = record { kind = omega (arith, below, new_kind); alone = λ le e. written (sym word ∙ e); two = λ e. absurd (omega (arith, e, some, new_kind)) };
+      };
+      words = λ x within. elim (cases_eq x first) [
+        | inl e ↦ rw e (word_lone none page recode l w first some new_kind ∙ (word ∙ (is ∙ sym (word_whole none page code lone whole first kind))))
+        | inr other ↦ word_none none page recode l w x (λ e. omega (arith, e, some, new_kind)) (λ e. other (omega (arith, e, new_kind))) ∙ sym (word_whole none page code lone whole x kind ∙ clear x within other)
       ];
     }
 
--- all words of a page get places
-pub all_placed : {T : Type 0} (none : T) (ws more : List T) (code offset len at : ℕ) (x : T) → IsLone code offset → code % starts < length ws → x ≡ get_or ws (code % starts) none → more ≡ ws ++ replicate page none → len ≡ length ws → len < starts → at ≡ len + lone_offset code → Recodes none ws code offset (set more at x) (starts + len)
-all_placed none ws more code offset len at x h there is add count few lies =
-    let new = starts + len in
-    let kind : new / starts ≡ 1 = omega (arith, few) in
-    let start : new % starts ≡ len = omega (arith, few) in
-    let long : length (set more at x) ≡ length ws + page = length-set more at x ∙ (ap length add ∙ (length-append ws (replicate page none) ∙ ap (λ n. length ws + n) (length-replicate page none))) in
-    let long_more : length more ≡ length ws + page = sym (length-set more at x) ∙ long in
+-- after a word of it was written
+pub writes_narrowed : {T : Type 0} (none : T) (page code recode : ℕ) (lone whole mid l w : Slots T) (offset : ℕ) (value : T) → offset < page → code / slots ≡ 1 → Sets none page whole (code % slots) offset value mid → Narrows none page code lone mid recode l w → Writes none page code lone whole offset value recode l w
+writes_narrowed none page code recode lone whole mid l w offset value below kind s n =
     record {
-      here = rw (in_whole new offset kind) refl;
-      coded = λ some whole. absurd (whole kind);
-      count = rw (taken_lone code h.some h.whole, taken_whole new kind) (omega (arith, long));
-      more = omega (arith, long);
-      kept = λ n below. get_or-set_other more at n x none (λ e. omega (arith, e, lies, count, below)) ∙ (ap (λ l. get_or l n none) add ∙ get_or_append_left ws (replicate page none) none n below);
-      there = λ y place below e. elim (placed new y place e) [
-        | inl a ↦ omega (arith, a.1, start, long, count, below)
-        | inr a ↦ absurd (omega (arith, a.0, kind))
-      ];
-      own = λ y place e below. elim (placed new y place e) [
-        | inl a ↦ absurd (omega (arith, a.1, start, count, below))
-        | inr a ↦ absurd (omega (arith, a.0, kind))
-      ];
-      same = λ y below. ap (read_at none (set more at x)) (in_whole new y kind) ∙ elim (cases_eq y (lone_offset code)) [
-        | inl e ↦
-            let here : new % starts + y ≡ at = omega (arith, start, lies, e) in
-            rw here (get_or-set_same more at x none (omega (arith, long_more, lies, count, h.high)) ∙ (is ∙ sym (ap (read_at none ws) (ap (place_in code) e ∙ lone_placed code offset h))))
-        | inr other ↦
-            let apart : new % starts + y ≡ at → ⊥ = λ e. other (omega (arith, start, lies, e)) in
-            get_or-set_other more at (new % starts + y) x none apart
-            ∙ (ap (λ l. get_or l (new % starts + y) none) add
-            ∙ (get_or-more page none ws (new % starts + y)
-            ∙ (get_or_past ws (new % starts + y) none (omega (arith, start, count))
-            ∙ sym (other_word none ws code offset y h (λ e. other (omega (arith, e)))))))
-      ];
+      recodes = record {
+        lone_trade = n.recodes.lone_trade;
+        whole_trade = trades_after none page whole_slot code recode (code % slots) offset value whole mid w (whole_some code kind) s n.recodes.whole_trade;
+        needed = n.recodes.needed;
+      };
+      written = n.words offset below ∙ (word_whole none page code lone mid offset kind ∙ s.here);
+      others = λ x within apart. n.words x within ∙ (word_whole none page code lone mid x kind ∙ (s.others (code % slots) x within (λ same. apart) ∙ sym (word_whole none page code lone whole x kind)));
+    }
+
+-- a page of one word gets a second
+pub record Widening {T : Type 0} (none : T) (page code : ℕ) (lone whole mid l w v u : Slots T) (offset : ℕ) (value word : T) (recode slot : ℕ) : Type 0 where
+  pub some : 1 < page
+  pub low : page ≤ code / slots
+  pub high : code / slots < page + page
+  pub other : code / slots ≡ page + offset → ⊥
+  pub within : offset < page
+  pub is : word ≡ word_in none 1 lone.words (code % slots) 0
+  pub word_written : word ≡ none → ⊥
+  pub written : value ≡ none → ⊥
+  pub cleared : Sets none 1 lone (code % slots) 0 none mid
+  pub given : Gives mid (code % slots) l
+  pub taken : Takes none page whole slot w
+  pub first : Sets none page w slot (code / slots - page) word v
+  pub second : Sets none page v slot offset value u
+  pub has : HasCode recode 1 slot
+
+abbrev first_of : ℕ → ℕ → ℕ
+first_of page code = code / slots - page
+
+first_read : {T : Type 0} (none : T) (page code : ℕ) (lone whole mid l w v u : Slots T) (offset : ℕ) (value word : T) (recode slot : ℕ) → Widening none page code lone whole mid l w v u offset value word recode slot → word_in none page u.words slot (first_of page code) ≡ word
+first_read none page code lone whole mid l w v u offset value word recode slot h =
+    h.second.others slot (first_of page code) (omega (arith, h.high)) (λ same e. h.other (omega (arith, e, h.low))) ∙ h.first.here
+
+rest_read : {T : Type 0} (none : T) (page code : ℕ) (lone whole mid l w v u : Slots T) (offset : ℕ) (value word : T) (recode slot x : ℕ) → Widening none page code lone whole mid l w v u offset value word recode slot → x < page → (x ≡ offset → ⊥) → (x ≡ first_of page code → ⊥) → word_in none page u.words slot x ≡ none
+rest_read none page code lone whole mid l w v u offset value word recode slot x h within apart other =
+    h.second.others slot x within (λ same. apart) ∙ (h.first.others slot x within (λ same. other) ∙ h.taken.clear x within)
+
+pub widens : {T : Type 0} (none : T) (page code : ℕ) (lone whole mid l w v u : Slots T) (offset : ℕ) (value word : T) (recode slot : ℕ) → Widening none page code lone whole mid l w v u offset value word recode slot → Writes none page code lone whole offset value recode l u
+widens none page code lone whole mid l w v u offset value word recode slot h =
+    let kind = h.has.kind_is in
+    let has_lone = lone_some page code h.low in
+    let has_whole : whole_slot recode ≡ Some slot = whole_some recode kind ∙ ap Some h.has.slot_is in
+    let first = first_read none page code lone whole mid l w v u offset value word recode slot h in
+    record {
+      recodes = record {
+        lone_trade = trades_after none 1 (lone_slot page) code recode (code % slots) 0 none lone mid l has_lone h.cleared (trades_gives none 1 (lone_slot page) code recode (code % slots) mid l has_lone (lone_none page recode (omega (arith, h.some, kind))) h.given);
+        whole_trade = trades_before none page whole_slot code recode slot offset value whole v u has_whole (trades_before none page whole_slot code recode slot (first_of page code) word whole w v has_whole (trades_takes none page whole_slot code recode slot whole w (whole_none code (λ e. omega (arith, e, h.some, h.low))) has_whole h.taken) h.first) h.second;
+        needed = record {
+          kind = omega (arith, h.some, kind);
+          alone = λ le. absurd (omega (arith, le, h.some, kind));
+          two = λ e. rw h.has.slot_is (record {
+            first = first_of page code;
+            second = offset;
+            apart = λ e. h.other (omega (arith, e, h.low));
+            first_within = omega (arith, h.high);
+            second_within = h.within;
+            first_written = λ e. h.word_written (sym first ∙ e);
+            second_written = λ e. h.written (sym h.second.here ∙ e);
+          });
+        };
+      };
+      written = word_whole none page recode l u offset kind ∙ rw h.has.slot_is h.second.here;
+      others = λ x within apart. word_whole none page recode l u x kind ∙ rw h.has.slot_is (elim (cases_eq x (first_of page code)) [
+        | inl e ↦ ap (word_in none page u.words slot) e ∙ (first ∙ (h.is ∙ sym (word_lone none page code lone whole x h.some (omega (arith, e, h.low)))))
+        | inr other ↦ rest_read none page code lone whole mid l w v u offset value word recode slot x h within apart other ∙ sym (word_none none page code lone whole x (λ e. omega (arith, e, h.some, h.low)) (λ e. other (omega (arith, e, h.low))))
+      ]);
     }

@@ -61,7 +61,7 @@ set_in_other {T} ps q r i j x d hq ne =
     ]
 
 -- two numbers with the same part and place are one
-same_number : (w m n : ℕ) → m / w ≡ n / w → m % w ≡ n % w → m ≡ n
+pub same_number : (w m n : ℕ) → m / w ≡ n / w → m % w ≡ n % w → m ≡ n
 same_number w m n p q = sym (div-add-mod m w) ∙ (ap (λ k. w * k + m % w) p ∙ (ap (λ k. w * (n / w) + k) q ∙ div-add-mod n w))
 
 cond_same : {X : Type 0} (b : Bool) (x y d : X) → (b ≡ true → x ≡ y) → cond b x d ≡ cond b y d

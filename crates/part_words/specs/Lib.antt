@@ -1,3 +1,4 @@
 pub mod Extents
 pub mod Pages
 pub mod Parts
+pub mod Slots

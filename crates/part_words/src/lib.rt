@@ -3,6 +3,7 @@
 #![tactic(auto)]
 
 mod part;
+mod slots;
 mod word;
 mod words;
 

@@ -2,6 +2,7 @@
 
 ghost use Rattle.std.specs.Prelude.{◌≡◌, ◌≢◌, ℕ, ◌*◌, ◌/◌, ◌%◌, MatchOption, IfSome, IfNone, ◌+◌, ◌-◌, ◌<◌, ◌≤◌, ◌^◌, ◌++◌, [], max, length, map, replicate, OnOk, OnErr};
 ghost use Rattle.part_words.specs.Extents.{extended, changed_at, IsOpen, IsWithinPart};
+ghost use Rattle.part_words.specs.Pages.{IsPageSize};
 ghost use Rattle.part_words.specs.Parts.{no_words, word_at, update, extent_of, filled};
 
 use crate::part::Part;
@@ -10,17 +11,19 @@ use std::alloc::{AllocError, Global};
 use std::marker::Model;
 
 /// One word for each 16 bytes of address space (this project's own). The words lie in parts, which begin at equal distances,
-/// the first of them at `base`; a part is open from its beginning up to some word.
+/// the first of them at `base`; a part is open from its beginning up to some word. They stand in pages of `PAGE`: a page of
+/// which no word is written takes 4 bytes, one with a lone word that word's too, and any other those of all its words.
 #[derive(Debug, Drop)]
-pub struct Words<T: Word> {
+pub struct Words<T: Word, const PAGE: usize> {
     base: u64,
     /// The words from the beginning of one part to that of the next.
     width: u64,
-    parts: Vec<Part<T>>,
+    parts: Vec<Part<T, PAGE>>,
 }
 
-impl<T: Word> Model for Words<T> {
+impl<T: Word, const PAGE: usize> Model for Words<T, PAGE> {
     ghost use Rattle.std.specs.Prelude.{◌<◌};
+    ghost use Rattle.part_words.specs.Pages.{IsPageSize};
     ghost use Rattle.part_words.specs.Parts.{Parts};
 
     ghost Value = { Parts T };
@@ -31,13 +34,14 @@ impl<T: Word> Model for Words<T> {
       parts = s.parts.items;
     } };
 
-    ghost invariant = { λ s. 0 < s.width };
+    ghost invariant = { λ s. record { width : 0 < s.width; page : IsPageSize PAGE } };
 }
 
-impl<T: Word> Words<T> {
+impl<T: Word, const PAGE: usize> Words<T, PAGE> {
     /// No words. Parts begin at `base`, and every `stride` bytes after it, rounded down to whole words.
-    pub fn new(alloc: Global, base: u64, stride: u64) -> Words<T>
-        requires { 16 ≤ stride }
+    pub fn new(alloc: Global, base: u64, stride: u64) -> Words<T, PAGE>
+        requires page { IsPageSize PAGE }
+        requires stride { 16 ≤ stride }
         ensures { result ≡ no_words base stride }
     {
         Words {
@@ -69,7 +73,7 @@ impl<T: Word> Words<T> {
     }
 
     /// Opens the words of a range, and those before it in its part. Nothing changes where memory is short, or where the part would
-    /// have more than 2,021,160,960 bytes; either is so only where there is something to open.
+    /// have more than 33,554,432 pages; either is so only where there is something to open.
     pub fn open(&mut self, alloc: Global, at: u64, len: u64) -> Result<(), AllocError>
         requires { IsWithinPart (extent_of self.old) at len }
         ensures words { word_at self.new T.UNWRITTEN ≡ word_at self.old T.UNWRITTEN }
@@ -137,13 +141,14 @@ fn address(base: u64, width: u64, part: u64, place: u64) -> Option<u64>
 }
 
 /// Opens a part up to `end` words. Where memory is short, empty parts may have come.
-fn open_part<T: Word>(
-    parts: &mut Vec<Part<T>>,
+fn open_part<T: Word, const PAGE: usize>(
+    parts: &mut Vec<Part<T, PAGE>>,
     alloc: Global,
     part: usize,
     end: usize,
 ) -> Result<(), AllocError>
-    requires { part < 2 ^ 60 }
+    requires page { IsPageSize PAGE }
+    requires part { part < 2 ^ 60 }
     ensures ok { OnOk result (parts.new.items
         ≡ changed_at [] part (filled end T.UNWRITTEN) parts.old.items) }
     ensures err { OnErr result (parts.new.items
@@ -159,11 +164,12 @@ fn open_part<T: Word>(
 }
 
 /// Adds empty parts up to a count.
-fn add_parts<T: Word>(
-    parts: &mut Vec<Part<T>>,
+fn add_parts<T: Word, const PAGE: usize>(
+    parts: &mut Vec<Part<T, PAGE>>,
     alloc: Global,
     count: usize,
 ) -> Result<(), AllocError>
+    requires { IsPageSize PAGE }
     ensures ok { OnOk result (length parts.new.items ≡ max count (length parts.old.items)) }
     ensures items { parts.new.items
         ≡ parts.old.items

@@ -1,4 +1,4 @@
-use Rattle.std.proofs.Common.{ap, ◌∙◌, refl}
+use Rattle.std.proofs.Common.{ap, ◌∙◌, refl, arith}
 use Rattle.chunk_image.specs.Heads.{no_cell}
 use Rattle.chunk_image.specs.declared.heads.Cell.{Cell}
 use Rattle.part_words.proofs.Opening.{IsOpen-covers}
@@ -7,10 +7,10 @@ use Rattle.chunk_image.proofs.HeadLaws.{IsKept-put, IsOpen-foot}
 use Rattle.chunk_image.proofs.heads.put.Goals as goal
 
 pub get-cell-requires : goal.get-cell-requires
-get-cell-requires c = rw (extent_of-heads c.args.cells.now) at c.requires.stands.place
+get-cell-requires c = (omega arith, rw (extent_of-heads c.args.cells.now) at c.requires.stands.place)
 
 pub set-requires : goal.set-requires
-set-requires c = rw (extent_of-heads c.args.cells.now) at c.requires.stands.place
+set-requires c = (omega arith, rw (extent_of-heads c.args.cells.now) at c.requires.stands.place)
 
 pub write_foot-requires-clause-word : goal.write_foot-requires-clause-word
 write_foot-requires-clause-word c =

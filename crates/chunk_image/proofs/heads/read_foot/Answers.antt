@@ -1,10 +1,10 @@
-use Rattle.std.proofs.Common.{sym}
+use Rattle.std.proofs.Common.{sym, arith}
 use Rattle.chunk_image.specs.Heads.{no_cell}
 use Rattle.chunk_image.proofs.CellLaws.{extent_of-feet, foot_at-cells}
 use Rattle.chunk_image.proofs.heads.read_foot.Goals as goal
 
 pub get-requires : goal.get-requires
-get-requires c = rw (extent_of-feet c.args.cells.now) at c.requires
+get-requires c = (omega arith, rw (extent_of-feet c.args.cells.now) at c.requires)
 
 pub returns : goal.returns
 returns c =

@@ -6,10 +6,10 @@ use Rattle.chunk_image.proofs.CellLaws.{extent_of-feet, heads_same, feet_written
 use Rattle.chunk_image.proofs.heads.write_foot.Goals as goal
 
 pub get-head-requires : goal.get-head-requires
-get-head-requires c = rw (extent_of-feet c.args.cells.now) at (c.requires.word (sym c.if-is_free.ensures)).0
+get-head-requires c = (omega arith, rw (extent_of-feet c.args.cells.now) at (c.requires.word (sym c.if-is_free.ensures)).0)
 
 pub set-requires : goal.set-requires
-set-requires c = rw (extent_of-feet c.args.cells.now) at (c.requires.word (sym c.if-is_free.ensures)).0
+set-requires c = (omega arith, rw (extent_of-feet c.args.cells.now) at (c.requires.word (sym c.if-is_free.ensures)).0)
 
 pub returns-then-is_free-clause-heads : goal.returns-then-is_free-clause-heads
 returns-then-is_free-clause-heads c =

@@ -9,7 +9,7 @@ use Rattle.part_words.proofs.words.Words.next_open.Goals.{After-len}
 pub loop-part-init : goal.loop-part-init
 loop-part-init g c =
     let n = rounded_up (c.args.at - c.self.inside.base) c.div_ceil-word.result (c.div_ceil-word.ensures ∙ ap (λ x. div_ceil x 16) c.saturating_sub.ensures) in
-    rw (← c.self.view_is) (passed_none _ c.args.at c.div_ceil-word.result c.self.invariant n.0 n.1)
+    rw (← c.self.view_is) (passed_none _ c.args.at c.div_ceil-word.result c.self.invariant.width n.0 n.1)
 
 count : (g : _) → (c : After-len g) → get_or (extent_of c.args.self.now).words c.loop-part.part 0 ≡ c.len.result
 count g c =
