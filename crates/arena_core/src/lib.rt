@@ -4,6 +4,7 @@
 //! All of it stands on any `Moves`; the program's is `Ground` of arena_ground.
 #![tactic(auto)]
 
+mod answer_bytes;
 mod arena;
 mod brief;
 mod entries;
@@ -11,8 +12,12 @@ mod entry;
 #[cfg(test)]
 mod examples;
 mod journal;
+#[cfg(test)]
+mod journal_tests;
 mod lists;
 mod reading;
+#[cfg(test)]
+mod row_tests;
 mod searching;
 mod take;
 

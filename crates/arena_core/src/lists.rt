@@ -1,10 +1,11 @@
 //! The lists that a journal consists of.
 
-ghost use Rattle.std.specs.Prelude.{◌≡◌, ◌<◌, ◌≤◌, ◌+◌, [], ◌∷◌, ◌++◌, true, false, length, map, OnOk, OnErr, OnSome, IfOk, IfSome, IfNone, vec_len, vec_capacity};
+ghost use Rattle.std.specs.Prelude.{◌≡◌, ◌<◌, ◌≤◌, ◌+◌, [], ◌∷◌, ◌++◌, take, length, OnOk, OnErr, OnSome, IfOk, IfSome, IfNone, vec_len, vec_capacity};
 ghost use Rattle.arena_core.specs.Arenas.{recorded};
-ghost use Rattle.arena_core.specs.Kept.{said_of, most_brief, IsRowOf};
+ghost use Rattle.arena_core.specs.Kept.{most_bytes, Tells, IsBrief};
 
-use crate::brief::{Row, brief_of, row_of};
+use crate::answer_bytes::{WORD_BYTES, append_word};
+use crate::brief::{Row, brief_of, lead_of, row_of};
 use crate::entry::Entry;
 use crate::journal::{Act, Ended, Who};
 use crate::reading::Entries;
@@ -15,73 +16,91 @@ use std::alloc::Global;
 use std::marker::Model;
 use std::mem;
 
-/// An entry with more answers is kept whole (this project's own).
-const MOST_BRIEF: usize = 32;
+/// A row can count no more bytes (this project's own).
+const MOST_BYTES: usize = 255;
 
-/// What a journal consists of. Most holds are told little and nothing of the system, so their entries are kept in few bytes,
-/// and their answers one behind the other for all of them.
+/// What a journal consists of. Most holds are told little, and of the system at most that a heap grows, so their entries are kept in
+/// few bytes: a row for each, and their lead words and answers in bytes, one behind the other for all of them. Most answers take
+/// one byte. Whole are kept the entries of mappings, openings, refusals and want of memory, those with an answer to an ask other
+/// than for more of a heap, and what has too many bytes or a number that is too large for its bits.
 #[derive(Drop)]
 pub struct JournalLists {
     rows: Vec<Row>,
-    answers: Vec<u64>,
+    answers: Vec<u8>,
     whole: Vec<Entry>,
     /// An empty list for the answers of the next hold, which keeps its room from hold to hold.
     said: Vec<Said>,
 }
 
 impl Model for JournalLists {
-    ghost use Rattle.std.specs.Prelude.{map};
-    ghost use Rattle.arena_core.specs.Kept.{JournalValue, AreKept, entries_of, journal_of, said_of};
+    ghost use Rattle.arena_core.specs.Kept.{JournalValue, AreKept, entries_of, journal_of};
 
     ghost Value = { JournalValue };
 
     ghost view = { λ l. journal_of l.rows l.answers l.whole
-        (entries_of l.rows.items (map said_of l.answers.items) l.whole.items) };
+        (entries_of l.rows.items l.answers.items l.whole.items) };
 
-    ghost invariant = { λ l. AreKept l.rows.items (map said_of l.answers.items) l.whole.items };
+    ghost invariant = { λ l. AreKept l.rows.items l.answers.items l.whole.items };
 }
 
-/// Appends answers in their brief form, where each has one and there aren't too many; else nothing changes.
-fn append_brief(answers: &mut Vec<u64>, said: &[Said]) -> bool
-    requires { vec_len answers.old + most_brief ≤ vec_capacity answers.old }
-    ensures all { result ≡ true → map said_of answers.new.items
-        ≡ map said_of answers.old.items ++ said.now }
-    ensures none { result ≡ false → answers.new.items ≡ answers.old.items }
+/// Appends an act's lead word, where it has one, and its answers in bytes, and gives how many bytes these are; none where an answer
+/// has no word, or where a row might not be able to count the bytes. Those of the answers before it are there then.
+fn append_brief(answers: &mut Vec<u8>, lead: Option<u64>, said: &[Said]) -> Option<usize>
+    requires { vec_len answers.old + most_bytes ≤ vec_capacity answers.old }
+    ensures count { IfSome result (λ count. count + vec_len answers.old ≡ vec_len answers.new) }
+    ensures tells { OnSome result (Tells lead said.now answers.old.items answers.new.items) }
+    ensures before { take (vec_len answers.old) answers.new.items ≡ answers.old.items }
 {
-    if said.len() > MOST_BRIEF {
-        return false;
-    }
     let before = answers.len();
-    for answer in said {
-        let Some(brief) = brief_of(answer) else {
-            answers.truncate(before);
-            return false;
-        };
-        answers.push(brief).unwrap();
+    if let Some(word) = lead {
+        append_word(answers, word);
     }
-    true
+    for answer in said {
+        if answers.len() - before > MOST_BYTES - WORD_BYTES {
+            return None;
+        }
+        append_word(answers, brief_of(answer)?);
+    }
+    Some(answers.len() - before)
 }
 
-/// Keeps the answers of a hold in their brief form, and gives its row; where it has none nothing changes.
-fn keep_brief(
-    answers: &mut Vec<u64>,
+/// The row of a hold whose bytes were appended; none where it has no brief form.
+fn append_row(
+    answers: &mut Vec<u8>,
     who: &Who,
     act: &Act,
     said: &[Said],
     ended: &Ended,
 ) -> Option<Row>
-    requires { vec_len answers.old + most_brief ≤ vec_capacity answers.old }
-    ensures row { IfSome result (IsRowOf who.now act.now ended.now (length said.now)) }
-    ensures told { OnSome result (map said_of answers.new.items
-        ≡ map said_of answers.old.items ++ said.now) }
+    requires { vec_len answers.old + most_bytes ≤ vec_capacity answers.old }
+    ensures row { IfSome result (IsBrief (recorded who.now act.now said.now ended.now)
+        answers.old.items answers.new.items) }
+    ensures before { take (vec_len answers.old) answers.new.items ≡ answers.old.items }
+{
+    let lead = lead_of(act);
+    let told = append_brief(answers, lead, said)?;
+    row_of(who, act, ended, lead, told)
+}
+
+/// Keeps the bytes of a hold in its brief form, and gives its row; where it has none nothing changes.
+fn keep_brief(
+    answers: &mut Vec<u8>,
+    who: &Who,
+    act: &Act,
+    said: &[Said],
+    ended: &Ended,
+) -> Option<Row>
+    requires { vec_len answers.old + most_bytes ≤ vec_capacity answers.old }
+    ensures row { IfSome result (IsBrief (recorded who.now act.now said.now ended.now)
+        answers.old.items answers.new.items) }
     ensures none { IfNone result (answers.new.items ≡ answers.old.items) }
 {
-    let row = row_of(who, act, ended, said.len())?;
-    if append_brief(answers, said) {
-        Some(row)
-    } else {
-        None
+    let before = answers.len();
+    let row = append_row(answers, who, act, said, ended);
+    if row.is_none() {
+        answers.truncate(before);
     }
+    row
 }
 
 /// Puts an item behind the others, where room was made for it. No memory is asked for.
@@ -127,7 +146,7 @@ impl JournalLists {
         ensures empty { IfOk result (λ said. said.items ≡ []) }
     {
         make_room_for(&mut self.rows, 1)?;
-        make_room_for(&mut self.answers, MOST_BRIEF)?;
+        make_room_for(&mut self.answers, MOST_BYTES)?;
         make_room_for(&mut self.whole, 1)?;
         let mut said = mem::replace(&mut self.said, Vec::new(alloc));
         said.clear();

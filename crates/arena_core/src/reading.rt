@@ -1,14 +1,13 @@
 //! The entries of a journal, one by one.
 
-ghost use Rattle.std.specs.Prelude.{◌≡◌, ◌∷◌, [], ◌++◌, length, map, IfOk, OnOk, OnErr, MatchOption};
-ghost use Rattle.arena_core.specs.Kept.{AreKept, said_of, told_of, wholes_of, who_at, entry_in, entries_of};
+ghost use Rattle.std.specs.Prelude.{◌≡◌, ◌∷◌, [], length, IfOk, OnErr, MatchOption};
+ghost use Rattle.arena_core.specs.Kept.{AreKept, told_of, wholes_of, who_at, words_in, taken, resized, aligned, given, entry_in, entries_of};
 
-use crate::brief::{Row, addr_in, size_in, size_sought, whole_of};
+use crate::answer_bytes::{lead_and_answers, told};
+use crate::brief::{Row, addr_in, got_in, nb_in, size_in};
 use crate::entry::Entry;
 use crate::journal::{Act, Ended, Who};
-use arena_rules::Said;
 use chunk_tags::NoMemory;
-use consolidate_trim::{make_room, tell};
 use std::alloc::Global;
 use std::marker::Model;
 
@@ -16,40 +15,20 @@ use std::marker::Model;
 #[derive(Drop)]
 pub struct Entries<'a> {
     rows: &'a [Row],
-    answers: &'a [u64],
+    answers: &'a [u8],
     whole: &'a [Entry],
 }
 
 impl<'a> Model for Entries<'a> {
-    ghost use Rattle.std.specs.Prelude.{List, map};
+    ghost use Rattle.std.specs.Prelude.{List};
     ghost use Rattle.arena_core.specs.Journal.{Recorded};
-    ghost use Rattle.arena_core.specs.Kept.{AreKept, entries_of, said_of};
+    ghost use Rattle.arena_core.specs.Kept.{AreKept, entries_of};
 
     ghost Value = { List Recorded };
 
-    ghost view = { λ e. entries_of e.rows.now (map said_of e.answers.now) e.whole.now };
+    ghost view = { λ e. entries_of e.rows.now e.answers.now e.whole.now };
 
-    ghost invariant = { λ e. AreKept e.rows.now (map said_of e.answers.now) e.whole.now };
-}
-
-/// Appends brief answers as they were told.
-fn tell_all(said: &mut Vec<Said>, answers: &[u64]) -> Result<(), NoMemory>
-    ensures { OnOk result (said.new.items ≡ said.old.items ++ map said_of answers.now) }
-{
-    for brief in answers {
-        make_room(said)?;
-        tell(said, &whole_of(*brief));
-    }
-    Ok(())
-}
-
-/// Brief answers as they were told.
-fn told(alloc: Global, answers: &[u64]) -> Result<Vec<Said>, NoMemory>
-    ensures { IfOk result (λ said. said.items ≡ map said_of answers.now) }
-{
-    let mut said = Vec::new(alloc);
-    tell_all(&mut said, answers)?;
-    Ok(said)
+    ghost invariant = { λ e. AreKept e.rows.now e.answers.now e.whole.now };
 }
 
 /// An entry again.
@@ -64,13 +43,15 @@ fn copy_of(alloc: Global, entry: &Entry) -> Result<Entry, NoMemory>
     })
 }
 
-/// How many brief answers belong to a row.
+/// How many bytes belong to a row.
 fn told_count(row: &Row) -> usize
     ensures { result ≡ told_of row.now }
 {
     match row {
-        Row::Took { told, .. } => usize::from(*told),
-        Row::Gave { told, .. } => usize::from(*told),
+        Row::Took { told, .. }
+        | Row::Resized { told, .. }
+        | Row::Aligned { told, .. }
+        | Row::Gave { told, .. } => usize::from(*told),
         Row::Whole => 0,
     }
 }
@@ -95,12 +76,74 @@ fn who(thread: u8, line: u32) -> Who
     }
 }
 
-/// The entry of a row, with its own answers or its whole entry.
-fn entry_of(alloc: Global, row: &Row, answers: &[u64], whole: &[Entry]) -> Result<Entry, NoMemory>
-    requires answers { length answers.now ≡ told_of row.now }
+/// The entry of a search, with its bytes.
+fn taken(alloc: Global, who: Who, over: u8, chunk: u64, bytes: &[u8]) -> Result<Entry, NoMemory>
+    ensures { IfOk result (λ entry. entry ≡ taken who over chunk (words_in 0 bytes.now)) }
+{
+    Ok(Entry {
+        who,
+        act: Act::Take {
+            nb: nb_in(over, chunk),
+        },
+        said: told(alloc, bytes)?,
+        ended: got_in(chunk),
+    })
+}
+
+/// The entry of a resize, with its bytes.
+fn resized(alloc: Global, who: Who, over: u8, chunk: u64, bytes: &[u8]) -> Result<Entry, NoMemory>
+    ensures { IfOk result (λ entry. entry ≡ resized who over chunk (words_in 0 bytes.now)) }
+{
+    let (lead, answers) = lead_and_answers(bytes);
+    Ok(Entry {
+        who,
+        act: Act::Resize {
+            addr: addr_in(lead),
+            size: size_in(lead),
+            nb: nb_in(over, chunk),
+        },
+        said: told(alloc, answers)?,
+        ended: got_in(chunk),
+    })
+}
+
+/// The entry of an aligned search, with its bytes.
+fn aligned(alloc: Global, who: Who, over: u8, chunk: u64, bytes: &[u8]) -> Result<Entry, NoMemory>
+    ensures { IfOk result (λ entry. entry ≡ aligned who over chunk (words_in 0 bytes.now)) }
+{
+    let (align, answers) = lead_and_answers(bytes);
+    Ok(Entry {
+        who,
+        act: Act::Align {
+            align,
+            nb: nb_in(over, chunk),
+        },
+        said: told(alloc, answers)?,
+        ended: got_in(chunk),
+    })
+}
+
+/// The entry of a chunk that was given back, with its bytes.
+fn given(alloc: Global, who: Who, chunk: u64, bytes: &[u8]) -> Result<Entry, NoMemory>
+    ensures { IfOk result (λ entry. entry ≡ given who chunk (words_in 0 bytes.now)) }
+{
+    Ok(Entry {
+        who,
+        act: Act::Give {
+            addr: addr_in(chunk),
+            size: size_in(chunk),
+        },
+        said: told(alloc, bytes)?,
+        ended: Ended::Done,
+    })
+}
+
+/// The entry of a row, with its own bytes or its whole entry.
+fn entry_of(alloc: Global, row: &Row, bytes: &[u8], whole: &[Entry]) -> Result<Entry, NoMemory>
+    requires bytes { length bytes.now ≡ told_of row.now }
     requires whole { length whole.now ≡ wholes_of row.now }
     ensures { IfOk result (λ entry. entry ∷ []
-        ≡ entry_in row.now (map said_of answers.now) whole.now) }
+        ≡ entry_in row.now bytes.now whole.now) }
 {
     match *row {
         Row::Took {
@@ -109,41 +152,36 @@ fn entry_of(alloc: Global, row: &Row, answers: &[u64], whole: &[Entry]) -> Resul
             over,
             line,
             chunk,
-        } => Ok(Entry {
-            who: who(thread, line),
-            act: Act::Take {
-                nb: size_sought(size_in(chunk), over),
-            },
-            said: told(alloc, answers)?,
-            ended: Ended::Got {
-                addr: addr_in(chunk),
-                size: size_in(chunk),
-                mapped: false,
-            },
-        }),
+        } => taken(alloc, who(thread, line), over, chunk, bytes),
+        Row::Resized {
+            thread,
+            told: _,
+            over,
+            line,
+            chunk,
+        } => resized(alloc, who(thread, line), over, chunk, bytes),
+        Row::Aligned {
+            thread,
+            told: _,
+            over,
+            line,
+            chunk,
+        } => aligned(alloc, who(thread, line), over, chunk, bytes),
         Row::Gave {
             thread,
             told: _,
             line,
             chunk,
-        } => Ok(Entry {
-            who: who(thread, line),
-            act: Act::Give {
-                addr: addr_in(chunk),
-                size: size_in(chunk),
-            },
-            said: told(alloc, answers)?,
-            ended: Ended::Done,
-        }),
+        } => given(alloc, who(thread, line), chunk, bytes),
         Row::Whole => copy_of(alloc, &whole[0]),
     }
 }
 
 impl<'a> Entries<'a> {
-    /// The entries of these rows, with their answers and whole entries.
-    pub(crate) fn of(rows: &'a [Row], answers: &'a [u64], whole: &'a [Entry]) -> Entries<'a>
-        requires { AreKept rows.now (map said_of answers.now) whole.now }
-        ensures { result ≡ entries_of rows.now (map said_of answers.now) whole.now }
+    /// The entries of these rows, with their bytes and their whole entries.
+    pub(crate) fn of(rows: &'a [Row], answers: &'a [u8], whole: &'a [Entry]) -> Entries<'a>
+        requires { AreKept rows.now answers.now whole.now }
+        ensures { result ≡ entries_of rows.now answers.now whole.now }
     {
         Entries {
             rows,
