@@ -30,9 +30,11 @@ def run(used, words, source, target):
     return float(seconds), int(peak) * 1024
 
 
+def in_turn(rounds, used, runs, target):
+    """The seconds and the peak bytes of each round, for each pair of words and source, which run in turn."""
+    return list(zip(*([run(used, words, source, target) for words, source in runs] for _ in range(rounds))))
+
+
 def best_of(rounds, used, runs, target):
     """The seconds and the peak bytes of the best run of each pair of words and source, in turn."""
-    best = [(9e9, 0)] * len(runs)
-    for _ in range(rounds):
-        best = [min(so_far, run(used, words, source, target)) for so_far, (words, source) in zip(best, runs)]
-    return best
+    return [min(all_) for all_ in in_turn(rounds, used, runs, target)]
