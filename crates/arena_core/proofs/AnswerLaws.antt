@@ -1,5 +1,5 @@
 -- Laws of words and answers in bytes.
-use Rattle.std.proofs.Common.{◌≡◌, ℕ, zero, suc, ◌+◌, ◌-◌, ◌*◌, ◌/◌, ◌%◌, ◌^◌, ◌<◌, ◌≤◌, cond, List, [], ◌∷◌, ◌++◌, take, drop, map, length, get_or, Option, None, Some, refl, sym, ap, subst, ◌∙◌, append-nil, append_assoc, add-one, arith}
+use Rattle.std.proofs.Common.{◌≡◌, ℕ, zero, suc, ◌+◌, ◌-◌, ◌*◌, ◌/◌, ◌%◌, ◌^◌, ◌<◌, ◌≤◌, cond, List, [], ◌∷◌, ◌++◌, take, drop, map, length, get_or, Option, refl, sym, ap, subst, ◌∙◌, append-nil, append_assoc, add-one, arith}
 use Rattle.std.specs.Prelude.{option_to_list}
 use Rattle.std.proofs.lemmas.Bool.{lt-ltb, le-ltb}
 use Rattle.std.proofs.lemmas.List.{map-append}
@@ -18,10 +18,10 @@ pub joined-wrapped : (high digit : ℕ) → (high * 128 % 2 ^ 64 + digit) % 2 ^ 
 joined-wrapped high digit = mod-add-mod (high * 128) (2 ^ 64) digit
 
 -- a byte that ends a word, and one behind which more of it follows
-pub words_in-last : (high byte : ℕ) (more : List ℕ) → byte < 128 → words_in high (byte ∷ more) ≡ joined high byte ∷ words_in 0 more
+words_in-last : (high byte : ℕ) (more : List ℕ) → byte < 128 → words_in high (byte ∷ more) ≡ joined high byte ∷ words_in 0 more
 words_in-last high byte more last = ap (λ q. cond q (joined high byte ∷ words_in 0 more) (words_in (joined high (byte - 128)) more)) (lt-ltb byte 128 last)
 
-pub words_in-more : (high byte : ℕ) (more : List ℕ) → 128 ≤ byte → words_in high (byte ∷ more) ≡ words_in (joined high (byte - 128)) more
+words_in-more : (high byte : ℕ) (more : List ℕ) → 128 ≤ byte → words_in high (byte ∷ more) ≡ words_in (joined high (byte - 128)) more
 words_in-more high byte more on = ap (λ q. cond q (joined high byte ∷ words_in 0 more) (words_in (joined high (byte - 128)) more)) (le-ltb byte 128 on)
 
 -- a byte more
@@ -65,15 +65,8 @@ written-more words others old mid new w v = record {
   read = λ more. ap (words_in 0) (append_assoc w.bytes v.bytes more) ∙ w.read (v.bytes ++ more) ∙ ap (λ ws. words ++ ws) (v.read more) ∙ sym (append_assoc words others (words_in 0 more));
 }
 
--- a lead word, or none, and no answer
-pub tells-lead : (word : ℕ) (old new : List ℕ) → Written (word ∷ []) 0 old new → Tells (Some word) [] old new
-tells-lead word old new w = record { words = []; answers = refl; written = w }
-
-pub tells-none : (old : List ℕ) → Tells None [] old old
-tells-none old = record { words = []; answers = refl; written = written-none old old refl }
-
 -- an answer more
-pub tells-more : (lead : Option ℕ) (said : List Said) (answer : Said) (word : ℕ) (old mid new : List ℕ) → Tells lead said old mid → said_of word ≡ answer → Written (word ∷ []) 0 mid new → Tells lead (said ++ answer ∷ []) old new
+tells-more : (lead : Option ℕ) (said : List Said) (answer : Said) (word : ℕ) (old mid new : List ℕ) → Tells lead said old mid → said_of word ≡ answer → Written (word ∷ []) 0 mid new → Tells lead (said ++ answer ∷ []) old new
 tells-more lead said answer word old mid new t is w = record {
   words = t.words ++ word ∷ [];
   answers = map-append said_of t.words (word ∷ []) ∙ ap (λ ss. ss ++ said_of word ∷ []) t.answers ∙ ap (λ s. said ++ s ∷ []) is;
@@ -97,6 +90,13 @@ digits-less high (suc n) some fits =
     let next : 128 ^ suc n ≡ 128 ^ n * 128 = pow-suc 128 n in
     let one : suc n - 1 ≡ n = omega arith in
     (omega arith, subst (λ m. high / 128 < 128 ^ m) (sym one) (omega (arith, fits, next)))
+
+-- a word of so many digits has one less before the last
+pub digits-before : (word n : ℕ) → word < 128 ^ (n + 1) → word / 128 < 128 ^ n
+digits-before word n fits =
+    let next : 128 ^ suc n ≡ 128 ^ n * 128 = pow-suc 128 n in
+    let below : word < 128 ^ suc n = subst (λ m. word < 128 ^ m) (add-one n) fits in
+    omega (arith, below, next)
 
 -- a word has ten digits at most
 pub digits-few : (word room : ℕ) → word < 2 ^ 64 → 9 ≤ room → word / 128 < 128 ^ room

@@ -48,13 +48,13 @@ words_in high (b ∷ bs) = if nat_lt b 128 then joined high b ∷ words_in 0 bs 
 abbrev pub said_in : List ℕ → List Said
 said_in bs = map said_of (words_in 0 bs)
 
--- Bytes that were written behind the old ones. They are those of words, and of a word to which more belongs these are the bits so far.
+-- Bytes that were written behind the old ones: those of words, and of a word whose end isn't written yet `high` is its bits so far.
 pub record Written (words : List ℕ) (high : ℕ) (old new : List ℕ) : Type 0 where
   pub bytes : List ℕ
   pub behind : new ≡ old ++ bytes
   pub read : (more : List ℕ) → words_in 0 (bytes ++ more) ≡ words ++ words_in high more
 
--- bytes that were written are those of a word, where there is one, and of answers
+-- bytes that were written behind the old ones are those of a lead word, where there is one, and of answers
 pub record Tells (lead : Option ℕ) (said : List Said) (old new : List ℕ) : Type 0 where
   pub words : List ℕ
   pub answers : map said_of words ≡ said
@@ -120,7 +120,7 @@ entry_in (Aligned thread told over line chunk) bs es = aligned (who_at thread li
 entry_in (Gave thread told line chunk) bs es = given (who_at thread line) chunk (words_in 0 (take told bs)) ∷ []
 entry_in Whole bs es = take 1 es
 
--- the entries of rows, with the bytes of their answers, and those that are kept whole
+-- the entries of rows, with the bytes of their lead words and answers, and those that are kept whole
 abbrev pub entries_of : List Row → List ℕ → List Recorded → List Recorded
 entries_of [] bs es = []
 entries_of (r ∷ rs) bs es = entry_in r bs es ++ entries_of rs (drop (told_of r) bs) (drop (wholes_of r) es)
@@ -133,15 +133,16 @@ abbrev pub wholes_in : List Row → ℕ
 wholes_in [] = 0
 wholes_in (r ∷ rs) = wholes_of r + wholes_in rs
 
--- the bytes of answers and the whole entries are those of the rows
+-- there are as many bytes, and as many whole entries, as belong to the rows
 pub record AreKept (rows : List Row) (bytes : List ℕ) (whole : List Recorded) : Type 0 where
   pub told : told_in rows ≡ length bytes
   pub wholes : wholes_in rows ≡ length whole
 
--- The chunk of an act that ended so: the one that it came to, of which this is beyond the size that was searched for, or that was given back.
+-- A search for `nb` bytes came to the chunk of this word, which has `over` times 16 bytes more.
 abbrev pub Finds : ℕ → Ended → ℕ → ℕ → Type 0
 Finds nb ended over chunk = (nb_in over chunk ≡ nb) × (got_in chunk ≡ ended)
 
+-- An act that ended so has the chunk of this word: a search came to it, or it was given back. An opening has none.
 abbrev pub IsChunkOf : Act → Ended → ℕ → ℕ → Type 0
 IsChunkOf (Open bytes) ended over chunk = ⊥
 IsChunkOf (Take nb) ended over chunk = Finds nb ended over chunk
@@ -149,7 +150,7 @@ IsChunkOf (Give addr size) ended over chunk = (addr_in chunk ≡ addr) × (size_
 IsChunkOf (Resize addr size nb) ended over chunk = Finds nb ended over chunk
 IsChunkOf (Align align nb) ended over chunk = Finds nb ended over chunk
 
--- an act's lead word
+-- An act's lead word, which stands before those of its answers. Only a resize and an aligned search have one.
 abbrev pub IsLead : Act → ℕ → Type 0
 IsLead (Resize addr size nb) word = (addr_in word ≡ addr) × (size_in word ≡ size)
 IsLead (Align align nb) word = word ≡ align

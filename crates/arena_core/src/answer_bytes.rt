@@ -36,7 +36,8 @@ fn append_digits(bytes: &mut Vec<u8>, high: u64)
 pub fn append_word(bytes: &mut Vec<u8>, word: u64)
     requires { vec_len bytes.old + word_bytes ≤ vec_capacity bytes.old }
     ensures written { Written (word ∷ []) 0 bytes.old.items bytes.new.items }
-    ensures few { vec_len bytes.new ≤ vec_len bytes.old + word_bytes }
+    ensures few { (n : ℕ) → word < 128 ^ (n + 1) → vec_len bytes.new ≤ vec_len bytes.old + n + 1 }
+    ensures most { vec_len bytes.new ≤ vec_len bytes.old + word_bytes }
     ensures capacity { vec_capacity bytes.old ≤ vec_capacity bytes.new }
 {
     append_digits(bytes, word / BASE);
@@ -67,7 +68,7 @@ fn first_word(high: u64, bytes: &[u8]) -> (u64, &[u8])
     }
 }
 
-/// The lead word of bytes, and those of its answers.
+/// The lead word of bytes, and the bytes of the answers behind it.
 pub fn lead_and_answers(bytes: &[u8]) -> (u64, &[u8])
     ensures lead { result.0 ≡ slice_index (words_in 0 bytes.now) 0 }
     ensures answers { words_in 0 result.1.now ≡ drop 1 (words_in 0 bytes.now) }

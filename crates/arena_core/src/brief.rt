@@ -10,8 +10,8 @@ use address_space::{Answer, Ask};
 use arena_rules::Said;
 use chunk_tags::{Addr, PAGE, Size};
 
-/// An answer other than one to an ask has a word, and so has one to an ask for more of a heap (this project's own): its three
-/// lowest bits are a kind, and the others a number.
+/// An answer other than one to an ask has a word where its number fits, and so has one to an ask for more of a heap (this project's
+/// own): the three lowest bits are a kind, and the other 61 a number.
 const KINDS: u64 = 8;
 
 const FLAG: u64 = 0;
@@ -30,7 +30,7 @@ const DIAL: u64 = 6;
 
 const GROWTH: u64 = 7;
 
-/// The word of a kind with a number, where that has so few bits.
+/// The word of a kind with a number, where that is below 2^61.
 fn numbered(kind: u64, number: u64) -> Option<u64>
     requires { kind < 8 }
     ensures { IfSome result (λ word. (word % 8 ≡ kind) × (word / 8 ≡ number)) }
@@ -138,7 +138,8 @@ pub fn whole_of(brief: u64) -> Said
     }
 }
 
-/// A chunk has a word: below its address in units of 16 bytes stands its size in such units, in 21 bits (this project's own).
+/// A chunk below 2^47 that has less than 32 MiB has a word, where both are multiples of 16: below its address in units of 16 bytes
+/// stands its size in such units, in 21 bits (this project's own).
 const ADDRS: u64 = 1 << 43;
 
 const SIZES: u64 = 1 << 21;
@@ -240,8 +241,8 @@ pub fn lead_of(act: &Act) -> Option<u64>
 
 /// An entry as it is kept: of which thread and line, what the hold was for and how it ended, with how many bytes its lead word and
 /// its answers take; or that it is kept whole, as where a mapping was found (this project's own). Where a chunk was searched
-/// for, `chunk` is the one that was found, and it has `over` times 16 bytes more. The small fields come first, so that they
-/// lie beside the number of the variant.
+/// for, `chunk` is the one that was found, and it has `over` times 16 bytes more than the size that was searched for. Of `Gave`
+/// `chunk` is the one that was given back. The small fields come first, so that they lie beside the number of the variant.
 #[derive(Clone, Copy, Debug, PartialEq, Eq)]
 pub enum Row {
     Took {

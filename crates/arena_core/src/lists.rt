@@ -22,13 +22,15 @@ const MOST_BYTES: usize = 255;
 /// What a journal consists of. Most holds are told little, and of the system at most that a heap grows, so their entries are kept in
 /// few bytes: a row for each, and their lead words and answers in bytes, one behind the other for all of them. Most answers take
 /// one byte. Whole are kept the entries of mappings, openings, refusals and want of memory, those with an answer to an ask other
-/// than for more of a heap, and what has too many bytes or a number that is too large for its bits.
+/// than for more of a heap, and what has too many bytes or a number that is too large for its bits or that isn't of whole units.
+/// A whole entry has a row too, which says so.
 #[derive(Drop)]
 pub struct JournalLists {
     rows: Vec<Row>,
     answers: Vec<u8>,
     whole: Vec<Entry>,
-    /// An empty list for the answers of the next hold, which keeps its room from hold to hold.
+    /// The list for the answers of the next hold, which `begin` empties. It keeps its room from hold to hold as long as entries are
+    /// kept briefly.
     said: Vec<Said>,
 }
 
@@ -44,7 +46,7 @@ impl Model for JournalLists {
 }
 
 /// Appends an act's lead word, where it has one, and its answers in bytes, and gives how many bytes these are; none where an answer
-/// has no word, or where a row might not be able to count the bytes. Those of the answers before it are there then.
+/// has no word, or where a row might not be able to count the bytes. What was appended up to there stays then.
 fn append_brief(answers: &mut Vec<u8>, lead: Option<u64>, said: &[Said]) -> Option<usize>
     requires { vec_len answers.old + most_bytes ≤ vec_capacity answers.old }
     ensures count { IfSome result (λ count. count + vec_len answers.old ≡ vec_len answers.new) }

@@ -1,5 +1,5 @@
--- Where a part's words stand (this project's own). The words stand in pages, and each page has a code: its kind, times so many,
--- and a slot. By its kind all its words stand side by side in a slot of the whole pages, or one of them, which alone is written,
+-- Where a part's words stand (this project's own). The words stand in pages, and each page has a code: its kind times so many,
+-- plus the number of a slot. By its kind all its words stand side by side in a slot of the whole pages, or one of them, which alone is written,
 -- stands in a slot of the lone words, or none is written.
 use Rattle.std.specs.Prelude.{◌≡◌, ◌≢◌, ℕ, ◌+◌, ◌*◌, ◌/◌, ◌%◌, ◌<◌, ◌≤◌, ◌^◌, Bool, false, nat_eq, nat_lt, if◌then◌else◌, Option, Some, None, is_some, List, length, map, slice_index}
 use Rattle.std.specs.List.{count_by, range_with_len}
@@ -52,7 +52,7 @@ abbrev pub holding : (ℕ → Option ℕ) → List ℕ → ℕ
 holding slot_of codes = count_by (λ code. is_some (slot_of code)) codes
 
 -- Each slot is one page's, or stands once among the free ones; other numbers are nowhere. So no two pages have the same slot, and
--- no page a free one. There are no more slots than pages, and room for as many.
+-- no page a free one. There are no more slots than pages, and room for as many as there are pages.
 pub record IsPool {T : Type 0} (slot_of : ℕ → Option ℕ) (codes : List ℕ) (pool : Slots T) : Type 0 where
   pub once : (n : ℕ) → held slot_of codes n + times n pool.free ≡ is_below n pool.count
   pub count : pool.count ≡ holding slot_of codes + length pool.free
@@ -69,7 +69,7 @@ pub record HasTwo {T : Type 0} (unwritten : T) (page : ℕ) (word : ℕ → T) :
   pub first_written : word first ≢ unwritten
   pub second_written : word second ≢ unwritten
 
--- a page has one of these kinds, and no slot without need: a lone word is written, and two words of a whole page are
+-- a page's kind is below twice its size, and it has no slot without need: a lone word is written, and two words of a whole page are
 pub record IsNeeded {T : Type 0} (unwritten : T) (page code : ℕ) (lone whole : Slots T) : Type 0 where
   pub kind : code / slots < page + page
   pub alone : page ≤ code / slots → word_in unwritten 1 lone.words (code % slots) 0 ≢ unwritten
@@ -82,7 +82,7 @@ pub record IsPaged {T : Type 0} (unwritten : T) (page : ℕ) (codes : List ℕ) 
   pub whole_pool : IsPool whole_slot codes whole
   pub needed : (i : ℕ) → IsNeeded unwritten page (slice_index codes i) lone whole
 
--- the words below a length have pages, no page is without a word, and no word from there on was written
+-- the words below a length have pages, each page has one of these words, and no word from there on is written
 pub record IsPart {T : Type 0} (unwritten : T) (page len : ℕ) (codes : List ℕ) (lone whole : Slots T) : Type 0 where
   pub paged : IsPaged unwritten page codes lone whole
   pub all : len ≤ page * length codes

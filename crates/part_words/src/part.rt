@@ -11,7 +11,7 @@ use list_room::make_room_for;
 use std::alloc::{AllocError, Global};
 use std::marker::Model;
 
-/// A page's code is its kind, times so many, and its slot.
+/// A page's code is its kind times so many, plus the number of its slot.
 const SLOTS: u32 = 1 << 25;
 
 /// The kind of a page whose words stand side by side. `PAGE` and more say which of them alone is written, and 0 that none is.
@@ -207,7 +207,7 @@ fn widened<T: Word, const PAGE: usize>(
 }
 
 /// The code of a page whose words stand side by side, once one of them is again as if never written: where two are left that are
-/// written, it stays.
+/// written, it stays; else the slot comes back, and one that is left stands alone.
 #[inline(never)]
 fn narrowed<T: Word, const PAGE: usize>(
     lone: &mut Slots<T, 1>,

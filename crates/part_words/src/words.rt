@@ -12,7 +12,8 @@ use std::marker::Model;
 
 /// One word for each 16 bytes of address space (this project's own). The words lie in parts, which begin at equal distances,
 /// the first of them at `base`; a part is open from its beginning up to some word. They stand in pages of `PAGE`: a page of
-/// which no word is written takes 4 bytes, one with a lone word that word's too, and any other those of all its words.
+/// which no word is written takes 4 bytes, one with a lone word that word's too, and any other those of all its words. Slots
+/// that came back stay, for other pages.
 #[derive(Debug, Drop)]
 pub struct Words<T: Word, const PAGE: usize> {
     base: u64,
@@ -73,7 +74,7 @@ impl<T: Word, const PAGE: usize> Words<T, PAGE> {
     }
 
     /// Opens the words of a range, and those before it in its part. Nothing changes where memory is short, or where the part would
-    /// have more than 33,554,432 pages; either is so only where there is something to open.
+    /// have more than 33,554,432 pages; it is refused only where there is something to open, words or their part.
     pub fn open(&mut self, alloc: Global, at: u64, len: u64) -> Result<(), AllocError>
         requires { IsWithinPart (extent_of self.old) at len }
         ensures words { word_at self.new T.UNWRITTEN ≡ word_at self.old T.UNWRITTEN }

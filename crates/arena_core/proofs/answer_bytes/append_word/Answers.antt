@@ -1,5 +1,5 @@
 use Rattle.std.proofs.Common.{◌-◌, vec_len, vec_capacity, arith, rules}
-use Rattle.arena_core.proofs.AnswerLaws.{written-word, digits-few}
+use Rattle.arena_core.proofs.AnswerLaws.{written-word, digits-before, digits-few}
 use Rattle.arena_core.proofs.answer_bytes.append_word.Goals as goal
 
 pub append_digits-requires : goal.append_digits-requires
@@ -14,6 +14,9 @@ pub returns-clause-written : goal.returns-clause-written
 returns-clause-written c = written-word c.args.word _ c.append_digits.new.bytes.items _ (omega arith) c.append_digits.ensures.written (search rules)
 
 pub returns-clause-few : goal.returns-clause-few
-returns-clause-few c =
+returns-clause-few c = λ n fits. omega (arith, c.append_digits.ensures.few n (digits-before c.args.word n fits), c.push.ensures.upper_bound)
+
+pub returns-clause-most : goal.returns-clause-most
+returns-clause-most c =
     let few = c.append_digits.ensures.few 9 (digits-few c.args.word 9 (omega arith) (omega arith)) in
     omega (arith, few, c.push.ensures.upper_bound)
