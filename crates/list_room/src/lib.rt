@@ -8,9 +8,9 @@ use std::alloc::AllocError;
 /// Up to so many items a list grows as std's lists do.
 const FEW: usize = 512;
 
-/// Beyond, it has room for so many at least, which is 128 KiB where an item has 8 bytes. A C library maps as much by itself, so what
+/// Beyond, it has room for so many at least, which is 256 KiB where an item has 4 bytes. A C library maps as much by itself, so what
 /// isn't written takes no memory, and what grows isn't copied.
-const LEAST_ROOM: usize = 16_384;
+const LEAST_ROOM: usize = 65_536;
 
 /// Makes room for so many more items (this project's own). The items stay, and where there is room the list stays as it is.
 pub fn make_room_for<T>(list: &mut Vec<T>, count: usize) -> Result<(), AllocError>
