@@ -8,6 +8,14 @@ use trace_text::{Line, Lines};
 /// For so many lines at once names are looked up ahead (this project's own).
 pub const AHEAD: usize = 64;
 
+/// The places of so many names in a row are found without that: they take 256 KiB, which a processor keeps near.
+const NEAR_PLACES: u32 = 32_768;
+
+/// Whether a thread has so many names in its row that it is worth to look some up ahead.
+pub fn has_far_places<K: Kernel>(threads: &[Thread<K>]) -> bool {
+    threads.iter().any(|thread| thread.row() > NEAR_PLACES)
+}
+
 /// Whether the name of a line holds a block, where its place is in the row.
 fn holds<K: Kernel>(threads: &[Thread<K>], line: &Line) -> bool {
     let Some(thread) = threads.get(usize::from(line.thread)) else {

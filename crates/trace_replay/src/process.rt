@@ -3,7 +3,7 @@
 ghost use Rattle.std.specs.Prelude.{◌≡◌, ◌≤◌, vec_len, IfOk, OnOk, OnErr};
 ghost use Rattle.chunk_tags.specs.Tunables.{IsTuned};
 
-use crate::ahead::{AHEAD, holds_ahead};
+use crate::ahead::{AHEAD, has_far_places, holds_ahead};
 use crate::calling::{call, tidy};
 use crate::threads::new_threads;
 use address_space::Kernel;
@@ -65,13 +65,13 @@ impl<K: Kernel> Process<K> {
         world_view::laws();
     }
 
-    /// Looks up the names of the next lines, at every so many; no call rests on it.
+    /// Looks up the names of the next lines, at every so many, where a thread has many names; no call rests on it.
     pub fn look_ahead(&mut self, lines: &Lines, from: usize)
         ensures threads { self.new.threads ≡ self.old.threads }
         ensures serial { self.new.serial ≡ self.old.serial }
         ensures tunables { self.new.t ≡ self.old.t }
     {
-        if from % AHEAD == 0 {
+        if from % AHEAD == 0 && has_far_places(self.threads.as_slice()) {
             self.holds_ahead = holds_ahead(self.threads.as_slice(), lines, from);
         }
     }

@@ -3,16 +3,19 @@
 use Rattle.std.specs.Prelude.{ℕ, ◌+◌, ◌-◌, ◌*◌, ◌/◌, ◌%◌, nat_eq, nat_lt, nat_le, if◌then◌else◌}
 use Rattle.word_rows.specs.declared.row.Spot.{Spot}
 use Rattle.word_rows.specs.declared.row.Spot.TheVariants.{Empty, Word, Whole}
-use Rattle.address_space.specs.Spaces.{main_start, heaps_start}
+use Rattle.address_space.specs.Spaces.{main_start, piece_start, heaps_start}
 use Rattle.stats_text.specs.declared.views.Place.{Place}
 use Rattle.stats_text.specs.declared.views.Place.TheVariants as places
 use Rattle.world_view.specs.declared.slot.Slot.{Slot}
 use Rattle.world_view.specs.Slots.{empty_slot}
 
--- the address of a unit of 16 bytes: they are counted from main's start, and from 2 ^ 36 on from the start of the heaps
+-- the address of a unit of 16 bytes: they are counted from main's start, from 2 ^ 35 on from the start of its pieces, and from
+-- 2 ^ 36 on from the start of the heaps
 abbrev pub addr_of_unit : ℕ → ℕ
 addr_of_unit unit =
-    if nat_lt unit 68719476736 then main_start + unit * 16 else heaps_start + (unit - 68719476736) * 16
+    if nat_lt unit 34359738368 then main_start + unit * 16
+    else (if nat_lt unit 68719476736 then piece_start + (unit - 34359738368) * 16
+    else heaps_start + (unit - 68719476736) * 16)
 
 -- the place of a kind that has a number: from 64 on a kind is a thread, and the number the name
 abbrev pub place_of_kind : ℕ → ℕ → Place

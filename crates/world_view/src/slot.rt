@@ -3,7 +3,7 @@
 ghost use Rattle.std.specs.Prelude.{◌≡◌, ◌<◌, ◌^◌, IfSome};
 ghost use Rattle.world_view.specs.SlotWords.{addr_of_unit, place_of_kind, slot_of_word};
 
-use address_space::{HEAPS_START, MAIN_START};
+use address_space::{HEAPS_START, MAIN_START, PIECE_START};
 use stats_text::Place;
 
 /// A place with its address, or none, which has the address 0.
@@ -29,7 +29,10 @@ const KINDS: u64 = 1 << 7;
 
 const UNIT_STEP: u64 = KINDS * NUMBERS;
 
-/// Units are of 16 bytes, the first ones from main's start on, and from this one on those from the start of the heaps on.
+/// Units are of 16 bytes: the first ones from main's start on, from this one on those from the start of main's pieces on, and from
+/// the next on those from the start of the heaps on.
+const FIRST_OF_PIECES: u64 = 1 << 35;
+
 const FIRST_OF_HEAPS: u64 = 1 << 36;
 
 const UNITS: u64 = 2 * FIRST_OF_HEAPS;
@@ -42,8 +45,10 @@ fn addr_of(unit: u64) -> u64
     requires { unit < 2 ^ 37 }
     ensures { result ≡ addr_of_unit unit }
 {
-    if unit < FIRST_OF_HEAPS {
+    if unit < FIRST_OF_PIECES {
         MAIN_START + unit * 16
+    } else if unit < FIRST_OF_HEAPS {
+        PIECE_START + (unit - FIRST_OF_PIECES) * 16
     } else {
         HEAPS_START + (unit - FIRST_OF_HEAPS) * 16
     }
@@ -87,6 +92,8 @@ pub fn slot_of(word: u64) -> Slot
 fn unit_of(addr: u64) -> u64 {
     if addr >= HEAPS_START {
         FIRST_OF_HEAPS + (addr - HEAPS_START) / 16
+    } else if addr >= PIECE_START {
+        FIRST_OF_PIECES + (addr - PIECE_START) / 16
     } else if addr >= MAIN_START {
         (addr - MAIN_START) / 16
     } else {
