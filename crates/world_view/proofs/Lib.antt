@@ -1,4 +1,4 @@
-mod SlotLaws
+mod Tables
 mod Idle
 mod Placing
 mod Going

@@ -1,9 +1,8 @@
 pub use Rattle.stats_text.specs.Totals
 pub use Rattle.own_blocks.specs.Own
 pub use Rattle.malloc_calls.specs.Threads
-pub mod Slots
-pub mod SlotWords
 pub mod Places
+pub mod Tables
 pub mod Scenes
 pub mod Rows
 pub mod Sights

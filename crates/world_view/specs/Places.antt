@@ -4,9 +4,7 @@ use Rattle.std.specs.Prelude.{ℕ, ◌+◌, false, not, nat_eq, if◌then◌else
 use Rattle.std.specs.List.{flat_map, range_with_len}
 use Rattle.std.specs.Ordering.{nat_cmp}
 use Rattle.std.specs.BTreeMap.{insert_entry}
-use Rattle.std.specs.HashMap.{get}
 use Rattle.std.specs.Map.{values_of}
-use Rattle.std.specs.Option.{option_or}
 use Rattle.chunk_tags.specs.declared.block.Block.{Block}
 use Rattle.chunk_tags.specs.declared.tiles.Tile.{Tile}
 use Rattle.chunk_tags.specs.declared.tiles.TileKind.TheVariants as kinds
@@ -20,8 +18,6 @@ use Rattle.stats_text.specs.declared.views.Place.{Place}
 use Rattle.stats_text.specs.declared.views.Place.TheVariants as places
 use Rattle.stats_text.specs.declared.views.TileView.{TileView}
 use Rattle.world_view.specs.declared.finds.Find.{Find}
-use Rattle.world_view.specs.declared.table.PlaceTable.{PlaceTable}
-use Rattle.world_view.specs.Slots.{place_at}
 
 -- ---- the blocks of threads and trays
 
@@ -121,10 +117,6 @@ finds_found finds = map (λ f. (f.tile.addr, f.tile.place)) finds
 -- what is found at each address
 abbrev pub FoundAt : Type 0
 FoundAt = ℕ → Option Place
-
--- what stands in a table of it
-unfoldable pub found_at : PlaceTable → FoundAt
-found_at found n = option_or (place_at found.slots n) (get nat_eq found.others n)
 
 -- nothing is found anywhere
 abbrev pub nothing_found : FoundAt

@@ -3,7 +3,7 @@ use Rattle.std.specs.Prelude.{ℕ, if◌then◌else◌, List, []}
 use Rattle.stats_text.specs.declared.views.TileView.{TileView}
 use Rattle.world_view.specs.declared.finds.Find.{Find}
 use Rattle.world_view.specs.declared.sights.Sights.{Sights}
-use Rattle.world_view.specs.Places.{FoundAt, found_at, nothing_found, put_found, put_tile}
+use Rattle.world_view.specs.Places.{FoundAt, found_by_address, nothing_found, put_found, put_tile}
 
 -- where each chunk is found, and the mapped ones by address
 pub record Seen : Type 0 where
@@ -11,7 +11,7 @@ pub record Seen : Type 0 where
   pub mapped : List (ℕ × TileView)
 
 unfoldable pub seen_in : Sights → Seen
-seen_in s = record { found = found_at s.found; mapped = s.mapped.entries }
+seen_in s = record { found = found_by_address s.found; mapped = s.mapped.entries }
 
 abbrev pub nothing_seen : Seen
 nothing_seen = record { found = nothing_found; mapped = [] }

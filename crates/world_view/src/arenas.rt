@@ -3,12 +3,12 @@
 
 ghost use Rattle.std.specs.Prelude.{◌≡◌, ◌<◌, ◌≤◌, ◌^◌, length, map, fold, IfOk, OnOk};
 ghost use Rattle.stats_text.specs.Totals.{AreWithinSystem, idle_bytes_of, system_bytes_of};
-ghost use Rattle.world_view.specs.Places.{found_at, binned, bins_of, put_found};
+ghost use Rattle.world_view.specs.Places.{found_by_address, binned, bins_of, put_found};
 ghost use Rattle.world_view.specs.Scenes.{arena_shown, place_in_list};
 ghost use Rattle.world_view.specs.Rows.{fast_at, binned_from, arenas_from, plains_of};
 
 use crate::places::{bins, fast_bins, put_bins, put_fast, tile_views};
-use crate::table::PlaceTable;
+use crate::table::{PlaceList, PlaceTable};
 use arena_core::Arena;
 use arena_ground::Ground;
 use arena_rules::Moves;
@@ -33,13 +33,13 @@ fn place_in_list(list: &[u8], number: u8) -> u8
 #[tactic(auto, unfolding(crate::specs::Places::binned))]
 fn put_binned(
     alloc: Global,
-    found: &mut PlaceTable,
+    found: &mut PlaceList,
     ground: &Ground,
     lists: &[Vec<Addr>],
     index: usize,
 ) -> Result<(), NoMemory>
     requires { index < 64 }
-    ensures { OnOk result (found_at found.new ≡ fold put_found (found_at found.old)
+    ensures { OnOk result (found_by_address found.new ≡ fold put_found (found_by_address found.old)
         (binned (fast_at (map (λ l. l.items) lists.now) index) (bins_of ground.now.arena))) }
 {
     let fast = fast_bins(alloc, lists, index)?;
@@ -51,12 +51,12 @@ fn put_binned(
 /// Puts those of all arenas.
 fn put_arenas(
     alloc: Global,
-    found: &mut PlaceTable,
+    found: &mut PlaceList,
     arenas: &[Arena<Ground>],
     lists: &[Vec<Addr>],
 ) -> Result<(), NoMemory>
     requires { length arenas.now ≤ 64 }
-    ensures { OnOk result (found_at found.new ≡ fold put_found (found_at found.old)
+    ensures { OnOk result (found_by_address found.new ≡ fold put_found (found_by_address found.old)
         (binned_from (map (λ l. l.items) lists.now) 0 (plains_of arenas.now))) }
 {
     for (index, arena) in arenas.iter().enumerate() {
@@ -77,7 +77,7 @@ fn arena_view(
 ) -> Result<ArenaView, NoMemory>
     requires index { index < 64 }
     requires list { length list.now ≤ 64 }
-    ensures shown { IfOk result (λ a. a ≡ arena_shown (found_at found.now) list.now
+    ensures shown { IfOk result (λ a. a ≡ arena_shown (found_by_address found.now) list.now
         (fast_at (map (λ l. l.items) lists.now) index) ground.now.arena) }
     ensures idle { IfOk result (λ a. idle_bytes_of a.tiles ≤ a.system) }
     ensures fits { IfOk result (λ a. a.system ≤ 2 ^ 32) }
@@ -107,7 +107,7 @@ fn shown_arenas(
 ) -> Result<Vec<ArenaView>, NoMemory>
     requires arenas { length arenas.now ≤ 64 }
     requires list { length list.now ≤ 64 }
-    ensures shown { IfOk result (λ v. v.items ≡ arenas_from (found_at found.now) list.now
+    ensures shown { IfOk result (λ v. v.items ≡ arenas_from (found_by_address found.now) list.now
         (map (λ l. l.items) lists.now) 0 (plains_of arenas.now)) }
     ensures idle { IfOk result (λ v. AreWithinSystem v.items) }
     ensures fits { IfOk result (λ v. system_bytes_of v.items ≤ 2 ^ 38) }
@@ -122,19 +122,20 @@ fn shown_arenas(
 /// All arenas, by what is found beside their bins.
 pub fn arena_views(
     alloc: Global,
-    found: &mut PlaceTable,
+    mut found: PlaceList,
     list: &[u8],
     arenas: &[Arena<Ground>],
     lists: &[Vec<Addr>],
 ) -> Result<Vec<ArenaView>, NoMemory>
     requires arenas { length arenas.now ≤ 64 }
     requires list { length list.now ≤ 64 }
-    ensures shown { IfOk result (λ v. v.items ≡ arenas_from (fold put_found (found_at found.old)
+    ensures shown { IfOk result (λ v. v.items ≡ arenas_from (fold put_found (found_by_address found)
         (binned_from (map (λ l. l.items) lists.now) 0 (plains_of arenas.now)))
         list.now (map (λ l. l.items) lists.now) 0 (plains_of arenas.now)) }
     ensures idle { IfOk result (λ v. AreWithinSystem v.items) }
     ensures fits { IfOk result (λ v. system_bytes_of v.items ≤ 2 ^ 38) }
 {
-    put_arenas(alloc, found, arenas, lists)?;
-    shown_arenas(alloc, found, list, arenas, lists)
+    put_arenas(alloc, &mut found, arenas, lists)?;
+    let found = found.sorted()?;
+    shown_arenas(alloc, &found, list, arenas, lists)
 }

@@ -4,7 +4,7 @@ ghost use Rattle.std.specs.Prelude.{◌≡◌, ◌≤◌, length, map, fold, IfO
 ghost use Rattle.std.specs.Map.{values_of};
 ghost use Rattle.thread_cache.specs.Caches.{cached_tiles, structure_of};
 ghost use Rattle.malloc_calls.specs.Threads.{own_of, names_of};
-ghost use Rattle.world_view.specs.Places.{view_of_tile, block_find, named_from, far_finds, cached_find, structure_finds, thread_finds, threads_finds, tray_find, finds_of, finds_found, found_at, found_by_address, mapped_finds, by_address};
+ghost use Rattle.world_view.specs.Places.{view_of_tile, block_find, named_from, far_finds, cached_find, structure_finds, thread_finds, threads_finds, tray_find, finds_of, finds_found, found_by_address, mapped_finds, by_address};
 ghost use Rattle.world_view.specs.Sights.{seen_in, put_seen};
 
 use crate::sights::Sights;
@@ -163,16 +163,6 @@ fn see_trays(sights: &mut Sights, trays: &[(u32, Block)]) -> Result<(), NoMemory
     Ok(())
 }
 
-/// How many places the names of all threads have. No more blocks have names.
-fn places_of_names<K: Kernel>(threads: &[Thread<K>]) -> usize {
-    let mut places: usize = 0;
-    for thread in threads {
-        places = places.saturating_add(thread.row() as usize);
-        places = places.saturating_add(thread.far().len());
-    }
-    places
-}
-
 /// The blocks of all threads and of all full trays.
 pub fn sights<K: Kernel>(
     alloc: Global,
@@ -180,12 +170,12 @@ pub fn sights<K: Kernel>(
     trays: &[(u32, Block)],
 ) -> Result<Sights, NoMemory>
     requires { length threads.now ≤ 64 }
-    ensures found { IfOk result (λ s. found_at s.found
+    ensures found { IfOk result (λ s. found_by_address s.found
         ≡ found_by_address (finds_found (finds_of (map own_of threads.now) trays.now))) }
     ensures mapped { IfOk result (λ s. values_of s.mapped.entries
         ≡ by_address (mapped_finds (finds_of (map own_of threads.now) trays.now))) }
 {
-    let mut sights = Sights::new(alloc, places_of_names(threads))?;
+    let mut sights = Sights::new(alloc);
     see_threads(alloc, &mut sights, threads)?;
     see_trays(&mut sights, trays)?;
     Ok(sights)

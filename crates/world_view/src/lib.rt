@@ -8,11 +8,8 @@ mod arenas;
 mod finds;
 mod law;
 mod places;
-mod row;
 mod shown;
 mod sights;
-mod slot;
-mod slots;
 mod table;
 
 pub use law::laws;

@@ -3,11 +3,11 @@
 ghost use Rattle.std.specs.Prelude.{◌≡◌, ◌<◌, [], map, fold, slice_index_or, IfOk, OnOk};
 ghost use Rattle.stats_text.specs.Views.{lists_of};
 ghost use Rattle.stats_text.specs.declared.views.Place.TheVariants as places;
-ghost use Rattle.world_view.specs.Places.{found_at, bins_of, placed_in, put_found, place_in, shown_tiles};
+ghost use Rattle.world_view.specs.Places.{found_by_address, bins_of, placed_in, put_found, place_in, shown_tiles};
 ghost use Rattle.world_view.specs.Rows.{fast_at};
 
 use crate::finds::tile;
-use crate::table::PlaceTable;
+use crate::table::{PlaceList, PlaceTable};
 use arena_ground::Ground;
 use chunk_tags::{Addr, NoMemory, Tile, TileKind};
 use stats_text::{Place, TileView};
@@ -59,9 +59,9 @@ pub fn bins(alloc: Global, ground: &Ground) -> Result<Vec<(u8, Vec<Addr>)>, NoMe
 }
 
 /// Puts the chunks of a list at a place.
-fn put_list(found: &mut PlaceTable, addrs: &[Addr], place: Place) -> Result<(), NoMemory>
-    ensures { OnOk result (found_at found.new
-        ≡ fold put_found (found_at found.old) (map (λ addr. (addr, place)) addrs.now)) }
+fn put_list(found: &mut PlaceList, addrs: &[Addr], place: Place) -> Result<(), NoMemory>
+    ensures { OnOk result (found_by_address found.new
+        ≡ fold put_found (found_by_address found.old) (map (λ addr. (addr, place)) addrs.now)) }
 {
     for addr in addrs {
         found.put(*addr, place)?;
@@ -70,9 +70,9 @@ fn put_list(found: &mut PlaceTable, addrs: &[Addr], place: Place) -> Result<(), 
 }
 
 /// Puts the chunks of fast bins.
-pub fn put_fast(found: &mut PlaceTable, bins: &[(u8, Vec<Addr>)]) -> Result<(), NoMemory>
-    ensures { OnOk result (found_at found.new
-        ≡ fold put_found (found_at found.old) (placed_in places.Fast (lists_of bins.now))) }
+pub fn put_fast(found: &mut PlaceList, bins: &[(u8, Vec<Addr>)]) -> Result<(), NoMemory>
+    ensures { OnOk result (found_by_address found.new
+        ≡ fold put_found (found_by_address found.old) (placed_in places.Fast (lists_of bins.now))) }
 {
     for bin in bins {
         put_list(found, bin.1.as_slice(), Place::Fast { bin: bin.0 })?;
@@ -81,9 +81,9 @@ pub fn put_fast(found: &mut PlaceTable, bins: &[(u8, Vec<Addr>)]) -> Result<(), 
 }
 
 /// Puts the chunks of other bins.
-pub fn put_bins(found: &mut PlaceTable, bins: &[(u8, Vec<Addr>)]) -> Result<(), NoMemory>
-    ensures { OnOk result (found_at found.new
-        ≡ fold put_found (found_at found.old) (placed_in places.Bin (lists_of bins.now))) }
+pub fn put_bins(found: &mut PlaceList, bins: &[(u8, Vec<Addr>)]) -> Result<(), NoMemory>
+    ensures { OnOk result (found_by_address found.new
+        ≡ fold put_found (found_by_address found.old) (placed_in places.Bin (lists_of bins.now))) }
 {
     for bin in bins {
         put_list(found, bin.1.as_slice(), Place::Bin { bin: bin.0 })?;
@@ -92,11 +92,11 @@ pub fn put_bins(found: &mut PlaceTable, bins: &[(u8, Vec<Addr>)]) -> Result<(), 
 }
 
 /// Where a tile of an arena is.
-fn place(found: &PlaceTable, t: &Tile) -> Option<Place>
-    ensures { result ≡ place_in (found_at found.now) t.now }
+fn place(found: &PlaceTable, t: &Tile, next: &mut usize) -> Option<Place>
+    ensures { result ≡ place_in (found_by_address found.now) t.now }
 {
     match t.kind {
-        TileKind::Used | TileKind::Free => found.at(t.addr),
+        TileKind::Used | TileKind::Free => found.at(t.addr, next),
         TileKind::Top => Some(Place::Top),
         TileKind::Fence => Some(Place::Fence),
     }
@@ -108,11 +108,12 @@ pub fn tile_views(
     found: &PlaceTable,
     tiles: &[Tile],
 ) -> Result<Vec<TileView>, NoMemory>
-    ensures { IfOk result (λ v. v.items ≡ shown_tiles (found_at found.now) tiles.now) }
+    ensures { IfOk result (λ v. v.items ≡ shown_tiles (found_by_address found.now) tiles.now) }
 {
     let mut views = Vec::with_capacity(alloc, tiles.len())?;
+    let mut next = 0;
     for t in tiles {
-        if let Some(place) = place(found, t) {
+        if let Some(place) = place(found, t, &mut next) {
             views.push(tile(t.addr, t.size, 0, place))?;
         }
     }

@@ -9,6 +9,7 @@ ghost use Rattle.world_view.specs.Scenes.{ArenaScene, AreArenas, cache_lists, ca
 
 use crate::arenas::arena_views;
 use crate::finds::sights;
+use crate::sights::Sights;
 use address_space::Kernel;
 use arena_choice::Book;
 use arena_core::Arena;
@@ -117,10 +118,10 @@ pub fn snapshot<K: Kernel>(
     ensures totals { IfOk result HasTotals }
 {
     book.laws();
-    let mut sights = sights(alloc, threads, trays)?;
+    let Sights { found, mapped } = sights(alloc, threads, trays)?;
     Ok(Snapshot {
-        arenas: arena_views(alloc, &mut sights.found, book.list(), arenas, fast)?,
-        mapped: mapped_views(alloc, &sights.mapped)?,
+        arenas: arena_views(alloc, found, book.list(), arenas, fast)?,
+        mapped: mapped_views(alloc, &mapped)?,
         caches: cache_views(alloc, threads)?,
         threads: thread_views(alloc, book, lines)?,
         free: Vec::from_slice(alloc, book.free())?,

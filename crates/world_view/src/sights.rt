@@ -1,10 +1,10 @@
 //! What is seen of chunks.
 
-ghost use Rattle.std.specs.Prelude.{◌≡◌, IfOk, OnOk};
+ghost use Rattle.std.specs.Prelude.{◌≡◌, OnOk};
 ghost use Rattle.world_view.specs.Sights.{seen_in, nothing_seen, put_seen};
 
 use crate::finds::Find;
-use crate::table::PlaceTable;
+use crate::table::PlaceList;
 use chunk_tags::NoMemory;
 use stats_text::TileView;
 use std::alloc::Global;
@@ -14,21 +14,21 @@ use std::collections::BTreeMap;
 #[derive(Drop)]
 pub struct Sights {
     /// Where each chunk is found.
-    pub found: PlaceTable,
+    pub found: PlaceList,
     /// The mapped chunks by address.
     pub mapped: BTreeMap<u64, TileView>,
 }
 
 impl Sights {
-    /// None was seen. The table of places has about `capacity` slots.
+    /// None was seen.
     #[tactic(auto, unfolding(crate::specs::Sights::seen_in))]
-    pub fn new(alloc: Global, capacity: usize) -> Result<Sights, NoMemory>
-        ensures { IfOk result (λ sights. seen_in sights ≡ nothing_seen) }
+    pub fn new(alloc: Global) -> Sights
+        ensures { seen_in result ≡ nothing_seen }
     {
-        Ok(Sights {
-            found: PlaceTable::new(alloc, capacity)?,
+        Sights {
+            found: PlaceList::new(alloc),
             mapped: BTreeMap::new(alloc),
-        })
+        }
     }
 
     /// A chunk is seen. After `NoMemory` it may stand in one of the two.

@@ -9,10 +9,10 @@ pub returns-clause-found : goal.returns-clause-found
 unfolding seen_in
 returns-clause-found g c =
     places_seen (seen_in c.see_threads.new.sights) (seen_in c.see_trays.new.sights) (map own_of c.args.threads.now) c.args.trays.now
-    (c.in_ok-see_threads.ensures ∙ ap (λ x. fold put_seen x (threads_finds 0 (map own_of c.args.threads.now))) c.in_ok-sights.ensures) c.in_ok-see_trays.ensures
+    (c.in_ok-see_threads.ensures ∙ ap (λ x. fold put_seen x (threads_finds 0 (map own_of c.args.threads.now))) c.new-sights.ensures) c.in_ok-see_trays.ensures
 
 pub returns-clause-mapped : goal.returns-clause-mapped
 unfolding seen_in
 returns-clause-mapped g c =
     mapped_seen (seen_in c.see_threads.new.sights) (seen_in c.see_trays.new.sights) (map own_of c.args.threads.now) c.args.trays.now
-    (c.in_ok-see_threads.ensures ∙ ap (λ x. fold put_seen x (threads_finds 0 (map own_of c.args.threads.now))) c.in_ok-sights.ensures) c.in_ok-see_trays.ensures
+    (c.in_ok-see_threads.ensures ∙ ap (λ x. fold put_seen x (threads_finds 0 (map own_of c.args.threads.now))) c.new-sights.ensures) c.in_ok-see_trays.ensures
