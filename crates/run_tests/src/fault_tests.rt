@@ -1,24 +1,15 @@
-//! Runs over sources, sinks and ports that fail, that give and take little at a time, or that tell nothing.
+//! Runs over sources and sinks that fail, that give and take little at a time, or that tell nothing.
 
-ghost use Rattle.std.specs.Prelude.{◌≡◌, None, IfOk, vec_len};
+ghost use Rattle.std.specs.Prelude.{◌≡◌, None};
 ghost use Rattle.byte_edge.specs.Streams.{Supply, Store};
 
-use crate::arenas::{
-    ALIGNED_IN_A_HEAP, MAPPED_STRUCTURE, MOVED_IN_THE_END, NOT_ALIGNED, ONE_ALIGNED, TWO_IN_A_HEAP,
-    TWO_MAPPED,
-};
-use crate::resizes::{CACHED_IN_THE_END, REFUSED_GROWTH, REFUSED_SHRINKING, REMAPPED};
-use crate::rows::{FENCED_PIECE, FENCED_PIECE_REPORT};
-use crate::tests::{ample, expect_written, run_over, run_words};
-use crate::texts::{TWO_BLOCKS, TWO_LINES};
-use address_space::Budget;
+use crate::tests::{TWO_BLOCKS, TWO_LINES, ample, run_over, run_words};
 use chunk_tags::NoMemory;
 use std::alloc::Global;
 use std::process::Abort;
 use std::test::Fail;
 use trace_replay::{
-    CountSink, Exit, Fetch, Flush, MemSink, MemSource, Open, Put, Sink, Source, StdSink, StdSource,
-    SureSource, run,
+    CountSink, Exit, Fetch, Flush, MemSink, MemSource, Put, Sink, Source, StdSink, StdSource,
 };
 
 /// The bytes that a write of `Sips` takes at the most.
@@ -264,109 +255,18 @@ fn words_are_served_or_refused(rt: HostRuntime) -> Result<(), Fail> {
     Ok(())
 }
 
-/// A port with a budget of so many bytes, which refuses the asks with these numbers, and others that grant all.
-fn refusing_ports(alloc: Global, bytes: u64, asks: Vec<u64>) -> Result<Vec<Budget>, NoMemory>
-    ensures { IfOk result (λ ports. vec_len ports ≡ 64) }
-{
-    let mut ports = Vec::new(alloc);
-    ports.push(Budget::new(bytes, asks))?;
-    for _ in 1..64_usize {
-        ports.push(Budget::new(u64::MAX, Vec::new(alloc)))?;
-    }
-    Ok(ports)
-}
-
-/// Runs a trace over such ports, and expects its report.
-fn expect_within(
-    rt: &impl Abort,
-    alloc: Global,
-    trace: &[u8],
-    bytes: u64,
-    asks: Vec<u64>,
-    report: &[u8],
-) -> Result<(), NoMemory> {
-    let ports = refusing_ports(alloc, bytes, asks)?;
-    let mut source = SureSource::new(Vec::from_slice(alloc, trace)?);
-    let mut sink = ample(alloc)?;
-    let exit = run(alloc, &[], &mut source, &mut sink, ports, &Open);
-    expect_written(rt, exit, &sink, report);
-    Ok(())
-}
-
-/// The same where the asks with the numbers from the first to the last are refused, and none for its bytes.
-fn expect_refused(
-    rt: &impl Abort,
-    alloc: Global,
-    trace: &[u8],
-    first: u64,
-    last: u64,
-    report: &[u8],
-) -> Result<(), NoMemory> {
-    let asks = (first..=last).collect(alloc)?;
-    expect_within(rt, alloc, trace, u64::MAX, asks, report)
-}
-
-/// The first growth asks for 135,168 bytes, once.
+/// The trace is made, so a source that would fail isn't read; its report is
+/// `tests/replay/made/no_trace+a_line.report`, which has 504 bytes.
 #[test]
-fn a_budget_has_its_bytes(rt: HostRuntime) -> Result<(), Fail> {
+fn where_a_trace_is_made_none_is_read(rt: HostRuntime) -> Result<(), Fail> {
     let alloc = rt.alloc();
-    for (bytes, report) in [(135_168, TWO_BLOCKS), (135_167, TWO_MAPPED)] {
-        expect_within(&rt, alloc, TWO_LINES, bytes, only(alloc, 2)?, report)?;
+    let mut words = Vec::new(alloc);
+    for word in ["ptmreplay", "--gen=5", "--lines=1"] {
+        words.push(String::from_str(alloc, word)?)?;
     }
-    Ok(())
-}
-
-#[test]
-fn a_refused_break_leads_to_a_piece(rt: HostRuntime) -> Result<(), Fail> {
-    expect_refused(&rt, rt.alloc(), FENCED_PIECE, 2, 2, FENCED_PIECE_REPORT)?;
-    Ok(())
-}
-
-#[test]
-fn a_refused_length_is_made_up_for(rt: HostRuntime) -> Result<(), Fail> {
-    for (ask, report) in [(3, REFUSED_GROWTH), (4, REFUSED_SHRINKING)] {
-        expect_refused(&rt, rt.alloc(), REMAPPED, ask, ask, report)?;
-    }
-    Ok(())
-}
-
-/// Its resize is refused, and the cache has a chunk for malloc in its place; or an aligned search is.
-#[test]
-fn a_refused_realloc_or_alignment_is_tried_again(rt: HostRuntime) -> Result<(), Fail> {
-    for (trace, first, last, report) in [
-        (CACHED_IN_THE_END, 2, 3, MOVED_IN_THE_END),
-        (ONE_ALIGNED, 1, 2, ALIGNED_IN_A_HEAP),
-        (ONE_ALIGNED, 1, 5, NOT_ALIGNED),
-    ] {
-        expect_refused(&rt, rt.alloc(), trace, first, last, report)?;
-    }
-    Ok(())
-}
-
-/// Refused for the structure of the cache, in main, or in a heap too.
-#[test]
-fn a_refused_search_is_tried_again(rt: HostRuntime) -> Result<(), Fail> {
-    for (last, report) in [(2, TWO_IN_A_HEAP), (4, MAPPED_STRUCTURE)] {
-        expect_refused(&rt, rt.alloc(), TWO_LINES, 1, last, report)?;
-    }
-    Ok(())
-}
-
-#[test]
-fn one_byte_too_many_is_too_long(rt: HostRuntime) -> Result<(), Fail> {
-    let alloc = rt.alloc();
-    for (length, exit) in [
-        (
-            67_108_864,
-            Exit::BadTrace {
-                line: 1,
-                why: trace_text::BadWhy::Cut,
-            },
-        ),
-        (67_108_865, Exit::TooLong),
-    ] {
-        let mut source = SureSource::new(vec![in alloc; b'0'; length]?);
-        assert_eq!(rt; run_over(alloc, &mut source, &mut ample(alloc)?)?, exit);
-    }
+    let mut source = Dribble::new(1);
+    let mut sink = CountSink::new();
+    let exit = run_words(alloc, &words, &mut source, &mut sink)?;
+    assert_eq!(rt; (exit, source.reads, sink.count()), (Exit::Done, 0, 504));
     Ok(())
 }

@@ -1,7 +1,6 @@
 //! A serial run calls no gate.
 
-use crate::tests::{ample, expect_written};
-use crate::texts::{TWO_BLOCKS, TWO_LINES};
+use crate::tests::{TWO_BLOCKS, TWO_LINES, ample, expect_written};
 use address_space::Always;
 use std::sync::atomic::{AtomicU64, Ordering};
 use std::test::Fail;

@@ -1,21 +1,11 @@
-//! Tests of whole runs, over `trace_replay::run`: traces with the reports that the rules give for them, and sources, sinks
-//! and ports that fail or refuse. There is no code here. They stand apart from the crate that they test, so that its
-//! proofs needn't wait for theirs.
+//! Tests of `trace_replay::run` that need code: what it answers, and sources and sinks that fail or that give and take little
+//! at a time. Traces with their reports are files of `tests/replay` and `tests/budgets`. There is no code here. They stand
+//! apart from the crate that they test, so that its proofs needn't wait for theirs.
 #![tactic(auto)]
 
 #[cfg(test)]
-mod arenas;
-#[cfg(test)]
 mod fault_tests;
-#[cfg(test)]
-mod form_tests;
 #[cfg(test)]
 mod gate_tests;
 #[cfg(test)]
-mod resizes;
-#[cfg(test)]
-mod rows;
-#[cfg(test)]
 mod tests;
-#[cfg(test)]
-mod texts;

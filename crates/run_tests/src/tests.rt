@@ -1,9 +1,5 @@
-//! Whole runs, with the texts that the rules give for them.
+//! Whole runs over ports that grant each ask: a report, and a refusal.
 
-use crate::arenas::*;
-use crate::resizes::*;
-use crate::rows::*;
-use crate::texts::*;
 use address_space::Always;
 use chunk_tags::NoMemory;
 use std::alloc::Global;
@@ -11,6 +7,31 @@ use std::process::Abort;
 use std::test::Fail;
 use trace_replay::{Exit, MemSink, Open, Sink, Source, SureSource, run};
 use trace_text::BadWhy;
+
+pub(crate) const TWO_LINES: &[u8] = b"ptmtrace 1\n0 m 1 24\n0 m 2 25\n";
+
+/// The report on these two lines, worked out by hand.
+pub(crate) const TWO_BLOCKS: &[u8] = b"ptmreport 1 serial
+0 m 1 24 -> 0x5555555592a0 32 arena 0
+0 m 2 25 -> 0x5555555592c0 48 arena 0
+arena 0 system 135168 max 135168 list 0 last -
+0x555555559010 656 structure 0
+0x5555555592a0 32 live 0 1
+0x5555555592c0 48 live 0 2
+0x5555555592f0 134432 top
+mapped
+thread 0 arena 0
+book free - next - limit 0
+dials threshold 131072 trim 131072 mapped 0 bytes 0
+Arena 0:
+system bytes     =     135168
+in use bytes     =        736
+Total (incl. mmap):
+system bytes     =     135168
+in use bytes     =        736
+max mmap regions =          0
+max mmap bytes   =          0
+";
 
 /// Runs over ports that grant each ask.
 pub(crate) fn run_words<S: Source, W: Sink>(
@@ -49,157 +70,22 @@ pub(crate) fn expect_written(rt: &impl Abort, exit: Exit, sink: &MemSink, text: 
     assert_eq!(rt; sink.bytes(), text);
 }
 
-/// Traces have these reports.
-fn expect_reports(
-    rt: &impl Abort,
-    alloc: Global,
-    traces: &[(&[u8], &[u8])],
-) -> Result<(), NoMemory> {
-    for (trace, report) in traces {
-        let mut sink = ample(alloc)?;
-        let exit = run_trace(alloc, trace, &mut sink)?;
-        expect_written(rt, exit, &sink, report);
-    }
+#[test]
+fn a_report_is_written_and_flushed(rt: HostRuntime) -> Result<(), Fail> {
+    let mut sink = ample(rt.alloc())?;
+    let exit = run_trace(rt.alloc(), TWO_LINES, &mut sink)?;
+    expect_written(&rt, exit, &sink, TWO_BLOCKS);
     Ok(())
 }
 
 #[test]
-fn reports_are_those_of_the_rules(rt: HostRuntime) -> Result<(), Fail> {
-    const TRACES: [(&[u8], &[u8]); 6] = [
-        (b"ptmtrace 1\n", EMPTY),
-        (TWO_LINES, TWO_BLOCKS),
-        (SMALLEST, SMALLEST_REPORT),
-        (LARGEST_CACHED, LARGEST_CACHED_REPORT),
-        (TOO_BIG, TOO_BIG_REPORT),
-        (LISTS, LISTS_REPORT),
-    ];
-    expect_reports(&rt, rt.alloc(), &TRACES)?;
-    Ok(())
-}
-
-#[test]
-fn chunks_are_cached_or_binned(rt: HostRuntime) -> Result<(), Fail> {
-    const TRACES: [(&[u8], &[u8]); 4] = [
-        (CACHED_AND_BINNED, CACHED_AND_BINNED_REPORT),
-        (EIGHT_BACK, EIGHT_BACK_REPORT),
-        (FAST_AND_BINNED, FAST_AND_BINNED_REPORT),
-        (CONSOLIDATED, CONSOLIDATED_REPORT),
-    ];
-    expect_reports(&rt, rt.alloc(), &TRACES)?;
-    Ok(())
-}
-
-#[test]
-fn chunks_come_from_bins_and_the_system(rt: HostRuntime) -> Result<(), Fail> {
-    const TRACES: [(&[u8], &[u8]); 5] = [
-        (LAST_REMAINDER, LAST_REMAINDER_REPORT),
-        (SORTED_EQUALS, SORTED_EQUALS_REPORT),
-        (TOP_AND_MAPPING, TOP_AND_MAPPING_REPORT),
-        (RAISED_THRESHOLDS, RAISED_THRESHOLDS_REPORT),
-        (TRIMMED_MAIN, TRIMMED_MAIN_REPORT),
-    ];
-    expect_reports(&rt, rt.alloc(), &TRACES)?;
-    Ok(())
-}
-
-/// calloc passes over the cache, and where nothing is got nothing changes.
-#[test]
-fn blocks_are_resized_and_aligned(rt: HostRuntime) -> Result<(), Fail> {
-    const TRACES: [(&[u8], &[u8]); 5] = [
-        (RESIZED, RESIZED_REPORT),
-        (RESIZED_MAPPINGS, RESIZED_MAPPINGS_REPORT),
-        (ALIGNED, ALIGNED_REPORT),
-        (ZEROED, ZEROED_REPORT),
-        (NOTHING_GOT, NOTHING_GOT_REPORT),
-    ];
-    expect_reports(&rt, rt.alloc(), &TRACES)?;
-    Ok(())
-}
-
-/// The report on a trace begins so.
-fn expect_records(
-    rt: &impl Abort,
-    alloc: Global,
-    trace: &[u8],
-    records: &[u8],
-) -> Result<(), NoMemory> {
-    let mut sink = ample(alloc)?;
-    let exit = run_trace(alloc, trace, &mut sink)?;
-    assert_eq!(rt;
-        (exit, sink.bytes().starts_with(records)),
-        (Exit::Done, true)
-    );
-    Ok(())
-}
-
-#[test]
-fn records_are_those_of_the_rules(rt: HostRuntime) -> Result<(), Fail> {
-    for (trace, records) in [
-        (
-            b"ptmtrace 1\n0 m 1 0\n".as_slice(),
-            b"ptmreport 1 serial\n0 m 1 0 -> 0x5555555592a0 32 arena 0\n".as_slice(),
-        ),
-        (
-            b"ptmtrace 1\n0 m 1 1032\n0 f 1\n0 m 2 1032\n",
-            b"ptmreport 1 serial\n0 m 1 1032 -> 0x5555555592a0 1040 arena 0\n0 f 1 -> cached\n0 m 2 1032 -> 0x5555555592a0 1040 cached\n",
-        ),
-        (
-            b"ptmtrace 1\n0 m 1 9223372036854775808\n0 f 1\n",
-            b"ptmreport 1 serial\n0 m 1 9223372036854775808 -> null big\n0 f 1 -> skip\n",
-        ),
-    ] {
-        expect_records(&rt, rt.alloc(), trace, records)?;
-    }
-    Ok(())
-}
-
-#[test]
-fn threads_have_arenas(rt: HostRuntime) -> Result<(), Fail> {
-    const TRACES: [(&[u8], &[u8]); 4] = [
-        (OTHER_THREAD, OTHER_THREAD_REPORT),
-        (HANDED_OVER, HANDED_OVER_REPORT),
-        (ENDED, ENDED_REPORT),
-        (NOT_POSTED, NOT_POSTED_REPORT),
-    ];
-    expect_reports(&rt, rt.alloc(), &TRACES)?;
-    Ok(())
-}
-
-#[test]
-fn what_is_refused_is_tried_in_another_arena(rt: HostRuntime) -> Result<(), Fail> {
-    const TRACES: [(&[u8], &[u8]); 2] = [
-        (REFUSED, REFUSED_REPORT),
-        (REFUSED_RESIZE, REFUSED_RESIZE_REPORT),
-    ];
-    expect_reports(&rt, rt.alloc(), &TRACES)?;
-    Ok(())
-}
-
-/// A trace is refused for this line, with status 3, and nothing is written.
-fn expect_refusal(
-    rt: &impl Abort,
-    alloc: Global,
-    trace: &[u8],
-    line: u64,
-    why: BadWhy,
-) -> Result<(), NoMemory> {
-    let mut sink = ample(alloc)?;
-    let exit = run_trace(alloc, trace, &mut sink)?;
-    assert_eq!(rt;
-        (exit, exit.status(), sink.bytes().len()),
-        (Exit::BadTrace { line, why }, 3, 0)
-    );
-    Ok(())
-}
-
-#[test]
-fn refusals_write_nothing(rt: HostRuntime) -> Result<(), Fail> {
-    for (trace, line, why) in [
-        (b"".as_slice(), 1, BadWhy::Cut),
-        (b"ptmtrace 1", 1, BadWhy::Cut),
-        (b"ptmtrace 1\n0 m 1 24\n0 m 1 24\n", 3, BadWhy::Held),
-    ] {
-        expect_refusal(&rt, rt.alloc(), trace, line, why)?;
-    }
+fn a_refusal_says_the_line_and_writes_nothing(rt: HostRuntime) -> Result<(), Fail> {
+    let mut sink = ample(rt.alloc())?;
+    let exit = run_trace(rt.alloc(), b"ptmtrace 1\n0 m 1 24\n0 m 1 24\n", &mut sink)?;
+    let held = Exit::BadTrace {
+        line: 3,
+        why: BadWhy::Held,
+    };
+    assert_eq!(rt; (exit, exit.status(), sink.bytes().len()), (held, 3, 0));
     Ok(())
 }
