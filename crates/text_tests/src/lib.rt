@@ -12,8 +12,6 @@ mod maker_tests;
 #[cfg(test)]
 mod report_tests;
 #[cfg(test)]
-mod report_texts;
-#[cfg(test)]
 mod snapshots;
 #[cfg(test)]
 mod trace_examples;

@@ -1,10 +1,10 @@
 //! The forms of the lines, and that each public call succeeds. Where nothing else is said, the texts wanted are
-//! those of a second implementation of the rules.
+//! those of a second implementation of the rules. Whole reports are files of `tests/replay`.
 
 ghost use Rattle.std.specs.Prelude.{◌≡◌, ◌<◌, ◌≤◌, ◌+◌, ◌^◌, true};
 ghost use Rattle.stats_text.specs.Totals.{HasTotals, AreWithinSystem, is_idle_place, idle_bytes_of, system_bytes_of};
 
-use crate::{report_texts as texts, snapshots};
+use crate::snapshots;
 use chunk_tags::{Addr, NoMemory, Size};
 use record_lines::{Outcome, Record, Sink3, Source3, append_record, count_outcomes, record_line};
 use stats_text::{
@@ -101,83 +101,38 @@ fn same_text_of(alloc: Global, s: &Snapshot) -> Result<Vec<u8>, NoMemory>
     Ok(text)
 }
 
-/// A snapshot's text is the one wanted, appended behind another and made by itself.
-fn expect(
-    rt: &impl Abort,
-    alloc: Global,
-    made: Result<Snapshot, NoMemory>,
-    want: &str,
-) -> Result<(), NoMemory> {
-    let s = made?;
+/// What is to be written for the snapshot of mapped chunks.
+const MAPPED_CHUNKS: &str = "\
+arena 0 system 135168 max 135168 list 0 last -
+0x555555559010 656 structure 0
+0x5555555592a0 131088 live 0 1
+0x5555555792b0 3424 top
+mapped
+0x600000000010 135168 lead 0 tray 9
+0x600000022000 200720 lead 4080 live 0 3
+thread 0 arena 0
+book free - next - limit 0
+dials threshold 143360 trim 286720 mapped 2 bytes 339968
+Arena 0:
+system bytes     =     135168
+in use bytes     =     131744
+Total (incl. mmap):
+system bytes     =     475136
+in use bytes     =     471712
+max mmap regions =          3
+max mmap bytes   =     483328
+";
+
+/// A snapshot's text, appended behind another and made by itself.
+#[test]
+fn a_snapshot_is_written(rt: HostRuntime) -> Result<(), Fail> {
+    let s = snapshots::mapped_chunks(rt.alloc())?;
     let fits = has_totals(&s);
     assert!(rt; fits);
-    let text = text_of(alloc, &s)?;
-    let same = same_text_of(alloc, &s)?;
-    assert_eq!(rt; text.as_slice(), want.as_bytes());
-    assert_eq!(rt; same.as_slice(), want.as_bytes());
-    Ok(())
-}
-
-#[test]
-fn main_is_written(rt: HostRuntime) -> Result<(), Fail> {
-    let alloc = rt.alloc();
-    expect(&rt, alloc, snapshots::nothing(alloc), texts::NOTHING)?;
-    expect(&rt, alloc, snapshots::two_blocks(alloc), texts::TWO_BLOCKS)?;
-    expect(&rt, alloc, snapshots::lists(alloc), texts::LISTS)?;
-    expect(
-        &rt,
-        alloc,
-        snapshots::fenced_piece(alloc),
-        texts::FENCED_PIECE,
-    )?;
-    expect(
-        &rt,
-        alloc,
-        snapshots::trimmed_main(alloc),
-        texts::TRIMMED_MAIN,
-    )?;
-    Ok(())
-}
-
-#[test]
-fn mappings_are_written(rt: HostRuntime) -> Result<(), Fail> {
-    let alloc = rt.alloc();
-    expect(
-        &rt,
-        alloc,
-        snapshots::mapped_chunks(alloc),
-        texts::MAPPED_CHUNKS,
-    )?;
-    expect(
-        &rt,
-        alloc,
-        snapshots::mapped_structure(alloc),
-        texts::MAPPED_STRUCTURE,
-    )?;
-    Ok(())
-}
-
-#[test]
-fn other_arenas_are_written(rt: HostRuntime) -> Result<(), Fail> {
-    let alloc = rt.alloc();
-    expect(
-        &rt,
-        alloc,
-        snapshots::three_arenas(alloc),
-        texts::THREE_ARENAS,
-    )?;
-    expect(
-        &rt,
-        alloc,
-        snapshots::reused_arena(alloc),
-        texts::REUSED_ARENA,
-    )?;
-    expect(
-        &rt,
-        alloc,
-        snapshots::ended_threads(alloc),
-        texts::ENDED_THREADS,
-    )?;
+    let text = text_of(rt.alloc(), &s)?;
+    let same = same_text_of(rt.alloc(), &s)?;
+    assert_eq!(rt; text.as_slice(), MAPPED_CHUNKS.as_bytes());
+    assert_eq!(rt; same.as_slice(), MAPPED_CHUNKS.as_bytes());
     Ok(())
 }
 
@@ -202,12 +157,12 @@ fn totals_stand_alone(rt: HostRuntime) -> Result<(), Fail> {
 }
 
 #[test]
-fn cached_bytes_are_in_use(rt: HostRuntime) -> Result<(), Fail> {
-    let lists = snapshots::lists(rt.alloc())?;
-    for arena in &lists.arenas {
+fn bytes_in_use_stand_alone(rt: HostRuntime) -> Result<(), Fail> {
+    let s = snapshots::mapped_chunks(rt.alloc())?;
+    for arena in &s.arenas {
         let within = is_within(arena);
         assert!(rt; within);
-        assert_eq!(rt; in_use(arena), 3968);
+        assert_eq!(rt; in_use(arena), 131_744);
     }
     Ok(())
 }
