@@ -1,0 +1,71 @@
+# Installs the proved programs with what belongs to them, and makes packages of the same.
+#
+#   make install    PREFIX=/usr/local and DESTDIR= say where
+#   make uninstall  removes what install puts there
+#   make package    ptmreplay-VERSION.tar.gz and ptmreplay_VERSION_amd64.deb in OUT=out, for machines without Rattle's kit
+#
+# The programs are proved and built first where that is due, which needs the kit and takes long.
+PREFIX ?= /usr/local
+DESTDIR ?=
+OUT ?= out
+CRATES = ptmreplay kernel_calls
+TOOLS = heapmap whatif record
+# The day of the last change, as a version, and its name.
+VERSION := $(shell git log -1 --format=0.%cd.%h --date=format:%Y%m%d 2>/dev/null || echo 0)
+MAINTAINER ?= nobody <nobody@localhost>
+
+bin = $(DESTDIR)$(PREFIX)/bin
+# The programs as the tools look for them: two folders above a tool's own.
+own = $(DESTDIR)$(PREFIX)/libexec/ptmreplay
+man = $(DESTDIR)$(PREFIX)/share/man/man1
+doc = $(DESTDIR)$(PREFIX)/share/doc/ptmreplay
+completions = $(DESTDIR)$(PREFIX)/share/bash-completion/completions
+package = $(OUT)/ptmreplay_$(VERSION)_amd64
+archive = $(OUT)/ptmreplay-$(VERSION)
+
+help:
+	@sed -n 's/^# \{0,3\}//;1,8p' Makefile
+
+programs:
+	@for name in $(CRATES); do tools/start --build $$name || exit; done
+
+record:
+	@$(MAKE) -s -C tools/record
+
+install: programs record
+	install -d $(bin) $(own) $(man) $(doc) $(completions) $(TOOLS:%=$(own)/tools/%)
+	for name in $(CRATES); do \
+	    install -m 755 crates/$$name/out/$$name $(own)/$$name && \
+	    ln -sf ../libexec/ptmreplay/$$name $(bin)/$$name || exit; \
+	done
+	install -m 644 tools/heapmap/*.py tools/heapmap/*.js tools/heapmap/*.css $(own)/tools/heapmap
+	install -m 644 tools/whatif/*.py $(own)/tools/whatif
+	rm -f $(own)/tools/*/check.py
+	install -s -m 755 tools/record/record.so $(own)/tools/record
+	for name in $(TOOLS); do \
+	    install -m 755 tools/$$name/$$name $(own)/tools/$$name && \
+	    ln -sf ../libexec/ptmreplay/tools/$$name/$$name $(bin)/$$name || exit; \
+	    install -m 644 tools/$$name/README.md $(doc)/$$name.md || exit; \
+	done
+	strip $(own)/tools/record/record
+	install -m 644 docs/ptmreplay.1 $(man)
+	install -m 644 README.md docs/FORMATS.md $(doc)
+	install -m 644 tools/completion/ptmreplay.bash $(completions)/ptmreplay
+
+uninstall:
+	rm -f $(CRATES:%=$(bin)/%) $(TOOLS:%=$(bin)/%) $(man)/ptmreplay.1 $(completions)/ptmreplay
+	rm -rf $(own) $(doc)
+
+# The newest version of the C library that a program asks for is the one that the package depends on.
+package:
+	rm -rf $(package) $(archive)
+	$(MAKE) -s install DESTDIR=$(package) PREFIX=/usr
+	mkdir -p $(package)/DEBIAN
+	tools/control $(VERSION) '$(MAINTAINER)' $(package) >$(package)/DEBIAN/control
+	dpkg-deb --root-owner-group --build $(package) $(package).deb
+	rm -rf $(package)
+	$(MAKE) -s install DESTDIR=$(archive) PREFIX=
+	tar -C $(OUT) --owner=0 --group=0 -czf $(archive).tar.gz $(notdir $(archive))
+	rm -rf $(archive)
+
+.PHONY: help programs record install uninstall package
