@@ -24,7 +24,7 @@ package = $(OUT)/ptmreplay_$(VERSION)_amd64
 archive = $(OUT)/ptmreplay-$(VERSION)
 
 help:
-	@sed -n 's/^# \{0,3\}//;1,8p' Makefile
+	@sed -n 's/^# \{0,3\}//;1,7p' Makefile
 
 programs:
 	@for name in $(CRATES); do tools/start --build $$name || exit; done
@@ -33,39 +33,40 @@ record:
 	@$(MAKE) -s -C tools/record
 
 install: programs record
-	install -d $(bin) $(own) $(man) $(doc) $(completions) $(TOOLS:%=$(own)/tools/%)
+	install -d "$(bin)" "$(own)" "$(man)" "$(doc)" "$(completions)"
 	for name in $(CRATES); do \
-	    install -m 755 crates/$$name/out/$$name $(own)/$$name && \
-	    ln -sf ../libexec/ptmreplay/$$name $(bin)/$$name || exit; \
+	    install -m 755 crates/$$name/out/$$name "$(own)/$$name" && \
+	    ln -sf ../libexec/ptmreplay/$$name "$(bin)/$$name" || exit; \
 	done
-	install -m 644 tools/heapmap/*.py tools/heapmap/*.js tools/heapmap/*.css $(own)/tools/heapmap
-	install -m 644 tools/whatif/*.py $(own)/tools/whatif
-	rm -f $(own)/tools/*/check.py
-	install -s -m 755 tools/record/record.so $(own)/tools/record
 	for name in $(TOOLS); do \
-	    install -m 755 tools/$$name/$$name $(own)/tools/$$name && \
-	    ln -sf ../libexec/ptmreplay/tools/$$name/$$name $(bin)/$$name || exit; \
-	    install -m 644 tools/$$name/README.md $(doc)/$$name.md || exit; \
+	    install -d "$(own)/tools/$$name" && \
+	    install -m 755 tools/$$name/$$name "$(own)/tools/$$name" && \
+	    install -m 644 tools/$$name/README.md "$(doc)/$$name.md" && \
+	    ln -sf ../libexec/ptmreplay/tools/$$name/$$name "$(bin)/$$name" || exit; \
 	done
-	strip $(own)/tools/record/record
-	install -m 644 docs/ptmreplay.1 $(man)
-	install -m 644 README.md docs/FORMATS.md $(doc)
-	install -m 644 tools/completion/ptmreplay.bash $(completions)/ptmreplay
+	install -m 644 tools/heapmap/heap_*.py tools/heapmap/*.js tools/heapmap/*.css "$(own)/tools/heapmap"
+	install -m 644 tools/whatif/whatif_*.py "$(own)/tools/whatif"
+	install -m 755 tools/record/record.so "$(own)/tools/record"
+	strip "$(own)/tools/record/record" "$(own)/tools/record/record.so"
+	install -m 644 docs/ptmreplay.1 "$(man)"
+	install -m 644 README.md docs/FORMATS.md "$(doc)"
+	install -m 644 tools/completion/ptmreplay.bash "$(completions)/ptmreplay"
 
 uninstall:
-	rm -f $(CRATES:%=$(bin)/%) $(TOOLS:%=$(bin)/%) $(man)/ptmreplay.1 $(completions)/ptmreplay
-	rm -rf $(own) $(doc)
+	for name in $(CRATES) $(TOOLS); do rm -f "$(bin)/$$name" || exit; done
+	rm -f "$(man)/ptmreplay.1" "$(completions)/ptmreplay"
+	rm -rf "$(own)" "$(doc)"
 
 # The newest version of the C library that a program asks for is the one that the package depends on.
 package:
-	rm -rf $(package) $(archive)
-	$(MAKE) -s install DESTDIR=$(package) PREFIX=/usr
-	mkdir -p $(package)/DEBIAN
-	tools/control $(VERSION) '$(MAINTAINER)' $(package) >$(package)/DEBIAN/control
-	dpkg-deb --root-owner-group --build $(package) $(package).deb
-	rm -rf $(package)
-	$(MAKE) -s install DESTDIR=$(archive) PREFIX=
-	tar -C $(OUT) --owner=0 --group=0 -czf $(archive).tar.gz $(notdir $(archive))
-	rm -rf $(archive)
+	rm -rf "$(package)" "$(archive)"
+	$(MAKE) -s install DESTDIR="$(package)" PREFIX=/usr
+	mkdir -p "$(package)/DEBIAN"
+	tools/control '$(VERSION)' '$(MAINTAINER)' "$(package)" >"$(package)/DEBIAN/control"
+	dpkg-deb --root-owner-group --build "$(package)" "$(package).deb"
+	rm -rf "$(package)"
+	$(MAKE) -s install DESTDIR="$(archive)" PREFIX=
+	tar -C "$(OUT)" --owner=0 --group=0 -czf "$(archive).tar.gz" "ptmreplay-$(VERSION)"
+	rm -rf "$(archive)"
 
 .PHONY: help programs record install uninstall package
