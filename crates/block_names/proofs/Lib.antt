@@ -1,3 +1,2 @@
 pub mod Keyed
 pub mod Tables
-mod FarPlaces

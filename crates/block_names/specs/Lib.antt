@@ -2,5 +2,3 @@ pub use Rattle.chunk_tags.specs.Sizes
 pub use Rattle.mapped_chunks.specs.Mappings
 pub mod Blocks
 pub mod Names
-pub mod FarNames
-pub mod NearNames

@@ -1,77 +1,33 @@
-//! The blocks of far names.
+//! The places of far names.
 
-ghost use Rattle.std.specs.Prelude.{◌≡◌, ◌<◌, [], false, None, Some, is_some, length, vec_capacity, OnOk, IfOk, OnErr};
+ghost use Rattle.std.specs.Prelude.{◌≡◌, [], false, None, Some, is_some, length, OnOk, OnErr};
 ghost use Rattle.std.specs.BTreeMap.{insert_entry};
 ghost use Rattle.std.specs.List.Sorted.{IsStrictlySortedBy};
 ghost use Rattle.std.specs.Map.{keys_of, set_value, remove_entry};
 ghost use Rattle.std.specs.Option.{unwrap_or};
 ghost use Rattle.std.specs.Ordering.{nat_cmp};
-ghost use Rattle.block_names.specs.FarNames.{Refills};
 ghost use Rattle.block_names.specs.Names.{is_name, far_place};
 
-use crate::slot::Slot;
+use crate::near::block_in;
 use chunk_tags::{Block, NoMemory};
 use std::alloc::Global;
 use std::collections::BTreeMap;
 use std::collections::btree_map::Keys;
 use std::marker::Model;
 
-/// For how many slots room is made at least (this project's own).
-const LEAST_STEP: usize = 1024;
-
-/// One part in so many of the slots is the room that is made for more of them (this project's own).
-const STEP_PARTS: usize = 32;
-
-/// Places by rising name, each empty or with a block. A map has the number of a slot for each name, and the slots stand in
-/// a row, so that what is large doesn't stand in nodes that may be half empty. A slot whose name went is used again: the
-/// free slots are a chain, each with the number of the next.
+/// Places by rising name, each empty or with a block.
 #[derive(Debug, Drop)]
 pub struct FarNames {
-    index: BTreeMap<u32, u32, Global>,
-    slots: Vec<Slot>,
-    free: Option<u32>,
+    places: BTreeMap<u32, Option<Block>, Global>,
 }
 
 impl Model for FarNames {
     ghost use Rattle.std.specs.Prelude.{ℕ, List, Option};
     ghost use Rattle.chunk_tags.specs.declared.block.Block.{Block as Piece};
-    ghost use Rattle.block_names.specs.FarNames.{places_in, AreChained};
 
     ghost Value = { List (ℕ × Option Piece) };
 
-    ghost view = { λ f. places_in f.slots.items f.index.entries };
-
-    ghost invariant = { λ f. AreChained f.slots.items f.index.entries f.free };
-}
-
-/// Makes room for more slots where there is none.
-fn make_room(slots: &mut Vec<Slot>) -> Result<(), NoMemory>
-    ensures items { slots.new.items ≡ slots.old.items }
-    ensures room { OnOk result (length slots.new.items < vec_capacity slots.new) }
-{
-    if slots.len() == slots.capacity() {
-        slots.reserve_exact((slots.len() / STEP_PARTS).max(LEAST_STEP))?;
-    }
-    Ok(())
-}
-
-/// The number of the first free slot, which is a new one where none was free. After `NoMemory` nothing changed.
-fn first_free(slots: &mut Vec<Slot>, free: &mut Option<u32>) -> Result<u32, NoMemory>
-    ensures first { IfOk result (λ slot. free.new ≡ Some slot) }
-    ensures ok { OnOk result (Refills slots.old.items free.old slots.new.items free.new) }
-    ensures slots { OnErr result (slots.new.items ≡ slots.old.items) }
-    ensures free { OnErr result (free.new ≡ free.old) }
-{
-    if let Some(slot) = *free {
-        return Ok(slot);
-    }
-    let Ok(slot) = u32::try_from(slots.len()) else {
-        return Err(NoMemory);
-    };
-    make_room(slots)?;
-    slots.push(Slot::empty(None)).unwrap();
-    *free = Some(slot);
-    Ok(slot)
+    ghost view = { λ f. f.places.entries };
 }
 
 impl FarNames {
@@ -80,9 +36,7 @@ impl FarNames {
         ensures { result ≡ [] }
     {
         FarNames {
-            index: BTreeMap::new(alloc),
-            slots: Vec::new(alloc),
-            free: None,
+            places: BTreeMap::new(alloc),
         }
     }
 
@@ -90,30 +44,29 @@ impl FarNames {
     pub fn len(&self) -> usize
         ensures { result ≡ length self.now }
     {
-        self.index.len()
+        self.places.len()
     }
 
     /// The names, rising.
-    pub fn names(&self) -> Keys<'_, u32, u32>
+    pub fn names(&self) -> Keys<'_, u32, Option<Block>>
         ensures names { result ≡ keys_of self.now }
         ensures rising { IsStrictlySortedBy nat_cmp (keys_of self.now) }
     {
-        self.index.keys()
+        self.places.keys()
     }
 
     /// Whether a name has a place.
     pub fn contains(&self, name: u32) -> bool
         ensures { result ≡ is_some (far_place name self.now) }
     {
-        self.index.contains_key(&name)
+        self.places.contains_key(&name)
     }
 
     /// The block of a name.
     pub fn get(&self, name: u32) -> Option<Block>
         ensures { result ≡ unwrap_or (far_place name self.now) None }
     {
-        let slot = *self.index.get(&name)?;
-        self.slots[slot as usize].get()
+        block_in(self.places.get(&name)?)
     }
 
     /// Makes a place for a name that has none. After `NoMemory` nothing changed.
@@ -122,20 +75,19 @@ impl FarNames {
         ensures ok { OnOk result (self.new ≡ insert_entry nat_cmp self.old name None) }
         ensures err { OnErr result (self.new ≡ self.old) }
     {
-        let slot = first_free(&mut self.slots, &mut self.free)?;
-        self.index.insert(name, slot)?;
-        self.free = self.slots[slot as usize].next();
+        self.places.insert(name, None)?;
         Ok(())
     }
 
-    /// Puts a block of some bytes into the place of a name, where it has one.
+    /// Puts a block into the place of a name, where it has one.
+    #[tactic(auto, using(crate::proofs::Keyed::set_none))]
     pub fn put(&mut self, name: u32, block: Block)
-        requires { 0 < block.size }
         ensures { self.new ≡ set_value (is_name name) self.old (Some block) }
     {
-        if let Some(slot) = self.index.get(&name) {
-            self.slots[*slot as usize].put(block);
-        }
+        let Some(place) = self.places.get_mut(&name) else {
+            return;
+        };
+        *place = Some(block);
     }
 
     /// Takes the block of a name out of its place.
@@ -143,17 +95,13 @@ impl FarNames {
         ensures was { result ≡ unwrap_or (far_place name self.old) None }
         ensures rest { self.new ≡ set_value (is_name name) self.old None }
     {
-        let slot = *self.index.get(&name)?;
-        self.slots[slot as usize].take()
+        self.places.get_mut(&name)?.take()
     }
 
-    /// Lets the place of a name go, where it has one. Another name may use its slot then.
+    /// Lets the place of a name go, where it has one.
     pub fn remove(&mut self, name: u32)
         ensures { self.new ≡ remove_entry (is_name name) self.old }
     {
-        if let Some(slot) = self.index.remove(&name) {
-            self.slots[slot as usize] = Slot::empty(self.free);
-            self.free = Some(slot);
-        }
+        self.places.remove(&name);
     }
 }

@@ -5,8 +5,6 @@
 mod far;
 mod names;
 mod near;
-mod slot;
-mod word;
 
 pub use far::FarNames;
 pub use names::Names;

@@ -5,7 +5,7 @@ ghost use Rattle.block_names.specs.Blocks.{IsHeld};
 ghost use Rattle.block_names.specs.Names.{IsTable, FarNamesRise, no_names, has_place, block_at, with_place, with_block, without_block, tidied};
 
 use crate::far::FarNames;
-use crate::near::NearNames;
+use crate::near::{append_places, copy_at, take_at};
 use chunk_tags::{Block, NoMemory};
 use std::alloc::Global;
 use std::marker::Model;
@@ -17,7 +17,7 @@ const NEAR_NAMES: u32 = 1_048_576;
 /// largest that was made ready, and of the others one for each that was (this project's own).
 #[derive(Debug, Drop)]
 pub struct Names {
-    near: NearNames,
+    near: Vec<Option<Block>>,
     far: FarNames,
 }
 
@@ -26,9 +26,9 @@ impl Model for Names {
 
     ghost Value = { NameTable };
 
-    ghost view = { λ n. record { near = n.near; far = n.far } };
+    ghost view = { λ n. record { near = n.near.items; far = n.far } };
 
-    ghost invariant = { λ n. IsTable (record { near = n.near; far = n.far }) };
+    ghost invariant = { λ n. IsTable (record { near = n.near.items; far = n.far }) };
 }
 
 impl Names {
@@ -38,7 +38,7 @@ impl Names {
         ensures { result ≡ no_names }
     {
         Names {
-            near: NearNames::new(alloc),
+            near: Vec::new(alloc),
             far: FarNames::new(alloc),
         }
     }
@@ -76,7 +76,7 @@ impl Names {
         }
         if name < NEAR_NAMES {
             let missing = name as usize + 1 - self.near.len();
-            self.near.append(missing)
+            append_places(&mut self.near, missing)
         } else {
             self.far.make(name)?;
             Ok(())
@@ -97,18 +97,11 @@ impl Names {
         self.near.len() as u32
     }
 
-    /// Whether a name in the row holds a block.
-    pub fn holds_in_row(&self, name: u32) -> bool
-        ensures { result ≡ is_some (slice_index_or self.now.near name None) }
-    {
-        self.near.has(name as usize)
-    }
-
     /// A copy of the block of a name in the row; `None` where the name holds nothing, and where it isn't in the row.
     pub fn in_row(&self, name: u32) -> Option<Block>
         ensures { result ≡ slice_index_or self.now.near name None }
     {
-        self.near.get(name as usize)
+        copy_at(&self.near, name)
     }
 
     /// A copy of the block of a name. `None` exactly where the name holds nothing.
@@ -119,7 +112,7 @@ impl Names {
         ensures held { IfSome result IsHeld }
     {
         if name < NEAR_NAMES {
-            self.near.get(name as usize)
+            copy_at(&self.near, name)
         } else {
             self.far.get(name)
         }
@@ -134,7 +127,7 @@ impl Names {
         ensures { self.new ≡ with_block name block self.old }
     {
         if name < NEAR_NAMES {
-            self.near.put(name as usize, block);
+            self.near[name as usize] = Some(block);
         } else {
             self.far.put(name, block);
         }
@@ -149,7 +142,7 @@ impl Names {
         ensures held { IfSome result IsHeld }
     {
         if name < NEAR_NAMES {
-            self.near.take(name as usize)
+            take_at(&mut self.near, name)
         } else {
             self.far.take(name)
         }

@@ -1,102 +1,57 @@
-//! The blocks of near names.
+//! The places of near names, in a row.
 
-ghost use Rattle.std.specs.Prelude.{◌≡◌, ◌<◌, [], ◌++◌, None, Some, is_some, length, replicate, slice_index_or, slice_set, OnOk, OnErr};
-ghost use Rattle.word_rows.specs.Rows.{spot_read};
-ghost use Rattle.block_names.specs.NearNames.{block_of_spot};
+ghost use Rattle.std.specs.Prelude.{◌≡◌, ◌++◌, None, replicate, slice_index_or, slice_set, OnOk, OnErr};
 
-use crate::slot::copy_of;
-use crate::word::{block_of, word_of};
 use chunk_tags::{Block, NoMemory};
-use std::alloc::Global;
-use std::marker::Model;
-use word_rows::{Spot, WordRow};
 
-/// Places in a row, each empty or with a block (this project's own). Most blocks stand there as a word.
-#[derive(Debug, Drop)]
-pub struct NearNames {
-    row: WordRow<Block>,
-}
-
-impl Model for NearNames {
-    ghost use Rattle.std.specs.Prelude.{List, Option, map};
-    ghost use Rattle.chunk_tags.specs.declared.block.Block.{Block as Piece};
-    ghost use Rattle.block_names.specs.NearNames.{block_of_spot};
-
-    ghost Value = { List (Option Piece) };
-
-    ghost view = { λ n. map block_of_spot n.row };
-}
-
-/// The block of a spot.
-fn block_in(spot: Spot<&Block>) -> Option<Block>
-    ensures { result ≡ block_of_spot (spot_read spot.entry) }
+/// A block as it is read. The hand that holds it holds it on.
+pub(crate) fn copy_of(block: &Block) -> Block
+    ensures { result ≡ block.now }
 {
-    match spot {
-        Spot::Empty => None,
-        Spot::Word(word) => Some(block_of(word)),
-        Spot::Whole(block) => Some(copy_of(block)),
+    Block {
+        addr: block.addr,
+        size: block.size,
+        lead: block.lead,
+        arena: block.arena,
     }
 }
 
-impl NearNames {
-    /// No places.
-    pub fn new(alloc: Global) -> NearNames
-        ensures { result ≡ [] }
-    {
-        NearNames {
-            row: WordRow::new(alloc),
-        }
-    }
+/// A copy of the block in a place.
+pub(crate) fn block_in(place: &Option<Block>) -> Option<Block>
+    ensures { result ≡ place.now }
+{
+    Some(copy_of(place.as_ref()?))
+}
 
-    /// How many places there are.
-    pub fn len(&self) -> usize
-        ensures { result ≡ length self.now }
-    {
-        self.row.len()
-    }
+/// A copy of the block in the place of a name; `None` where it is empty, and where there is none.
+pub(crate) fn copy_at(row: &[Option<Block>], name: u32) -> Option<Block>
+    ensures { result ≡ slice_index_or row.now name None }
+{
+    block_in(row.get(name as usize)?)
+}
 
-    /// Whether a place has a block.
-    pub fn has(&self, place: usize) -> bool
-        ensures { result ≡ is_some (slice_index_or self.now place None) }
-    {
-        self.get(place).is_some()
+/// Appends so many empty places. After `NoMemory` nothing changed.
+pub(crate) fn append_places(row: &mut Vec<Option<Block>>, count: usize) -> Result<(), NoMemory>
+    ensures ok { OnOk result (row.new.items ≡ row.old.items ++ replicate count None) }
+    ensures err { OnErr result (row.new.items ≡ row.old.items) }
+{
+    row.reserve(count)?;
+    for _n in 0..count {
+        row.push(None).unwrap();
     }
+    Ok(())
+}
 
-    /// A copy of the block in a place; `None` where it is empty, and where there is none.
-    pub fn get(&self, place: usize) -> Option<Block>
-        ensures { result ≡ slice_index_or self.now place None }
-    {
-        block_in(self.row.get(place))
-    }
-
-    /// Appends so many empty places. After `NoMemory` nothing changed.
-    pub fn append(&mut self, count: usize) -> Result<(), NoMemory>
-        ensures ok { OnOk result (self.new ≡ self.old ++ replicate count None) }
-        ensures err { OnErr result (self.new ≡ self.old) }
-    {
-        self.row.append(count)?;
-        Ok(())
-    }
-
-    /// Puts a block of some bytes into a place.
-    pub fn put(&mut self, place: usize, block: Block)
-        requires place { place < length self.old }
-        requires some { 0 < block.size }
-        ensures { self.new ≡ slice_set self.old place (Some block) }
-    {
-        match word_of(&block) {
-            Some(word) => self.row.put_word(place, word),
-            None => self.row.put_whole(place, block),
-        }
-    }
-
-    /// Takes the block out of a place, where it has one; where there is no such place nothing changes.
-    pub fn take(&mut self, place: usize) -> Option<Block>
-        ensures was { result ≡ slice_index_or self.old place None }
-        ensures rest { self.new ≡ slice_set self.old place None }
-    {
-        let block = self.get(place);
-        self.row.clear(place);
-        block
+/// Takes the block out of the place of a name, where it has one; where there is no such place nothing changes.
+#[tactic(auto, using(std::proofs::lemmas::List::set_past))]
+pub(crate) fn take_at(row: &mut Vec<Option<Block>>, name: u32) -> Option<Block>
+    ensures was { result ≡ slice_index_or row.old.items name None }
+    ensures rest { row.new.items ≡ slice_set row.old.items name None }
+{
+    let place = name as usize;
+    if place < row.len() {
+        row[place].take()
+    } else {
+        None
     }
 }

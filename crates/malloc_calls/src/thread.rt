@@ -1,6 +1,6 @@
 //! A thread, and its calls.
 
-ghost use Rattle.std.specs.Prelude.{◌≡◌, ℕ, true, false, ◌*◌, ◌-◌, ◌^◌, ◌<◌, ◌≤◌, nat_le, IsSome, None, Some, Ok, IsTrue, IfSome, IfOk, OnOk, OnErr, is_ok, is_some, length, ◌⊎◌, slice_index_or};
+ghost use Rattle.std.specs.Prelude.{◌≡◌, ℕ, true, false, ◌*◌, ◌-◌, ◌^◌, ◌<◌, ◌≤◌, nat_le, IsSome, None, Some, Ok, IsTrue, IfSome, IfOk, OnOk, OnErr, is_ok, length, ◌⊎◌, slice_index_or};
 ghost use Rattle.std.specs.Option.{option_map};
 ghost use Rattle.chunk_tags.specs.Sizes.{chunk_size_of, padded_request};
 ghost use Rattle.chunk_tags.specs.declared.block.Block.{Block as Piece};
@@ -93,13 +93,6 @@ impl<K: Kernel> Thread<K> {
         ensures { result ≡ length (names_of self.now).near }
     {
         self.own.names.row()
-    }
-
-    /// Whether a name in the row holds a block.
-    pub fn holds_in_row(&self, name: u32) -> bool
-        ensures { result ≡ is_some (slice_index_or (names_of self.now).near name None) }
-    {
-        self.own.names.holds_in_row(name)
     }
 
     /// The block of a name in the row.

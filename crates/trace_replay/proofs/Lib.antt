@@ -17,7 +17,6 @@ mod LinesAfter
 mod Windows
 mod Tiles
 mod Stepping
-mod LookingAhead
 mod ReplayLoop
 mod SheetLaws
 mod Reports

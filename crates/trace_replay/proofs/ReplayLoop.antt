@@ -85,9 +85,6 @@ goes_on {K} port t now_t lines i line reply first now next before sheet after re
     (one_more port t (take i lines) line reply first now next before sheet after rest so_far
     (subst (λ (u : Tunables). step port u line now ≡ Some (reply, next)) same is) notes leaves)
 
-pub so_far_in : {K : Type 0} (port : Port K) (t : Tunables) (front : List Line) (first now same : World K) (before sheet : Sheet) → same ≡ now → SoFar port t front first now before sheet → SoFar port t front first same before sheet
-so_far_in port t front first now same before sheet is = subst (λ w. SoFar port t front first w before sheet) (sym is)
-
 -- what the run gives, where no line is left
 gives : {K : Type 0} (port : Port K) (t : Tunables) (lines : List Line) (first now : World K) (before sheet : Sheet) (so_far : SoFar port t lines first now before sheet) → run_of port t lines first ≡ Ok (record { replies = so_far.replies ++ []; world = now })
 unfolding run_of

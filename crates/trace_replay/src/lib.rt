@@ -3,7 +3,6 @@
 //! what is written, or how it is refused, is what the rules give (`verdict` of `SerialText`).
 #![tactic(auto)]
 
-mod ahead;
 mod asked;
 mod calling;
 mod exit;

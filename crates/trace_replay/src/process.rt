@@ -3,7 +3,6 @@
 ghost use Rattle.std.specs.Prelude.{◌≡◌, ◌≤◌, vec_len, IfOk, OnOk, OnErr};
 ghost use Rattle.chunk_tags.specs.Tunables.{IsTuned};
 
-use crate::ahead::{AHEAD, has_far_places, holds_ahead};
 use crate::calling::{call, tidy};
 use crate::threads::new_threads;
 use address_space::Kernel;
@@ -12,7 +11,7 @@ use malloc_calls::{Reply, Thread};
 use serial_places::Serial;
 use stats_text::Snapshot;
 use std::alloc::Global;
-use trace_text::{Line, Lines};
+use trace_text::Line;
 use world_view::snapshot;
 
 /// The threads by number, with all that their calls go over.
@@ -21,8 +20,6 @@ pub struct Process<K: Kernel> {
     threads: Vec<Thread<K>>,
     serial: Serial,
     t: Tunables,
-    /// Whether a name that was looked up ahead last holds a block. Nobody asks; it stands here so that it is found out.
-    holds_ahead: bool,
     ghost tuned: { IsTuned t },
 }
 
@@ -52,7 +49,6 @@ impl<K: Kernel> Process<K> {
             threads: new_threads(alloc, kernels, t)?,
             serial: Serial::new(alloc, t)?,
             t: *t,
-            holds_ahead: false,
         })
     }
 
@@ -63,17 +59,6 @@ impl<K: Kernel> Process<K> {
     {
         self.serial.laws();
         world_view::laws();
-    }
-
-    /// Looks up the names of the next lines, at every so many, where a thread has many names; no call rests on it.
-    pub fn look_ahead(&mut self, lines: &Lines, from: usize)
-        ensures threads { self.new.threads ≡ self.old.threads }
-        ensures serial { self.new.serial ≡ self.old.serial }
-        ensures tunables { self.new.t ≡ self.old.t }
-    {
-        if from % AHEAD == 0 && has_far_places(self.threads.as_slice()) {
-            self.holds_ahead = holds_ahead(self.threads.as_slice(), lines, from);
-        }
     }
 
     /// One line of a trace.
@@ -110,7 +95,6 @@ impl<K: Kernel> Process<K> {
             threads,
             serial,
             t: _,
-            holds_ahead: _,
         } = self;
         serial.laws();
         let end = serial.end(alloc)?;

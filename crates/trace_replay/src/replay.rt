@@ -69,7 +69,6 @@ pub fn replay<K: Kernel>(
         let line = lines.get(index);
         replay_line(alloc, process, &line, sheet)?;
         process.laws();
-        process.look_ahead(lines, index + 1);
     }
     Ok(())
 }

@@ -1,10 +1,8 @@
-use Rattle.std.proofs.Common.{refl, sym, subst, ◌∙◌, ◌+◌, take, drop, arith}
+use Rattle.std.proofs.Common.{refl, subst, ◌∙◌, ◌+◌, take, drop, arith}
 use Rattle.std.proofs.lemmas.List.{take_all}
-use Rattle.trace_replay.specs.Naming.{HoldsWithin}
 use Rattle.trace_replay.specs.Processes.{world_of}
-use Rattle.trace_replay.proofs.LookingAhead.{same_world, still_between, still_tells}
 use Rattle.trace_replay.proofs.LinesAfter.{holds_next, may_run, fits_at}
-use Rattle.trace_replay.proofs.ReplayLoop.{SoFar, nothing_yet, so_far_in, awaits_next, can_note_next, goes_on, finished, tiles_first, tiles_next, tiles_all}
+use Rattle.trace_replay.proofs.ReplayLoop.{SoFar, nothing_yet, awaits_next, can_note_next, goes_on, finished, tiles_first, tiles_next, tiles_all}
 use Rattle.trace_replay.proofs.Results.{on_err}
 use Rattle.trace_replay.proofs.replay.replay.Goals as goal
 
@@ -28,21 +26,18 @@ replay_line-requires-clause-may g c = λ k l.
 pub loop-index-preserved : goal.loop-index-preserved
 loop-index-preserved g c =
     let i = c.loop-index.index in
-    let ahead = c.look_ahead.ensures in
-    let same = same_world c.replay_line.new.process c.look_ahead.new.self ahead.threads ahead.serial in
     let rest = drop (i + 1) c.args.lines.now in
     let noted = c.in_ok-replay_line.ensures.noted rest (awaits_next _ _ i _ c.get-line.ensures c.loop-index.invariant.awaits) in
     record {
       awaits = noted.awaits;
-      holds = subst (HoldsWithin (take (i + 1) c.args.lines.now)) (sym same)
-          (holds_next _ i _ _ _ _ c.get-line.ensures c.loop-index.invariant.holds c.in_ok-replay_line.ensures.blocks);
-      settled = still_between c.replay_line.new.process c.look_ahead.new.self ahead.threads ahead.serial ahead.tunables c.in_ok-replay_line.ensures.settled;
-      tunables = ahead.tunables ∙ c.replay_line.ensures.tunables ∙ c.loop-index.invariant.tunables;
+      holds = holds_next _ i _ _ _ _ c.get-line.ensures c.loop-index.invariant.holds c.in_ok-replay_line.ensures.blocks;
+      settled = c.in_ok-replay_line.ensures.settled;
+      tunables = c.replay_line.ensures.tunables ∙ c.loop-index.invariant.tunables;
       told = λ h.
           let so_far = c.loop-index.invariant.told h in
           let here = goes_on _ _ _ _ i _ _ _ _ _ _ _ _ rest c.loop-index.invariant.tunables c.get-line.ensures so_far.1 (c.in_ok-replay_line.ensures.told so_far.0) noted c.in_ok-replay_line.ensures.blocks in (
-            still_tells g.K.Kernel.port c.replay_line.new.process c.look_ahead.new.self ahead.threads (c.in_ok-replay_line.ensures.telling so_far.0),
-            so_far_in _ _ _ _ _ _ _ _ same here,
+            c.in_ok-replay_line.ensures.telling so_far.0,
+            here,
             tiles_next _ _ _ i _ _ _ _ so_far.2 here c.laws-in-loop-index.ensures,
           );
     }

@@ -7,5 +7,5 @@ use Rattle.block_names.proofs.names.Names.put.Goals as goal
 pub invariant_of-self-else-name-lt-NEAR_NAMES : goal.invariant_of-self-else-name-lt-NEAR_NAMES
 invariant_of-self-else-name-lt-NEAR_NAMES c =
     let far : is_near c.args.name ≡ false = grind (arith, nat_tests, c.if-name-lt-NEAR_NAMES.false) in
-    let seen : NameTable = record { near = c.self.inside.near; far = c.self.inside.far } in
-    set_table c.args.name (Some c.args.block) seen c.put-else-name-lt-NEAR_NAMES.new.self far c.put-else-name-lt-NEAR_NAMES.ensures c.requires.held c.self.invariant
+    let seen : NameTable = record { near = c.self.inside.near.items; far = c.self.inside.far } in
+    set_table c.args.name (Some c.args.block) seen c.put.new.self far c.put.ensures c.requires.held c.self.invariant

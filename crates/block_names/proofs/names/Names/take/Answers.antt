@@ -7,5 +7,5 @@ use Rattle.block_names.proofs.names.Names.take.Goals as goal
 pub invariant_of-self-else-name-lt-NEAR_NAMES : goal.invariant_of-self-else-name-lt-NEAR_NAMES
 invariant_of-self-else-name-lt-NEAR_NAMES c =
     let far : is_near c.args.name ≡ false = grind (arith, nat_tests, c.if-name-lt-NEAR_NAMES.false) in
-    let seen : NameTable = record { near = c.self.inside.near; far = c.self.inside.far } in
-    set_table c.args.name None seen c.take-else-name-lt-NEAR_NAMES.new.self far c.take-else-name-lt-NEAR_NAMES.ensures.rest tt c.self.invariant
+    let seen : NameTable = record { near = c.self.inside.near.items; far = c.self.inside.far } in
+    set_table c.args.name None seen c.take.new.self far c.take.ensures.rest tt c.self.invariant
