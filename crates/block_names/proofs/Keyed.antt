@@ -1,5 +1,5 @@
 -- Laws of places that stand by their keys: what is found behind a change at one of them, and what they weigh together.
-use Rattle.std.proofs.Common.{◌≡◌, ℕ, ◌+◌, ◌<◌, inl, inr, Bool, true, false, cond, List, [], ◌∷◌, Option, Some, None, is_some, sum_by, refl, sym, ap, ◌∙◌, arith}
+use Rattle.std.proofs.Common.{◌≡◌, ℕ, ◌+◌, ◌<◌, inl, inr, Bool, true, false, cond, List, [], ◌∷◌, Option, Some, None, is_some, IsSome, sum_by, refl, sym, ap, ◌∙◌, arith}
 use Rattle.std.specs.BTreeMap.{insert_entry}
 use Rattle.std.specs.List.Sorted.{IsStrictlySortedBy}
 use Rattle.std.specs.Map.{lookup, set_value, remove_entry, keys_of, values_of}
@@ -12,34 +12,12 @@ use Rattle.std.proofs.lemmas.Cmp.{ranked, nat_cmp_total, eq_by_cmp_equiv}
 use Rattle.std.specs.Cmp.{nat_cmp_is}
 use Rattle.std.specs.Ordering.{MatchOrdering}
 use Rattle.std.proofs.lemmas.List.Sums.{sum_by-cons}
-use Rattle.std.proofs.lemmas.Map.{lookup-remove_entry}
+use Rattle.std.proofs.lemmas.Map.{lookup-remove_entry, lookup-set_value}
 use Rattle.std.proofs.lemmas.Map.Keys.{IsDistinct-from_sorted}
 use Rattle.block_names.specs.Names.{is_name}
 
 module _ {X : Type 0} where
   -- ---- something else is put where the test passes
-
-  pub set_same : (t : ℕ → Bool) (es : List (ℕ × X)) (w : X) → is_some (lookup t es) ≡ true → lookup t (set_value t es w) ≡ Some w
-  set_same t [] w h = absurd cc
-  set_same t (e ∷ es) w h = elim (cases_Bool (t e.0)) [
-    | inl hit ↦
-        ap (λ v. lookup t (cond v ((e.0, w) ∷ es) (e ∷ set_value t es w))) hit ∙ ap (λ v. cond v (Some w) (lookup t es)) hit
-    | inr miss ↦
-        let later : is_some (lookup t es) ≡ true = sym (ap (λ v. is_some (cond v (Some e.1) (lookup t es))) miss) ∙ h in
-        ap (λ v. lookup t (cond v ((e.0, w) ∷ es) (e ∷ set_value t es w))) miss
-        ∙ (ap (λ v. cond v (Some e.1) (lookup t (set_value t es w))) miss ∙ set_same t es w later)
-  ]
-
-  pub set_other : (s t : ℕ → Bool) → ((k : ℕ) → t k ≡ true → s k ≡ false) → (es : List (ℕ × X)) (w : X) → lookup s (set_value t es w) ≡ lookup s es
-  set_other s t apart [] w = refl
-  set_other s t apart (e ∷ es) w = elim (cases_Bool (t e.0)) [
-    | inl hit ↦
-        ap (λ v. lookup s (cond v ((e.0, w) ∷ es) (e ∷ set_value t es w))) hit
-        ∙ (ap (λ v. cond v (Some w) (lookup s es)) (apart e.0 hit) ∙ sym (ap (λ v. cond v (Some e.1) (lookup s es)) (apart e.0 hit)))
-    | inr miss ↦
-        ap (λ v. lookup s (cond v ((e.0, w) ∷ es) (e ∷ set_value t es w))) miss
-        ∙ ap (λ r. cond (s e.0) (Some e.1) r) (set_other s t apart es w)
-  ]
 
   pub set_none : (t : ℕ → Bool) (es : List (ℕ × X)) (w : X) → is_some (lookup t es) ≡ false → set_value t es w ≡ es
   set_none t [] w h = refl
@@ -76,8 +54,27 @@ name_is n k e = by_order n k (nat_cmp n k) (ranked n k (nat_cmp n k) refl) e
 pub name_here : (n : ℕ) → is_name n n ≡ true
 name_here n = sym (ap is_eq (nat_cmp_is n n Equal refl))
 
-pub names_apart : (n name : ℕ) → (n ≡ name → ⊥) → (k : ℕ) → is_name name k ≡ true → is_name n k ≡ false
-names_apart n name other k e = false_from_ne_true (is_name n k) (λ same. other (name_is n k same ∙ sym (name_is name k e)))
+names_apart : (n name : ℕ) → (n ≡ name → ⊥) → is_name name n ≡ false
+names_apart n name other = false_from_ne_true (is_name name n) (λ same. other (sym (name_is name n same)))
+
+same_by : (k x y : ℕ) → is_name k x ≡ true → is_name k y ≡ is_name x y
+same_by k x y hit = ap (λ m. is_name m y) (name_is k x hit)
+
+-- ---- something else is put under a name
+
+module _ {X : Type 0} where
+  lookup_set : (k n : ℕ) (es : List (ℕ × X)) (w : X) → IsSome (lookup (is_name k) es) →
+      lookup (is_name n) (set_value (is_name k) es w) ≡ cond (is_name k n) (Some w) (lookup (is_name n) es)
+  lookup_set k n es w there = lookup-set_value (eq_by_cmp_equiv nat_cmp_total) (is_name k) (same_by k) n w es there
+
+  pub set_same : (k : ℕ) (es : List (ℕ × X)) (w : X) → IsSome (lookup (is_name k) es) → lookup (is_name k) (set_value (is_name k) es w) ≡ Some w
+  set_same k es w there = lookup_set k k es w there ∙ ap (λ v. cond v (Some w) (lookup (is_name k) es)) (name_here k)
+
+  pub set_other : (k n : ℕ) → (n ≡ k → ⊥) → (es : List (ℕ × X)) (w : X) → lookup (is_name n) (set_value (is_name k) es w) ≡ lookup (is_name n) es
+  set_other k n other es w = elim (cases_Bool (is_some (lookup (is_name k) es))) [
+    | inl there ↦ lookup_set k n es w there ∙ ap (λ v. cond v (Some w) (lookup (is_name n) es)) (names_apart n k other)
+    | inr none ↦ ap (λ (fs : List (ℕ × X)). lookup (is_name n) fs) (set_none (is_name k) es w none)
+  ]
 
 -- ---- an empty place comes in
 
@@ -157,5 +154,5 @@ module _ {X : Type 0} where
 pub lookup_removed : {X : Type 0} (k n : ℕ) (es : List (ℕ × X)) → IsStrictlySortedBy nat_cmp (keys_of es) →
     lookup (is_name n) (remove_entry (is_name k) es) ≡ cond (is_name k n) None (lookup (is_name n) es)
 lookup_removed k n es rise =
-    lookup-remove_entry (eq_by_cmp_equiv nat_cmp_total) (is_name k) (λ x y hit. ap (λ m. is_name m y) (name_is k x hit)) n es
+    lookup-remove_entry (eq_by_cmp_equiv nat_cmp_total) (is_name k) (same_by k) n es
     (IsDistinct-from_sorted nat_cmp (keys_of es) rise)

@@ -14,7 +14,7 @@ use Rattle.std.proofs.lemmas.Map.Steps.{set_value_same}
 use Rattle.chunk_tags.specs.declared.block.Block.{Block}
 use Rattle.block_names.specs.Names.{NameTable, IsTable, no_names, is_near, is_name, far_place, in_row, in_far, row_at, far_at, with_row_to, with_in_row, with_far_place, with_in_far, without_far_place, has_place, block_at, with_place, with_at, with_block, without_block, tidied, weight_in, FarNamesRise}
 use Rattle.block_names.specs.Blocks.{IsHeld}
-use Rattle.block_names.proofs.Keyed.{set_same, set_other, set_none, set_set, name_is, names_apart, held_insert, insert_here, insert_weighs, lookup_removed}
+use Rattle.block_names.proofs.Keyed.{set_same, set_other, set_none, set_set, name_is, held_insert, insert_here, insert_weighs, lookup_removed}
 
 -- ---- which part of a table
 
@@ -48,7 +48,7 @@ row_same : (names : NameTable) (name : ℕ) (o : Option Block) → in_row names 
 row_same names name o h = get_or-set_same names.near name o None (ltb-true name (length names.near) h)
 
 far_same : (names : NameTable) (name : ℕ) (o : Option Block) → in_far names name ≡ true → far_at (with_in_far name o names) name ≡ o
-far_same names name o h = ap (λ r. unwrap_or r None) (set_same (is_name name) names.far o h)
+far_same names name o h = ap (λ r. unwrap_or r None) (set_same name names.far o h)
 
 pub at_same : (name : ℕ) (o : Option Block) (names : NameTable) → has_place names name ≡ true → block_at (with_at name o names) name ≡ o
 at_same name o names h = elim (cases_Bool (is_near name)) [
@@ -67,7 +67,7 @@ row_other names name n o other = ap (λ r. cond (is_near n) r (far_at names n)) 
 far_other : (names : NameTable) (name n : ℕ) (o : Option Block) → (n ≡ name → ⊥) → block_at (with_in_far name o names) n ≡ block_at names n
 unfolding block_at
 far_other names name n o other =
-    ap (λ r. cond (is_near n) (row_at names n) (unwrap_or r None)) (set_other (is_name n) (is_name name) (names_apart n name other) names.far o)
+    ap (λ r. cond (is_near n) (row_at names n) (unwrap_or r None)) (set_other name n other names.far o)
 
 pub at_other : (name n : ℕ) (o : Option Block) (names : NameTable) → (n ≡ name → ⊥) → block_at (with_at name o names) n ≡ block_at names n
 at_other name n o names other = elim (cases_Bool (is_near name)) [
@@ -85,7 +85,7 @@ place_kept name o names h = elim (cases_Bool (is_near name)) [
   | inr far ↦
       let own : in_far names name ≡ true = sym (place_far names name far) ∙ h in
       ap (λ (x : NameTable). has_place x name) (with_far name o names far)
-      ∙ (place_far (with_in_far name o names) name far ∙ ap (λ r. is_some r) (set_same (is_name name) names.far o own))
+      ∙ (place_far (with_in_far name o names) name far ∙ ap (λ r. is_some r) (set_same name names.far o own))
 ]
 
 -- ---- a name that holds a block
@@ -108,15 +108,6 @@ place_of names name b e = elim (cases_Bool (is_near name)) [
   | inl near ↦ place_near names name near ∙ lt-ltb name (length names.near) (row_below names.near name b (sym (at_near names name near) ∙ e))
   | inr far ↦ place_far names name far ∙ ap (λ r. is_some r) (far_found names name b (sym (at_far names name far) ∙ e))
 ]
-
--- one that has none holds nothing
-pub nothing_placed : (names : NameTable) (name : ℕ) → has_place names name ≡ false → block_at names name ≡ None
-nothing_placed names name h =
-    let cases : (o : Option Block) → block_at names name ≡ o → o ≡ None = elim [
-      | None ↦ λ e. refl
-      | Some b ↦ λ e. let no : true ≡ false = sym (place_of names name b e) ∙ h in absurd cc
-    ] in
-    cases (block_at names name) refl
 
 -- an emptied place is empty
 row_gone : (os : List (Option Block)) (name : ℕ) → get_or (set os name None) name None ≡ None
@@ -145,13 +136,6 @@ without_none name names = elim (cases_Bool (is_near name)) [
       ap (λ (x : NameTable). block_at x name) (with_far name None names far)
       ∙ (at_far (with_in_far name None names) name far ∙ far_gone_step (is_name name) names.far)
 ]
-
--- nothing changes where the name has no place of its own
-pub far_nowhere : (name : ℕ) (names : NameTable) (es : List (ℕ × Option Block)) → is_near name ≡ false → is_some (far_place name names.far) ≡ false → es ≡ names.far →
-    (record { near = names.near; far = es }) ≡ without_block name names
-far_nowhere name names es far none same =
-    ap (λ (fs : List (ℕ × Option Block)). let t : NameTable = record { near = names.near; far = fs } in t) (same ∙ sym (set_none (is_name name) names.far None none))
-    ∙ sym (with_far name None names far)
 
 -- what is put last stays
 pub set_twice : (name : ℕ) (o p : Option Block) (names : NameTable) → with_at name p (with_at name o names) ≡ with_at name p names
