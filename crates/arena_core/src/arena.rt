@@ -86,7 +86,6 @@ impl<M: Moves> Arena<M> {
     /// later, the entry says so.
     pub fn take<K: Kernel, P: FastPort + Dials>(
         &mut self,
-        alloc: Global,
         who: Who,
         nb: Size,
         cache: &mut Cache,
@@ -130,7 +129,7 @@ impl<M: Moves> Arena<M> {
     {
         // Another arena has a top, so it was opened: no journal has a search before that.
         self.ground.top_law();
-        let mut said = self.journal.begin(alloc)?;
+        let mut said = self.journal.begin()?;
         match search(&mut self.ground, nb, cache, port, space, t, &mut said) {
             Ok(found) => {
                 let found = &found;
@@ -151,7 +150,6 @@ impl<M: Moves> Arena<M> {
     /// memory is short later, the chunk is merged, and the entry says so.
     pub fn give<K: Kernel, P: FastPort + Dials>(
         &mut self,
-        alloc: Global,
         who: Who,
         b: Block,
         port: &mut P,
@@ -183,7 +181,7 @@ impl<M: Moves> Arena<M> {
             → IsReplay t.now start self.old.journal.items (M.plain self.old.ground)
             → IsReplay t.now start self.new.journal.items (M.plain self.new.ground) }
     {
-        let Ok(mut said) = self.journal.begin(alloc) else {
+        let Ok(mut said) = self.journal.begin() else {
             return Err(GiveShort { back: Some(b) });
         };
         let Block {
@@ -241,7 +239,7 @@ impl<M: Moves + Drop> Arena<M> {
             IsReplay t.now (closed_arena t.now number) a.journal.items (M.plain a.ground))) }
     {
         let mut journal = Journal::new(alloc)?;
-        let mut said = journal.begin(alloc)?;
+        let mut said = journal.begin()?;
         match open_ground(alloc, number, bytes, space, t, &mut said)? {
             Some(ground) => {
                 journal.append(who, Act::Open { bytes }, said, Ended::Done);

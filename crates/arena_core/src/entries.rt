@@ -50,13 +50,13 @@ impl Journal {
     }
 
     /// Makes room for the entry of a hold that begins, and gives the list for its answers.
-    pub fn begin(&mut self, alloc: Global) -> Result<Vec<Said>, NoMemory>
+    pub fn begin(&mut self) -> Result<Vec<Said>, NoMemory>
         ensures items { self.new.items ≡ self.old.items }
         ensures room { OnOk result (length self.new.items < self.new.capacity) }
         ensures full { OnErr result (self.old.capacity ≤ length self.old.items) }
         ensures empty { IfOk result (λ said. said.items ≡ []) }
     {
-        self.lists.as_mut().begin(alloc)
+        self.lists.as_mut().begin()
     }
 
     /// Appends the entry of a hold, for which room was made. No memory is asked for.

@@ -25,7 +25,7 @@ fn answers_are_given_back(rt: HostRuntime) -> Result<(), Fail> {
     let (addr, size) = (Addr(0x5555_5555_9000), Size(32));
     let mut journal = Journal::new(alloc)?;
     for times in TIMES {
-        let mut said = journal.begin(alloc)?;
+        let mut said = journal.begin()?;
         for _ in 0..times {
             said.extend_from_slice(&ANSWERS)?;
         }

@@ -141,7 +141,7 @@ impl JournalLists {
     }
 
     /// Makes room for the entry of a hold that begins, and gives the list for its answers.
-    pub fn begin(&mut self, alloc: Global) -> Result<Vec<Said>, NoMemory>
+    pub fn begin(&mut self) -> Result<Vec<Said>, NoMemory>
         ensures items { self.new.items ≡ self.old.items }
         ensures room { OnOk result (length self.new.items < self.new.capacity) }
         ensures full { OnErr result (self.old.capacity ≤ length self.old.items) }
@@ -150,6 +150,7 @@ impl JournalLists {
         make_room_for(&mut self.rows, 1)?;
         make_room_for(&mut self.answers, MOST_BYTES)?;
         make_room_for(&mut self.whole, 1)?;
+        let alloc = *self.said.allocator();
         let mut said = mem::replace(&mut self.said, Vec::new(alloc));
         said.clear();
         Ok(said)

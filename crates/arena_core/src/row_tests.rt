@@ -12,7 +12,7 @@ const WHO: Who = Who { thread: 1, line: 2 };
 /// Whether the entry of a hold with these answers is read back as it was.
 fn is_read_back(alloc: Global, act: Act, answers: &[Said], ended: Ended) -> Result<bool, Fail> {
     let mut journal = Journal::new(alloc)?;
-    let mut said = journal.begin(alloc)?;
+    let mut said = journal.begin()?;
     for answer in answers {
         said.push(*answer)?;
     }

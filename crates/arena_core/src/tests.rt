@@ -66,7 +66,7 @@ fn heap_0_is_asked_for_twice_at_most(rt: HostRuntime) -> Result<(), Fail> {
 /// The answer of a journal's entry that was kept with this one.
 fn read_back(alloc: Global, answer: Said) -> Result<Option<Said>, Fail> {
     let mut journal = Journal::new(alloc)?;
-    let mut said = journal.begin(alloc)?;
+    let mut said = journal.begin()?;
     said.push(answer)?;
     let act = Act::Give {
         addr: Addr(4096),
