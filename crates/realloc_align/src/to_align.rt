@@ -22,7 +22,6 @@ use arena_rules::Moves;
 use chunk_tags::{Addr, Block, Chunk, NoMemory, Size, Tunables};
 use fast_bins::FastPort;
 use mapped_chunks::Dials;
-use std::alloc::Global;
 use thread_cache::Cache;
 
 /// The block in a mapping, behind its lead.
@@ -89,7 +88,6 @@ fn take_aligned(align: u64, nb: Size, number: u8, found: &Found) -> Take
 /// `align` is a power of two from 32 on. In a mapping the block keeps its lead. Where memory is short no block comes back.
 pub fn aligned<M: Moves, K: Kernel, P: FastPort + Dials>(
     a: &mut Arena<M>,
-    alloc: Global,
     who: Who,
     align: u64,
     nb: Size,
@@ -130,7 +128,7 @@ pub fn aligned<M: Moves, K: Kernel, P: FastPort + Dials>(
         → IsReplay t.now start a.new.journal.items (M.plain a.new.ground) }
 {
     a.ground.top_law();
-    let Ok(mut said) = a.journal.begin(alloc) else {
+    let Ok(mut said) = a.journal.begin() else {
         return Err(GiveShort { back: None });
     };
     let number = a.ground.number();

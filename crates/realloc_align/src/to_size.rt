@@ -21,7 +21,6 @@ use arena_rules::Moves;
 use chunk_tags::{Block, Chunk, Size, Tunables};
 use fast_bins::FastPort;
 use mapped_chunks::Dials;
-use std::alloc::Global;
 use thread_cache::Cache;
 
 /// What became of a block that was to get another size.
@@ -80,7 +79,6 @@ fn resize_to(number: u8, b: Block, found: &Found) -> Resized
 /// later, the entry says so, and the block comes back where it is then: as it was, or large enough.
 pub fn resize<M: Moves, K: Kernel, P: FastPort + Dials>(
     a: &mut Arena<M>,
-    alloc: Global,
     who: Who,
     b: Block,
     nb: Size,
@@ -121,7 +119,7 @@ pub fn resize<M: Moves, K: Kernel, P: FastPort + Dials>(
         → IsReplay t.now start a.old.journal.items (M.plain a.old.ground)
         → IsReplay t.now start a.new.journal.items (M.plain a.new.ground) }
 {
-    let Ok(mut said) = a.journal.begin(alloc) else {
+    let Ok(mut said) = a.journal.begin() else {
         return Err(GiveShort { back: Some(b) });
     };
     let number = a.ground.number();
