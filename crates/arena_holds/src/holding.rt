@@ -26,7 +26,6 @@ use chunk_tags::{Block, NoMemory, Size, Tunables};
 use fast_bins::FastPort;
 use mapped_chunks::Dials;
 use realloc_align::{Resized, aligned, resize};
-use std::alloc::Global;
 use thread_cache::Cache;
 
 /// What a search came to: the place of its hold's entry in the journal of the arena, 0 where a mapping stands in for an arena,
@@ -50,7 +49,6 @@ fn block_in(take: Take) -> Option<Block>
 /// Searches an arena for an act, and records the hold.
 fn search_arena<M: Moves, K: Kernel, P: FastPort + Dials>(
     a: &mut Arena<M>,
-    alloc: Global,
     who: Who,
     act: &Act,
     cache: &mut Cache,
@@ -78,9 +76,9 @@ fn search_arena<M: Moves, K: Kernel, P: FastPort + Dials>(
         → IsReplay t.now start a.new.journal.items (M.plain a.new.ground) }
 {
     match act {
-        Act::Take { nb } => Ok(block_in(a.take(alloc, who, *nb, cache, port, space, t)?)),
+        Act::Take { nb } => Ok(block_in(a.take(who, *nb, cache, port, space, t)?)),
         Act::Align { align, nb } => {
-            match aligned(a, alloc, who, *align, *nb, cache, port, space, t) {
+            match aligned(a, who, *align, *nb, cache, port, space, t) {
                 Ok(take) => Ok(block_in(take)),
                 Err(_short) => Err(NoMemory),
             }
@@ -92,7 +90,6 @@ fn search_arena<M: Moves, K: Kernel, P: FastPort + Dials>(
 /// Searches an arena that was lent, and gives it back. After `NoMemory` no other block is claimed, and what others have stays
 /// given out; where the journal has room for it, an entry says that memory was short, else the arena is as it was.
 pub fn search_lent<P: Places, K: Kernel>(
-    alloc: Global,
     p: &mut P,
     mut hold: P::Hold,
     mut arena: Arena<P::Ground>,
@@ -124,7 +121,7 @@ pub fn search_lent<P: Places, K: Kernel>(
 {
     cache.laws();
     let place = arena.journal.len() as u64;
-    let searched = search_arena(&mut arena, alloc, *who, act, cache, &mut hold, space, t);
+    let searched = search_arena(&mut arena, *who, act, cache, &mut hold, space, t);
     cache.laws();
     p.unlock(hold, arena);
     match searched {
@@ -136,7 +133,6 @@ pub fn search_lent<P: Places, K: Kernel>(
 /// Gives a block to its arena, in one hold, and gives the place of the hold's entry in the journal. Where memory is short the
 /// block comes back, or the arena has it; what others have stays given out.
 pub fn give_held<P: Places, K: Kernel>(
-    alloc: Global,
     p: &mut P,
     a: u8,
     who: &Who,
@@ -157,7 +153,7 @@ pub fn give_held<P: Places, K: Kernel>(
     let (mut hold, lent) = p.lock(a);
     let mut arena = lent.unwrap();
     let place = arena.journal.len() as u64;
-    let gave = arena.give(alloc, *who, b, &mut hold, space, t);
+    let gave = arena.give(*who, b, &mut hold, space, t);
     p.unlock(hold, arena);
     match gave {
         Ok(()) => Ok(place),
@@ -175,7 +171,6 @@ pub struct HeldResize {
 /// Gives a block of an arena `nb` bytes, in one hold. Where memory is short it comes back where it is then, as it was or large
 /// enough; no other block is claimed, and what others have stays given out.
 pub fn resize_held<P: Places, K: Kernel>(
-    alloc: Global,
     p: &mut P,
     a: u8,
     who: &Who,
@@ -208,7 +203,7 @@ pub fn resize_held<P: Places, K: Kernel>(
     let (mut hold, lent) = p.lock(a);
     let mut arena = lent.unwrap();
     let place = arena.journal.len() as u64;
-    let done = resize(&mut arena, alloc, *who, b, nb, cache, &mut hold, space, t);
+    let done = resize(&mut arena, *who, b, nb, cache, &mut hold, space, t);
     cache.laws();
     p.unlock(hold, arena);
     match done {

@@ -15,6 +15,7 @@ use arena_rules::Moves;
 use chunk_tags::{Block, NoMemory, Tunables};
 use fast_bins::FastPort;
 use mapped_chunks::Dials;
+use std::alloc::Global;
 
 /// The places of a run: arenas behind their locks, with their fast bins, and the words beside them. A thread's calls stand
 /// on it (this project's own).
@@ -29,6 +30,9 @@ pub trait Places {
     type Dial: Dials;
 
     ghost ways: { PlaceWays Self Self.Hold Self.Dial };
+
+    /// The allocator of new arenas.
+    fn allocator(&self) -> Global;
 
     /// Locks an arena, which is lent with its port.
     fn lock(&mut self, a: u8) -> (Self::Hold, Option<Arena<Self::Ground>>)

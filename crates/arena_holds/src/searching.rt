@@ -18,7 +18,6 @@ use address_space::{Kernel, Space};
 use arena_choice::Choice;
 use arena_core::{Act, Arena, Who};
 use chunk_tags::{NoMemory, Tunables};
-use std::alloc::Global;
 use thread_cache::Cache;
 
 /// The number of main.
@@ -33,7 +32,6 @@ pub struct Tried {
 
 /// Searches one arena, in one hold.
 fn search_in<P: Places, K: Kernel>(
-    alloc: Global,
     p: &mut P,
     a: u8,
     who: &Who,
@@ -61,13 +59,12 @@ fn search_in<P: Places, K: Kernel>(
 {
     let (hold, lent) = p.lock(a);
     let arena = lent.unwrap();
-    search_lent(alloc, p, hold, arena, who, act, cache, space, t)
+    search_lent(p, hold, arena, who, act, cache, space, t)
 }
 
 /// Searches the first arena from one on whose lock is free, and attaches the thread to it (glibc's `reused_arena`). Where the
 /// thread chooses afresh, main is to be avoided.
 fn search_reused<P: Places, K: Kernel>(
-    alloc: Global,
     p: &mut P,
     start: u8,
     fresh: bool,
@@ -97,7 +94,7 @@ fn search_reused<P: Places, K: Kernel>(
     let avoid = if fresh { Some(MAIN) } else { None };
     let (a, hold, lent) = p.lock_free(start, avoid);
     let arena = lent.unwrap();
-    let search = search_lent(alloc, p, hold, arena, who, act, cache, space, t)?;
+    let search = search_lent(p, hold, arena, who, act, cache, space, t)?;
     p.reuse(who.thread, a);
     Ok(Tried { arena: a, search })
 }
@@ -105,7 +102,6 @@ fn search_reused<P: Places, K: Kernel>(
 /// Makes a new arena under a number that the book keeps, for a thread that asks for so many bytes, and attaches the thread to
 /// it (glibc's `_int_new_arena`). Where that is refused, or memory is short, the number is given back.
 fn open_arena<P: Places, K: Kernel>(
-    alloc: Global,
     p: &mut P,
     a: u8,
     who: &Who,
@@ -128,7 +124,7 @@ fn open_arena<P: Places, K: Kernel>(
         who.now (new_arena_of a bytes)
         (standing p.old space.old) (standing p.new space.new)) }
 {
-    match Arena::open(alloc, *who, a, bytes, space, t) {
+    match Arena::open(p.allocator(), *who, a, bytes, space, t) {
         Ok(Some(arena)) => {
             p.add(who.thread, arena);
             Ok(true)
@@ -146,7 +142,6 @@ fn open_arena<P: Places, K: Kernel>(
 
 /// Searches the arena that a choice named. `None` where it is a new one and was refused.
 fn search_by_choice<P: Places, K: Kernel>(
-    alloc: Global,
     p: &mut P,
     choice: Choice,
     fresh: bool,
@@ -177,18 +172,18 @@ fn search_by_choice<P: Places, K: Kernel>(
 {
     match choice {
         Choice::Attached(a) | Choice::Free(a) => {
-            let search = search_in(alloc, p, a, who, act, cache, space, t)?;
+            let search = search_in(p, a, who, act, cache, space, t)?;
             Ok(Some(Tried { arena: a, search }))
         }
         Choice::New(a) => {
-            if !open_arena(alloc, p, a, who, bytes, space, t)? {
+            if !open_arena(p, a, who, bytes, space, t)? {
                 return Ok(None);
             }
-            let search = search_in(alloc, p, a, who, act, cache, space, t)?;
+            let search = search_in(p, a, who, act, cache, space, t)?;
             Ok(Some(Tried { arena: a, search }))
         }
         Choice::Reuse { start } => {
-            let tried = search_reused(alloc, p, start, fresh, who, act, cache, space, t)?;
+            let tried = search_reused(p, start, fresh, who, act, cache, space, t)?;
             Ok(Some(tried))
         }
     }
@@ -196,7 +191,6 @@ fn search_by_choice<P: Places, K: Kernel>(
 
 /// Chooses an arena for a thread, and searches it. `None` where none could be had.
 fn choose_and_search<P: Places, K: Kernel>(
-    alloc: Global,
     p: &mut P,
     fresh: bool,
     who: &Who,
@@ -224,12 +218,11 @@ fn choose_and_search<P: Places, K: Kernel>(
     ensures structure { structure_of cache.new ≡ structure_of cache.old }
 {
     let choice = p.choose(who.thread, fresh, t);
-    search_by_choice(alloc, p, choice, fresh, who, act, bytes, cache, space, t)
+    search_by_choice(p, choice, fresh, who, act, bytes, cache, space, t)
 }
 
 /// What another arena was refused is searched for in main, and what main was refused in one that is chosen afresh.
 fn search_again<P: Places, K: Kernel>(
-    alloc: Global,
     p: &mut P,
     refused: u8,
     who: &Who,
@@ -258,9 +251,9 @@ fn search_again<P: Places, K: Kernel>(
     ensures structure { structure_of cache.new ≡ structure_of cache.old }
 {
     if refused != MAIN {
-        return search_in(alloc, p, MAIN, who, act, cache, space, t);
+        return search_in(p, MAIN, who, act, cache, space, t);
     }
-    match choose_and_search(alloc, p, true, who, act, bytes, cache, space, t)? {
+    match choose_and_search(p, true, who, act, bytes, cache, space, t)? {
         Some(tried) => Ok(tried.search),
         None => Ok(map_for(p, act, space)),
     }
@@ -271,7 +264,6 @@ fn search_again<P: Places, K: Kernel>(
 /// `again`. `NoMemory` comes only of a step that asks for memory; after it no other block is claimed, and what others have
 /// stays given out.
 pub fn search<P: Places, K: Kernel>(
-    alloc: Global,
     p: &mut P,
     who: &Who,
     act: &Act,
@@ -300,13 +292,13 @@ pub fn search<P: Places, K: Kernel>(
         (standing p.old space.old) (standing p.new space.new)) }
     ensures structure { structure_of cache.new ≡ structure_of cache.old }
 {
-    match choose_and_search(alloc, p, false, who, act, bytes, cache, space, t)? {
+    match choose_and_search(p, false, who, act, bytes, cache, space, t)? {
         None => Ok(map_for(p, act, space)),
         Some(Tried { arena, search }) => {
             if search.block.is_some() {
                 return Ok(search);
             }
-            search_again(alloc, p, arena, who, act, again, cache, space, t)
+            search_again(p, arena, who, act, again, cache, space, t)
         }
     }
 }

@@ -36,7 +36,7 @@ pub struct Serial {
     // The arena that is lent: it comes back into its slot, whichever others aren't there.
     lent: Option<u8>,
     tunables: Tunables,
-    // For the fast bins of a new arena.
+    // For a new arena and its fast bins.
     alloc: Global,
 }
 
@@ -135,7 +135,7 @@ impl Serial {
     }
 
     /// What it has at the end.
-    pub fn end(self, alloc: Global) -> Result<SerialEnd, NoMemory>
+    pub fn end(self) -> Result<SerialEnd, NoMemory>
         ensures ends { IfOk result (λ e. EndsAs self e.arenas.items
             (map (λ l. l.items) e.fast.items) e.book e.trays.items e.dials) }
         ensures ten { IfOk result (λ e.
@@ -148,14 +148,14 @@ impl Serial {
             trays,
             lent: _,
             tunables: _,
-            alloc: _,
+            alloc,
         } = self;
         let (arenas, fast) = split_slots(alloc, arenas)?;
         Ok(SerialEnd {
             arenas,
             fast,
             book,
-            trays: trays.blocks(alloc)?,
+            trays: trays.blocks()?,
             dials: dials.state,
         })
     }
@@ -177,6 +177,10 @@ impl Places for Serial {
     ghost ways = { state_ways };
 
     ghost laws = { serial_laws };
+
+    fn allocator(&self) -> Global {
+        self.alloc
+    }
 
     fn lock(&mut self, a: u8) -> (Both<PlainFast, PlainDials>, Option<Arena<BoxedGround>>) {
         let slot = &mut self.arenas[usize::from(a)];

@@ -87,10 +87,11 @@ impl Trays {
     }
 
     /// The blocks in trays, by the numbers of these.
-    pub fn blocks(self, alloc: Global) -> Result<Vec<(u32, Block)>, NoMemory>
+    pub fn blocks(self) -> Result<Vec<(u32, Block)>, NoMemory>
         ensures { IfOk result (λ blocks. blocks.items ≡ full_trays 0 self) }
     {
         let Trays { reached } = self;
+        let alloc = *reached.allocator();
         blocks_in(alloc, reached)
     }
 }
