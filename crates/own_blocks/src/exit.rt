@@ -19,12 +19,10 @@ use address_space::{Kernel, Space};
 use arena_core::Who;
 use arena_holds::{Places, free_mapped};
 use chunk_tags::{Block, NoMemory, Tunables};
-use std::alloc::Global;
 
 /// Releases a block with the cache closed: a chunk of an arena goes into its fast bin or to its arena, a mapped one is freed
 /// with its mapping. After `NoMemory` it is in nobody's hand; no other block is claimed, and what others have stays given out.
 fn release_last<P: Places, K: Kernel>(
-    alloc: Global,
     p: &mut P,
     who: &Who,
     block: Block,
@@ -50,7 +48,7 @@ fn release_last<P: Places, K: Kernel>(
             free_mapped(p, block, space, t);
             Ok(())
         }
-        Some(a) => match release_past_cache(alloc, p, who, a, block, space, t) {
+        Some(a) => match release_past_cache(p, who, a, block, space, t) {
             Ok(_to) => Ok(()),
             Err(_short) => Err(NoMemory),
         },
@@ -62,7 +60,6 @@ fn release_last<P: Places, K: Kernel>(
 /// the cache is closed.
 fn close_cache<P: Places, K: Kernel>(
     cache: &mut OwnCache,
-    alloc: Global,
     p: &mut P,
     who: &Who,
     space: &mut Space<K>,
@@ -87,11 +84,11 @@ fn close_cache<P: Places, K: Kernel>(
         return Ok(());
     }
     while let Some(block) = cache.drain() {
-        release_last(alloc, p, who, block, space, t)?;
+        release_last(p, who, block, space, t)?;
     }
     match cache.close() {
         None => Ok(()),
-        Some(structure) => release_last(alloc, p, who, structure, space, t),
+        Some(structure) => release_last(p, who, structure, space, t),
     }
 }
 
@@ -99,7 +96,6 @@ fn close_cache<P: Places, K: Kernel>(
 /// the thread leaves its arena. Its named blocks stay. `NoMemory` never comes where the cache is closed.
 pub fn exit<P: Places, K: Kernel>(
     own: &mut Own,
-    alloc: Global,
     p: &mut P,
     who: &Who,
     space: &mut Space<K>,
@@ -122,7 +118,7 @@ pub fn exit<P: Places, K: Kernel>(
     ensures names { own.new.names ≡ own.old.names }
     ensures closed_before { own.old.cache ≡ None → result ≡ Ok Ended }
 {
-    close_cache(&mut own.cache, alloc, p, who, space, t)?;
+    close_cache(&mut own.cache, p, who, space, t)?;
     p.leave(who.thread);
     Ok(Reply::Ended)
 }

@@ -27,7 +27,6 @@ use arena_core::Who;
 use arena_holds::{Places, free_mapped};
 use block_names::Names;
 use chunk_tags::{Block, NoMemory, Tunables};
-use std::alloc::Global;
 
 /// Gives a block that came back its name, where there is one.
 fn put_back(names: &mut Names, name: u32, back: Option<Block>)
@@ -45,7 +44,6 @@ fn put_back(names: &mut Names, name: u32, back: Option<Block>)
 #[tactic(auto, using(block_names::proofs::Tables::without_none))]
 fn free_chunk<P: Places, K: Kernel>(
     own: &mut Own,
-    alloc: Global,
     p: &mut P,
     who: &Who,
     name: u32,
@@ -80,7 +78,7 @@ fn free_chunk<P: Places, K: Kernel>(
         → nat_le b.size t.now.max_fast ≡ true → P.ways.room p.old a → is_ok result ≡ true }
 {
     let block = own.names.take(name).unwrap();
-    match release(&mut own.cache, alloc, p, who, a, block, space, t) {
+    match release(&mut own.cache, p, who, a, block, space, t) {
         Ok(to) => Ok(Reply::Freed(to)),
         Err(short) => {
             put_back(&mut own.names, name, short.back);
@@ -94,7 +92,6 @@ fn free_chunk<P: Places, K: Kernel>(
 /// that holds nothing.
 pub fn free<P: Places, K: Kernel>(
     own: &mut Own,
-    alloc: Global,
     p: &mut P,
     who: &Who,
     name: u32,
@@ -139,8 +136,8 @@ pub fn free<P: Places, K: Kernel>(
             Ok(Reply::Freed(To::Unmapped))
         }
         Some(a) => {
-            open_cache(&mut own.cache, alloc, p, who, space, t)?;
-            free_chunk(own, alloc, p, who, name, a, space, t)
+            open_cache(&mut own.cache, p, who, space, t)?;
+            free_chunk(own, p, who, name, a, space, t)
         }
     }
 }

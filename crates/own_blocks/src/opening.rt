@@ -15,7 +15,6 @@ use address_space::{Kernel, Space};
 use arena_core::{Act, Who};
 use arena_holds::{Places, Search};
 use chunk_tags::{NoMemory, Tunables};
-use std::alloc::Global;
 use thread_cache::STRUCTURE_SIZE;
 
 /// The bytes of a cache's structure: glibc's `sizeof (tcache_perthread_struct)`.
@@ -27,7 +26,6 @@ const STRUCTURE_BYTES: u64 = 640;
 #[inline(always)]
 pub fn open_cache<P: Places, K: Kernel>(
     cache: &mut OwnCache,
-    alloc: Global,
     p: &mut P,
     who: &Who,
     space: &mut Space<K>,
@@ -57,7 +55,6 @@ pub fn open_cache<P: Places, K: Kernel>(
     }
     let act = Act::Take { nb: STRUCTURE_SIZE };
     let Search { hold: _, block } = cache.search(
-        alloc,
         p,
         who,
         &act,
@@ -68,6 +65,6 @@ pub fn open_cache<P: Places, K: Kernel>(
     )?;
     match block {
         None => Ok(()),
-        Some(structure) => cache.open(alloc, structure, t),
+        Some(structure) => cache.open(structure, t),
     }
 }

@@ -44,7 +44,7 @@ impl Own {
         ensures { result ≡ new_own }
     {
         Own {
-            cache: OwnCache::closed(),
+            cache: OwnCache::closed(alloc),
             names: Names::new(alloc),
         }
     }

@@ -26,6 +26,8 @@ use thread_cache::Cache;
 #[derive(Debug, Drop)]
 pub struct OwnCache {
     cache: Cache,
+    // For the lists.
+    alloc: Global,
 }
 
 impl Model for OwnCache {
@@ -41,11 +43,12 @@ impl Model for OwnCache {
 
 impl OwnCache {
     /// A closed cache.
-    pub fn closed() -> OwnCache
+    pub fn closed(alloc: Global) -> OwnCache
         ensures { result ≡ None }
     {
         OwnCache {
             cache: Cache::closed(),
+            alloc,
         }
     }
 
@@ -64,7 +67,7 @@ impl OwnCache {
     }
 
     /// Opens the cache in a chunk for its structure. Where memory is short it stays closed, and the chunk is dropped.
-    pub fn open(&mut self, alloc: Global, structure: Block, t: &Tunables) -> Result<(), NoMemory>
+    pub fn open(&mut self, structure: Block, t: &Tunables) -> Result<(), NoMemory>
         requires closed { is_open self.old ≡ false }
         requires held { IsHeld structure }
         requires tuned { IsTuned t.now }
@@ -74,7 +77,7 @@ impl OwnCache {
     {
         match self
             .cache
-            .open(alloc, structure, t.tcache_count, t.tcache_bins)
+            .open(self.alloc, structure, t.tcache_count, t.tcache_bins)
         {
             Ok(()) => Ok(()),
             Err(_short) => Err(NoMemory),
@@ -128,7 +131,6 @@ impl OwnCache {
     /// Searches for a chunk for a thread, whose cache this is (`arena_holds::search`).
     pub fn search<P: Places, K: Kernel>(
         &mut self,
-        alloc: Global,
         p: &mut P,
         who: &Who,
         act: &Act,
@@ -157,13 +159,12 @@ impl OwnCache {
             (standing p.old space.old) (standing p.new space.new)) }
         ensures structure { structure_of self.new ≡ structure_of self.old }
     {
-        search(alloc, p, who, act, bytes, again, &mut self.cache, space, t)
+        search(p, who, act, bytes, again, &mut self.cache, space, t)
     }
 
     /// Gives a block of an arena `nb` bytes, for a thread whose cache this is (`arena_holds::resize_held`).
     pub fn resize<P: Places, K: Kernel>(
         &mut self,
-        alloc: Global,
         p: &mut P,
         a: u8,
         who: &Who,
@@ -192,6 +193,6 @@ impl OwnCache {
             (standing p.old space.old) (standing p.new space.new)) }
         ensures structure { structure_of self.new ≡ structure_of self.old }
     {
-        resize_held(alloc, p, a, who, b, nb, &mut self.cache, space, t)
+        resize_held(p, a, who, b, nb, &mut self.cache, space, t)
     }
 }

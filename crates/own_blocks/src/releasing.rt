@@ -19,7 +19,6 @@ use address_space::{Kernel, Space};
 use arena_core::{GiveShort, Who};
 use arena_holds::{Places, give_held};
 use chunk_tags::{Block, NoMemory, Size, Tunables, fast_index};
-use std::alloc::Global;
 
 /// Whether chunks of a size go into fast bins.
 fn is_fast(size: Size, t: &Tunables) -> bool
@@ -54,7 +53,6 @@ fn push_fast<P: Places>(p: &mut P, a: u8, block: Block) -> Result<(), Block>
 /// A chunk that the cache doesn't take goes into its fast bin where it is fast, else to its arena. Where there is no room for
 /// a push, or for the hold's entry, it comes back; where memory is short behind the entry the arena has it.
 pub fn release_past_cache<P: Places, K: Kernel>(
-    alloc: Global,
     p: &mut P,
     who: &Who,
     a: u8,
@@ -87,7 +85,7 @@ pub fn release_past_cache<P: Places, K: Kernel>(
             Err(back) => Err(GiveShort { back: Some(back) }),
         }
     } else {
-        match give_held(alloc, p, a, who, block, space, t) {
+        match give_held(p, a, who, block, space, t) {
             Ok(hold) => Ok(To::Binned { a, hold }),
             Err(short) => Err(short),
         }
@@ -99,7 +97,6 @@ pub fn release_past_cache<P: Places, K: Kernel>(
 #[inline(always)]
 pub fn release<P: Places, K: Kernel>(
     cache: &mut OwnCache,
-    alloc: Global,
     p: &mut P,
     who: &Who,
     a: u8,
@@ -132,6 +129,6 @@ pub fn release<P: Places, K: Kernel>(
 {
     match cache.put(block) {
         Ok(()) => Ok(To::Cached),
-        Err(back) => release_past_cache(alloc, p, who, a, back, space, t),
+        Err(back) => release_past_cache(p, who, a, back, space, t),
     }
 }

@@ -22,7 +22,6 @@ use address_space::{Kernel, Space};
 use arena_core::{Act, Who};
 use arena_holds::{Places, Search};
 use chunk_tags::{Block, NoMemory, Size, Tunables};
-use std::alloc::Global;
 
 /// A block for a request, and where it came from.
 #[derive(Debug, Drop)]
@@ -59,7 +58,6 @@ fn found(search: Search) -> Option<Supply>
 /// block is claimed, and what others have stays given out.
 pub fn supply_from_arena<P: Places, K: Kernel>(
     cache: &mut OwnCache,
-    alloc: Global,
     p: &mut P,
     who: &Who,
     act: &Act,
@@ -87,14 +85,13 @@ pub fn supply_from_arena<P: Places, K: Kernel>(
         (standing p.old space.old) (standing p.new space.new)) }
     ensures structure { structure_of cache.new ≡ structure_of cache.old }
 {
-    let search = cache.search(alloc, p, who, act, bytes, again, space, t)?;
+    let search = cache.search(p, who, act, bytes, again, space, t)?;
     Ok(found(search))
 }
 
 /// The newest chunk of its list in the cache, else a block from an arena. `NoMemory` never comes where the list has one.
 fn supply_open<P: Places, K: Kernel>(
     cache: &mut OwnCache,
-    alloc: Global,
     p: &mut P,
     who: &Who,
     bytes: u64,
@@ -123,7 +120,7 @@ fn supply_open<P: Places, K: Kernel>(
     match take_newest(cache, nb) {
         None => {
             let act = Act::Take { nb };
-            supply_from_arena(cache, alloc, p, who, &act, bytes, bytes, space, t)
+            supply_from_arena(cache, p, who, &act, bytes, bytes, space, t)
         }
         Some(block) => Ok(Some(Supply {
             block,
@@ -137,7 +134,6 @@ fn supply_open<P: Places, K: Kernel>(
 /// what others have stays given out.
 pub fn plain_supply<P: Places, K: Kernel>(
     cache: &mut OwnCache,
-    alloc: Global,
     p: &mut P,
     who: &Who,
     bytes: u64,
@@ -163,15 +159,14 @@ pub fn plain_supply<P: Places, K: Kernel>(
     ensures kept { StaysOpen cache.old cache.new }
     ensures cached { IsSome (newest_of_size nb cache.old) → is_ok result ≡ true }
 {
-    open_cache(cache, alloc, p, who, space, t)?;
-    supply_open(cache, alloc, p, who, bytes, nb, space, t)
+    open_cache(cache, p, who, space, t)?;
+    supply_open(cache, p, who, bytes, nb, space, t)
 }
 
 /// A block for a request of so many bytes, whose chunk has `nb`: from an arena, past the cache, which is opened where it is
 /// closed (glibc's `__libc_calloc`). After `NoMemory` no other block is claimed, and what others have stays given out.
 pub fn fresh_supply<P: Places, K: Kernel>(
     cache: &mut OwnCache,
-    alloc: Global,
     p: &mut P,
     who: &Who,
     bytes: u64,
@@ -196,7 +191,7 @@ pub fn fresh_supply<P: Places, K: Kernel>(
         (standing p.old space.old) (standing p.new space.new)) }
     ensures kept { StaysOpen cache.old cache.new }
 {
-    open_cache(cache, alloc, p, who, space, t)?;
+    open_cache(cache, p, who, space, t)?;
     let act = Act::Take { nb };
-    supply_from_arena(cache, alloc, p, who, &act, bytes, bytes, space, t)
+    supply_from_arena(cache, p, who, &act, bytes, bytes, space, t)
 }

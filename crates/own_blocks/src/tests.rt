@@ -26,8 +26,7 @@ fn own_with_places(alloc: Global) -> Result<Own, Fail> {
     let mut own = Own::new(alloc);
     own.names.ready(2)?;
     let tunables = Tunables::defaults(Mode::Serial);
-    own.cache
-        .open(alloc, chunk(0x5555_5555_9000, 656), &tunables)?;
+    own.cache.open(chunk(0x5555_5555_9000, 656), &tunables)?;
     Ok(own)
 }
 
