@@ -25,7 +25,6 @@ use arena_holds::Places;
 use block_names::Names;
 use chunk_tags::{MAX_REQUEST, NoMemory, Size, Tunables, request_size};
 use own_blocks::{Own, Reply, Supply, Why, fresh_supply, plain_supply, supply_from_arena};
-use std::alloc::Global;
 
 /// The alignment of each chunk's user address.
 const LEAST_ALIGNMENT: u64 = 16;
@@ -77,7 +76,6 @@ pub fn answer(names: &mut Names, name: u32, got: Option<Supply>) -> Reply
 /// it never comes where the size is too big, or the cache has a chunk for it.
 pub fn malloc<P: Places, K: Kernel>(
     own: &mut Own,
-    alloc: Global,
     p: &mut P,
     who: &Who,
     name: u32,
@@ -110,7 +108,7 @@ pub fn malloc<P: Places, K: Kernel>(
     let Some(nb) = request_size(size) else {
         return Ok(Reply::Null(Why::Big));
     };
-    let got = plain_supply(&mut own.cache, alloc, p, who, size, nb, space, t)?;
+    let got = plain_supply(&mut own.cache, p, who, size, nb, space, t)?;
     Ok(answer(&mut own.names, name, got))
 }
 
@@ -118,7 +116,6 @@ pub fn malloc<P: Places, K: Kernel>(
 /// cache. After `NoMemory` the names hold what they held; it never comes where the product is too big.
 pub fn calloc<P: Places, K: Kernel>(
     own: &mut Own,
-    alloc: Global,
     p: &mut P,
     who: &Who,
     name: u32,
@@ -151,7 +148,7 @@ pub fn calloc<P: Places, K: Kernel>(
     let Some(nb) = product_size(n, size) else {
         return Ok(Reply::Null(Why::Big));
     };
-    let got = fresh_supply(&mut own.cache, alloc, p, who, n * size, nb, space, t)?;
+    let got = fresh_supply(&mut own.cache, p, who, n * size, nb, space, t)?;
     Ok(answer(&mut own.names, name, got))
 }
 
@@ -160,7 +157,6 @@ pub fn calloc<P: Places, K: Kernel>(
 /// the alignment is refused, or where the cache has a chunk for the size and the alignment is at most 16.
 pub fn posix_memalign<P: Places, K: Kernel>(
     own: &mut Own,
-    alloc: Global,
     p: &mut P,
     who: &Who,
     name: u32,
@@ -203,7 +199,7 @@ pub fn posix_memalign<P: Places, K: Kernel>(
         return Ok(Reply::Null(Why::Align));
     }
     if align <= LEAST_ALIGNMENT {
-        let got = plain_supply(&mut own.cache, alloc, p, who, size, nb, space, t)?;
+        let got = plain_supply(&mut own.cache, p, who, size, nb, space, t)?;
         return Ok(answer(&mut own.names, name, got));
     }
     if !has_lead_in_range(align, nb) {
@@ -211,6 +207,6 @@ pub fn posix_memalign<P: Places, K: Kernel>(
     }
     let act = Act::Align { align, nb };
     let bytes = size + align + 32;
-    let got = supply_from_arena(&mut own.cache, alloc, p, who, &act, bytes, size, space, t)?;
+    let got = supply_from_arena(&mut own.cache, p, who, &act, bytes, size, space, t)?;
     Ok(answer(&mut own.names, name, got))
 }

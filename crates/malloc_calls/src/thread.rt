@@ -187,7 +187,6 @@ impl<K: Kernel> Thread<K> {
     /// the names hold what they held; it never comes where the size is too big, or the cache has a chunk for it.
     pub fn malloc<P: Places>(
         &mut self,
-        alloc: Global,
         p: &mut P,
         line: u64,
         name: u32,
@@ -226,16 +225,7 @@ impl<K: Kernel> Thread<K> {
         ensures cached { IsSome (cached_for size (own_of self.old).cache) → is_ok result ≡ true }
     {
         let who = self.who(line);
-        malloc(
-            &mut self.own,
-            alloc,
-            p,
-            &who,
-            name,
-            size,
-            &mut self.space,
-            t,
-        )
+        malloc(&mut self.own, p, &who, name, size, &mut self.space, t)
     }
 
     /// calloc of `n` members of a size, under a name that holds nothing, in a line of the trace (glibc's `__libc_calloc`): malloc
@@ -243,7 +233,6 @@ impl<K: Kernel> Thread<K> {
     /// big.
     pub fn calloc<P: Places>(
         &mut self,
-        alloc: Global,
         p: &mut P,
         line: u64,
         name: u32,
@@ -283,17 +272,7 @@ impl<K: Kernel> Thread<K> {
         ensures number { number_of self.new ≡ number_of self.old }
     {
         let who = self.who(line);
-        calloc(
-            &mut self.own,
-            alloc,
-            p,
-            &who,
-            name,
-            n,
-            size,
-            &mut self.space,
-            t,
-        )
+        calloc(&mut self.own, p, &who, name, n, size, &mut self.space, t)
     }
 
     /// posix_memalign of a size, under a name that holds nothing, in a line of the trace (glibc's `__posix_memalign`): from an
@@ -302,7 +281,6 @@ impl<K: Kernel> Thread<K> {
     /// at most 16.
     pub fn posix_memalign<P: Places>(
         &mut self,
-        alloc: Global,
         p: &mut P,
         line: u64,
         name: u32,
@@ -351,7 +329,6 @@ impl<K: Kernel> Thread<K> {
         let who = self.who(line);
         posix_memalign(
             &mut self.own,
-            alloc,
             p,
             &who,
             name,
@@ -368,7 +345,6 @@ impl<K: Kernel> Thread<K> {
     /// is freed or has what it needs.
     pub fn realloc<P: Places>(
         &mut self,
-        alloc: Global,
         p: &mut P,
         line: u64,
         name: u32,
@@ -421,16 +397,7 @@ impl<K: Kernel> Thread<K> {
         ensures number { number_of self.new ≡ number_of self.old }
     {
         let who = self.who(line);
-        realloc(
-            &mut self.own,
-            alloc,
-            p,
-            &who,
-            name,
-            size,
-            &mut self.space,
-            t,
-        )
+        realloc(&mut self.own, p, &who, name, size, &mut self.space, t)
     }
 
     /// free of a name's block, in a line of the trace (glibc's `__libc_free`). `NotYours` exactly where the name holds nothing.
@@ -438,7 +405,6 @@ impl<K: Kernel> Thread<K> {
     /// the cache takes, or a name that holds nothing.
     pub fn free<P: Places>(
         &mut self,
-        alloc: Global,
         p: &mut P,
         line: u64,
         name: u32,
@@ -477,18 +443,12 @@ impl<K: Kernel> Thread<K> {
         ensures number { number_of self.new ≡ number_of self.old }
     {
         let who = self.who(line);
-        free(&mut self.own, alloc, p, &who, name, &mut self.space, t)
+        free(&mut self.own, p, &who, name, &mut self.space, t)
     }
 
     /// The end of a thread, in a line of the trace (glibc's `__malloc_arena_thread_freeres`): its cache is closed, and what it
     /// had is released; then the thread leaves its arena. Its named blocks stay. `NoMemory` never comes where the cache is closed.
-    pub fn exit<P: Places>(
-        &mut self,
-        alloc: Global,
-        p: &mut P,
-        line: u64,
-        t: &Tunables,
-    ) -> Result<Reply, NoMemory>
+    pub fn exit<P: Places>(&mut self, p: &mut P, line: u64, t: &Tunables) -> Result<Reply, NoMemory>
         requires tuned { IsTuned t.now }
         requires served { IsServed P.ways t.now (in_own (own_of self.old))
             (standing p.old (space_of self.old)) }
@@ -511,6 +471,6 @@ impl<K: Kernel> Thread<K> {
         ensures number { number_of self.new ≡ number_of self.old }
     {
         let who = self.who(line);
-        exit(&mut self.own, alloc, p, &who, &mut self.space, t)
+        exit(&mut self.own, p, &who, &mut self.space, t)
     }
 }

@@ -21,12 +21,10 @@ use arena_holds::{HeldResize, Places};
 use chunk_tags::{Block, NoMemory, Size, Tunables};
 use own_blocks::{OwnCache, open_cache, origin, plain_supply, release};
 use realloc_align::Resized;
-use std::alloc::Global;
 
 /// malloc in the place of a resize that was refused: the block of an arena is released for the one that is got.
 fn move_from_arena<P: Places, K: Kernel>(
     cache: &mut OwnCache,
-    alloc: Global,
     p: &mut P,
     who: &Who,
     a: u8,
@@ -59,13 +57,13 @@ fn move_from_arena<P: Places, K: Kernel>(
         (standing p.old space.old) (standing p.new space.new)) }
     ensures kept { StaysOpen cache.old cache.new }
 {
-    let found = match plain_supply(cache, alloc, p, who, size, nb, space, t) {
+    let found = match plain_supply(cache, p, who, size, nb, space, t) {
         Ok(found) => found,
         Err(NoMemory) => return Err(block),
     };
     match found {
         None => Ok(refused_block(block)),
-        Some(got) => match release(cache, alloc, p, who, a, block, space, t) {
+        Some(got) => match release(cache, p, who, a, block, space, t) {
             Ok(_to) => Ok(got_block(got.from, got.block)),
             Err(_lost) => Err(got.block),
         },
@@ -76,7 +74,6 @@ fn move_from_arena<P: Places, K: Kernel>(
 /// block comes back where it is then, or the one that was got for it: as it was, or large enough.
 fn resize_in_arena<P: Places, K: Kernel>(
     cache: &mut OwnCache,
-    alloc: Global,
     p: &mut P,
     who: &Who,
     a: u8,
@@ -107,20 +104,17 @@ fn resize_in_arena<P: Places, K: Kernel>(
         (standing p.old space.old) (standing p.new space.new)) }
     ensures kept { StaysOpen cache.old cache.new }
 {
-    let HeldResize { hold, resized } = cache.resize(alloc, p, a, who, block, nb, space, t)?;
+    let HeldResize { hold, resized } = cache.resize(p, a, who, block, nb, space, t)?;
     match resized {
         Resized::Kept(block) => Ok(kept_block(origin(hold, &block), block)),
         Resized::Moved(block) => Ok(got_block(origin(hold, &block), block)),
-        Resized::Refused(block) => {
-            move_from_arena(cache, alloc, p, who, a, block, size, nb, space, t)
-        }
+        Resized::Refused(block) => { move_from_arena(cache, p, who, a, block, size, nb, space, t) }
     }
 }
 
 /// A block of an arena gets `nb` bytes, and the cache is opened first where it is closed.
 pub(crate) fn realloc_in_arena<P: Places, K: Kernel>(
     cache: &mut OwnCache,
-    alloc: Global,
     p: &mut P,
     who: &Who,
     a: u8,
@@ -151,8 +145,8 @@ pub(crate) fn realloc_in_arena<P: Places, K: Kernel>(
         (standing p.old space.old) (standing p.new space.new)) }
     ensures kept { StaysOpen cache.old cache.new }
 {
-    match open_cache(cache, alloc, p, who, space, t) {
-        Ok(()) => resize_in_arena(cache, alloc, p, who, a, block, size, nb, space, t),
+    match open_cache(cache, p, who, space, t) {
+        Ok(()) => resize_in_arena(cache, p, who, a, block, size, nb, space, t),
         Err(NoMemory) => Err(block),
     }
 }

@@ -21,12 +21,10 @@ use arena_core::Who;
 use arena_holds::{Places, has_length, has_room, remap_mapped, unmap_mapped};
 use chunk_tags::{Addr, Block, NoMemory, Size, Tunables};
 use own_blocks::{Origin, OwnCache, plain_supply};
-use std::alloc::Global;
 
 /// malloc in the place of another length that was refused: the block's mapping goes back for the one that is got.
 fn move_from_mapping<P: Places, K: Kernel>(
     cache: &mut OwnCache,
-    alloc: Global,
     p: &mut P,
     who: &Who,
     block: Block,
@@ -58,7 +56,7 @@ fn move_from_mapping<P: Places, K: Kernel>(
         (standing p.old space.old) (standing p.new space.new)) }
     ensures kept { StaysOpen cache.old cache.new }
 {
-    let found = match plain_supply(cache, alloc, p, who, size, nb, space, t) {
+    let found = match plain_supply(cache, p, who, size, nb, space, t) {
         Ok(found) => found,
         Err(NoMemory) => return Err(block),
     };
@@ -86,7 +84,6 @@ fn remapped(before: Addr, block: Block) -> Reallocated
 /// its place. Where memory is short the block comes back.
 pub(crate) fn realloc_in_mapping<P: Places, K: Kernel>(
     cache: &mut OwnCache,
-    alloc: Global,
     p: &mut P,
     who: &Who,
     block: Block,
@@ -123,7 +120,7 @@ pub(crate) fn realloc_in_mapping<P: Places, K: Kernel>(
     let addr = block.addr;
     match remap_mapped(p, block, nb, space) {
         Ok(changed) => Ok(remapped(addr, changed)),
-        Err(block) => keep_or_move(cache, alloc, p, who, block, size, nb, space, t),
+        Err(block) => keep_or_move(cache, p, who, block, size, nb, space, t),
     }
 }
 
@@ -131,7 +128,6 @@ pub(crate) fn realloc_in_mapping<P: Places, K: Kernel>(
 /// in its place.
 fn keep_or_move<P: Places, K: Kernel>(
     cache: &mut OwnCache,
-    alloc: Global,
     p: &mut P,
     who: &Who,
     block: Block,
@@ -165,6 +161,6 @@ fn keep_or_move<P: Places, K: Kernel>(
     if has_room(&block, nb) {
         Ok(kept_block(Origin::Mapped, block))
     } else {
-        move_from_mapping(cache, alloc, p, who, block, size, nb, space, t)
+        move_from_mapping(cache, p, who, block, size, nb, space, t)
     }
 }

@@ -34,12 +34,10 @@ use arena_holds::Places;
 use chunk_tags::{Block, NoMemory, Size, Tunables, request_size};
 use own_blocks::free::free;
 use own_blocks::{Own, OwnCache, Reply, Why};
-use std::alloc::Global;
 
 /// A block gets `nb` bytes where it is, or elsewhere.
 fn realloc_block<P: Places, K: Kernel>(
     cache: &mut OwnCache,
-    alloc: Global,
     p: &mut P,
     who: &Who,
     block: Block,
@@ -70,8 +68,8 @@ fn realloc_block<P: Places, K: Kernel>(
     ensures mapped { block.arena ≡ None → has_what_it_needs nb block ≡ true → is_ok result ≡ true }
 {
     match block.arena {
-        None => realloc_in_mapping(cache, alloc, p, who, block, size, nb, space, t),
-        Some(a) => realloc_in_arena(cache, alloc, p, who, a, block, size, nb, space, t),
+        None => realloc_in_mapping(cache, p, who, block, size, nb, space, t),
+        Some(a) => realloc_in_arena(cache, p, who, a, block, size, nb, space, t),
     }
 }
 
@@ -79,7 +77,6 @@ fn realloc_block<P: Places, K: Kernel>(
 #[tactic(auto, using(block_names::proofs::Tables::at_same, block_names::proofs::Tables::at_other, block_names::proofs::Tables::place_left, block_names::proofs::Tables::without_none))]
 fn realloc_name<P: Places, K: Kernel>(
     own: &mut Own,
-    alloc: Global,
     p: &mut P,
     who: &Who,
     name: u32,
@@ -116,7 +113,7 @@ fn realloc_name<P: Places, K: Kernel>(
         → has_what_it_needs nb b ≡ true → is_ok result ≡ true }
 {
     let block = own.names.take(name).unwrap();
-    match realloc_block(&mut own.cache, alloc, p, who, block, size, nb, space, t) {
+    match realloc_block(&mut own.cache, p, who, block, size, nb, space, t) {
         Ok(Reallocated { block, reply }) => {
             own.names.put(name, block);
             Ok(reply)
@@ -134,7 +131,6 @@ fn realloc_name<P: Places, K: Kernel>(
 /// needs.
 pub fn realloc<P: Places, K: Kernel>(
     own: &mut Own,
-    alloc: Global,
     p: &mut P,
     who: &Who,
     name: u32,
@@ -180,10 +176,10 @@ pub fn realloc<P: Places, K: Kernel>(
         return Ok(Reply::NotYours);
     };
     if size == 0 {
-        return free(own, alloc, p, who, name, space, t);
+        return free(own, p, who, name, space, t);
     }
     match request_size(size) {
         None => Ok(Reply::Null(Why::Big)),
-        Some(nb) => realloc_name(own, alloc, p, who, name, size, nb, space, t),
+        Some(nb) => realloc_name(own, p, who, name, size, nb, space, t),
     }
 }
