@@ -18,12 +18,10 @@ use address_space::Kernel;
 use chunk_tags::{NoMemory, Tunables};
 use malloc_calls::{Reply, Thread};
 use serial_places::Serial;
-use std::alloc::Global;
 use trace_text::{Call, Line};
 
 /// malloc of a size under a name that holds nothing, in a line.
 fn malloc<K: Kernel>(
-    alloc: Global,
     thread: &mut Thread<K>,
     serial: &mut Serial,
     line: u64,
@@ -46,12 +44,11 @@ fn malloc<K: Kernel>(
         thread.old serial.old thread.new serial.new) }
 {
     thread.ready(name)?;
-    thread.malloc(alloc, serial, line, name, size, t)
+    thread.malloc(serial, line, name, size, t)
 }
 
 /// calloc of `n` members of a size under a name that holds nothing, in a line.
 fn calloc<K: Kernel>(
-    alloc: Global,
     thread: &mut Thread<K>,
     serial: &mut Serial,
     line: u64,
@@ -75,12 +72,11 @@ fn calloc<K: Kernel>(
         thread.old serial.old thread.new serial.new) }
 {
     thread.ready(name)?;
-    thread.calloc(alloc, serial, line, name, n, size, t)
+    thread.calloc(serial, line, name, n, size, t)
 }
 
 /// posix_memalign of a size under a name that holds nothing, in a line.
 fn posix_memalign<K: Kernel>(
-    alloc: Global,
     thread: &mut Thread<K>,
     serial: &mut Serial,
     line: u64,
@@ -104,12 +100,11 @@ fn posix_memalign<K: Kernel>(
         thread.old serial.old thread.new serial.new) }
 {
     thread.ready(name)?;
-    thread.posix_memalign(alloc, serial, line, name, align, size, t)
+    thread.posix_memalign(serial, line, name, align, size, t)
 }
 
 /// realloc of a name's block, in a line.
 fn realloc<K: Kernel>(
-    alloc: Global,
     thread: &mut Thread<K>,
     serial: &mut Serial,
     line: u64,
@@ -131,12 +126,11 @@ fn realloc<K: Kernel>(
         thread.old serial.old thread.new serial.new) }
 {
     thread.ready(name)?;
-    thread.realloc(alloc, serial, line, name, size, t)
+    thread.realloc(serial, line, name, size, t)
 }
 
 /// free of a name's block, in a line.
 fn free<K: Kernel>(
-    alloc: Global,
     thread: &mut Thread<K>,
     serial: &mut Serial,
     line: u64,
@@ -157,12 +151,11 @@ fn free<K: Kernel>(
         thread.old serial.old thread.new serial.new) }
 {
     thread.ready(name)?;
-    thread.free(alloc, serial, line, name, t)
+    thread.free(serial, line, name, t)
 }
 
 /// The end of a thread, in a line.
 fn exit<K: Kernel>(
-    alloc: Global,
     thread: &mut Thread<K>,
     serial: &mut Serial,
     line: u64,
@@ -179,7 +172,7 @@ fn exit<K: Kernel>(
     ensures left { OnErr result (IsCallLeft K.port t.now line Exit
         thread.old serial.old thread.new serial.new) }
 {
-    thread.exit(alloc, serial, line, t)
+    thread.exit(serial, line, t)
 }
 
 /// Posts a name's block to a tray that is empty. `NoMemory` comes only where the name has no place yet.
@@ -237,7 +230,6 @@ fn take<K: Kernel>(
 /// The call of a line, by its thread. `NoMemory` comes only where its name has no place yet, or where it asks for memory on
 /// its way.
 pub fn call<K: Kernel>(
-    alloc: Global,
     thread: &mut Thread<K>,
     serial: &mut Serial,
     line: &Line,
@@ -255,18 +247,16 @@ pub fn call<K: Kernel>(
 {
     let number = line.number;
     match line.call {
-        Call::Malloc { name, size } => malloc(alloc, thread, serial, number, name, size, t),
-        Call::Calloc { name, n, size } => {
-            calloc(alloc, thread, serial, number, name, n, size, t)
-        }
+        Call::Malloc { name, size } => malloc(thread, serial, number, name, size, t),
+        Call::Calloc { name, n, size } => { calloc(thread, serial, number, name, n, size, t) }
         Call::Align { name, align, size } => {
-            posix_memalign(alloc, thread, serial, number, name, align, size, t)
+            posix_memalign(thread, serial, number, name, align, size, t)
         }
-        Call::Realloc { name, size } => realloc(alloc, thread, serial, number, name, size, t),
-        Call::Free { name } => free(alloc, thread, serial, number, name, t),
+        Call::Realloc { name, size } => realloc(thread, serial, number, name, size, t),
+        Call::Free { name } => free(thread, serial, number, name, t),
         Call::Post { name, tray } => post(thread, serial, name, tray, t),
         Call::Take { name, tray } => take(thread, serial, name, tray, t),
-        Call::Exit => exit(alloc, thread, serial, number, t),
+        Call::Exit => exit(thread, serial, number, t),
     }
 }
 

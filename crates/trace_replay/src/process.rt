@@ -63,7 +63,7 @@ impl<K: Kernel> Process<K> {
 
     /// One line of a trace.
     #[tactic(auto, unfolding(crate::specs::World::step))]
-    pub fn step(&mut self, alloc: Global, line: &Line) -> Result<Reply, NoMemory>
+    pub fn step(&mut self, line: &Line) -> Result<Reply, NoMemory>
         requires may { MayRun line.now (world_of self.old) }
         requires settled { IsBetweenCalls self.old }
         ensures told { Tells K.port self.old →
@@ -77,7 +77,7 @@ impl<K: Kernel> Process<K> {
         ensures left { OnErr result (IsStepLeft K.port line.now self.old self.new) }
     {
         let thread = &mut self.threads[usize::from(line.thread)];
-        let reply = call(alloc, thread, &mut self.serial, line, &self.t)?;
+        let reply = call(thread, &mut self.serial, line, &self.t)?;
         thread.laws();
         tidy(thread, line);
         thread.laws();
@@ -97,7 +97,7 @@ impl<K: Kernel> Process<K> {
             t: _,
         } = self;
         serial.laws();
-        let end = serial.end(alloc)?;
+        let end = serial.end()?;
         snapshot(
             alloc,
             threads.as_slice(),

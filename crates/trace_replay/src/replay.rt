@@ -13,12 +13,10 @@ use crate::sheet::Sheet;
 use address_space::Kernel;
 use chunk_tags::NoMemory;
 use malloc_calls::Reply;
-use std::alloc::Global;
 use trace_text::{Line, Lines};
 
 /// Runs a line and notes its reply.
 fn replay_line<K: Kernel>(
-    alloc: Global,
     process: &mut Process<K>,
     line: &Line,
     sheet: &mut Sheet<'_>,
@@ -38,14 +36,13 @@ fn replay_line<K: Kernel>(
     ensures left { OnErr result ((rest : List Line) → Awaits sheet.old (line.now ∷ rest) →
         IsLineLeft K.port line.now process.old sheet.old process.new) }
 {
-    let reply = process.step(alloc, line)?;
+    let reply = process.step(line)?;
     sheet.note(line, &reply)?;
     Ok(reply)
 }
 
 /// Runs the lines of a trace in their order and notes their replies.
 pub fn replay<K: Kernel>(
-    alloc: Global,
     process: &mut Process<K>,
     lines: &Lines,
     sheet: &mut Sheet<'_>,
@@ -67,7 +64,7 @@ pub fn replay<K: Kernel>(
     process.laws();
     for index in 0..lines.len() {
         let line = lines.get(index);
-        replay_line(alloc, process, &line, sheet)?;
+        replay_line(process, &line, sheet)?;
         process.laws();
     }
     Ok(())

@@ -57,7 +57,7 @@ fn text_over<K: Kernel>(
     let mut process = Process::new(alloc, kernels, &asked.tunables)?;
     let numbers = line_threads(alloc, &lines)?;
     let mut sheet = Sheet::new(alloc, asked.summary, bytes.as_slice())?;
-    replay(alloc, &mut process, &lines, &mut sheet)?;
+    replay(&mut process, &lines, &mut sheet)?;
     let notes = sheet.notes();
     drop(lines);
     drop(bytes);
