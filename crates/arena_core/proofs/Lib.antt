@@ -2,7 +2,6 @@ pub mod Opens
 pub mod Mapped
 pub mod Recording
 pub mod Replays
-mod AnswerLaws
-mod Kept
+mod KeptLaws
 mod Rounds
 pub mod Tellings

@@ -4,9 +4,8 @@
 //! All of it stands on any `Moves`; the program's is `Ground` of arena_ground.
 #![tactic(auto)]
 
-mod answer_bytes;
+mod answers;
 mod arena;
-mod brief;
 mod entries;
 mod entry;
 #[cfg(test)]
@@ -14,10 +13,9 @@ mod examples;
 mod journal;
 #[cfg(test)]
 mod journal_tests;
+mod kept;
 mod lists;
 mod reading;
-#[cfg(test)]
-mod row_tests;
 mod searching;
 mod take;
 

@@ -1,14 +1,13 @@
-//! Another arena is opened, and answers are read back from a journal, with ample memory.
+//! Another arena is opened, with ample memory.
 
 ghost use Rattle.std.specs.Prelude.{◌≡◌, ◌<◌, ◌^◌};
 ghost use Rattle.chunk_tags.specs.Tunables.{IsTuned};
 
 use super::*;
-use address_space::{Answer, Ask, Budget, Space, Windows};
+use address_space::{Budget, Space, Windows};
 use arena_ground::Ground;
-use arena_rules::{Moves, Said};
-use chunk_tags::{Addr, Mode, Size, Tunables};
-use std::alloc::Global;
+use arena_rules::Moves;
+use chunk_tags::{Mode, Tunables};
 use std::test::Fail;
 
 /// Windows of 128 KiB for two heaps, and a pad.
@@ -59,53 +58,6 @@ fn heap_0_is_asked_for_twice_at_most(rt: HostRuntime) -> Result<(), Fail> {
         };
         assert_eq!(rt; system, len, "for {bytes} bytes with a pad of {pad}");
         assert_eq!(rt; said, asks);
-    }
-    Ok(())
-}
-
-/// The answer of a journal's entry that was kept with this one.
-fn read_back(alloc: Global, answer: Said) -> Result<Option<Said>, Fail> {
-    let mut journal = Journal::new(alloc)?;
-    let mut said = journal.begin()?;
-    said.push(answer)?;
-    let act = Act::Give {
-        addr: Addr(4096),
-        size: Size(32),
-    };
-    let who = Who { thread: 1, line: 2 };
-    journal.append(who, act, said, Ended::Done);
-    let entry = journal.entries().next(alloc)?.ok_or("an entry")?;
-    Ok(entry.said.first().copied())
-}
-
-/// The growth of the last heap of the last arena, from and to so many bytes.
-fn growth(old_len: u64, new_len: u64) -> Ask {
-    Ask::GrowHeap {
-        arena: 255,
-        heap: 65_535,
-        old_len,
-        new_len,
-    }
-}
-
-/// The greatest length of a brief answer: 2^18 - 1 pages.
-const MOST: u64 = 1_073_737_728;
-
-#[test]
-fn growths_of_a_heap_are_read_back(rt: HostRuntime) -> Result<(), Fail> {
-    for (old_len, new_len) in [
-        (0, 0),
-        (4096, 8192),
-        (MOST, MOST),
-        (MOST, MOST + 4096),
-        (MOST + 4096, MOST),
-        (MOST - 1, MOST),
-        (MOST, MOST + 1),
-    ] {
-        for answer in [Answer::Granted, Answer::Refused] {
-            let said = Said::Asked(growth(old_len, new_len), answer);
-            assert_eq!(rt; read_back(rt.alloc(), said)?, Some(said));
-        }
     }
     Ok(())
 }

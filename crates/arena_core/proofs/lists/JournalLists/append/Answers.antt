@@ -1,14 +1,16 @@
-use Rattle.arena_core.proofs.Kept.{kept-brief, kept-whole, entries-brief, entries-whole}
+use Rattle.std.proofs.Common.{◌++◌, arith}
+use Rattle.arena_core.specs.Kept.{answers_of, entries_of}
+use Rattle.arena_core.proofs.KeptLaws.{no-last, kept-more, entries-appended}
 use Rattle.arena_core.proofs.lists.JournalLists.append.Goals as goal
 
 pub invariant_of-self : goal.invariant_of-self
-invariant_of-self c = rw c.put.ensures (kept-brief _ _ c.in-Some.row _ _ _ c.self.invariant c.in-Some.ensures.row)
+invariant_of-self c =
+    let l = c.self.inside in
+    let none = no-last l.rows l.last (entries_of l.rows.items (answers_of l.told.items l.asks.items ++ l.last.items)) (rw (← c.self.view_is) at c.requires) in
+    rw c.put.ensures.items (kept-more _ _ _ _ c.args.said.items (rw none at c.self.invariant) (omega (arith, c.len.ensures, c.args.said.ok.0)))
 
-pub invariant_of-self-in-None : goal.invariant_of-self-in-None
-invariant_of-self-in-None c = rw (c.put-in-None.ensures, c.put-in-None-2.ensures, c.in-None.ensures.none) (kept-whole _ _ _ _ c.self.invariant)
-
-pub returns-in-Some : goal.returns-in-Some
-returns-in-Some c = rw (c.put.ensures, ← c.deref.ensures.value, ← c.self.view_is) (entries-brief _ _ c.in-Some.row _ _ _ c.self.invariant c.in-Some.ensures.row)
-
-pub returns-in-None : goal.returns-in-None
-returns-in-None c = rw (c.put-in-None.ensures, c.put-in-None-2.ensures, c.in-None.ensures.none, ← c.self.view_is) (entries-whole _ _ _ _ c.self.invariant)
+pub returns : goal.returns
+returns c =
+    let l = c.self.inside in
+    let none = no-last l.rows l.last (entries_of l.rows.items (answers_of l.told.items l.asks.items ++ l.last.items)) (rw (← c.self.view_is) at c.requires) in
+    rw (c.put.ensures.items, ← c.self.view_is, none) (entries-appended _ _ _ _ c.args.said.items (rw none at c.self.invariant) (omega (arith, c.len.ensures, c.args.said.ok.0)))
