@@ -36,7 +36,8 @@ use thread_cache::Cache;
 /// An arena: what it consists of, and the journal of its holds.
 #[derive(Drop)]
 pub struct Arena<M: Moves> {
-    pub ground: M,
+    /// It stands behind a pointer, so that an arena which is lent moves in few bytes.
+    pub ground: Box<M>,
     pub journal: Journal,
 }
 
@@ -94,20 +95,20 @@ impl<M: Moves> Arena<M> {
         t: &Tunables,
     ) -> Result<Take, NoMemory>
         requires ready { IsReady (means P.fast P.dials K.port) t.now
-            (stage (M.plain self.old.ground) (beside_arena port.old cache.old space.old) []) }
+            (stage (M.plain self.old.ground.value) (beside_arena port.old cache.old space.old) []) }
         requires allows { AllowsMaps P.dials port.old space.old }
         requires apart { AreApart P.fast P.dials }
         requires tuned { IsSearchable t.now }
         requires size { IsRequestSize nb }
-        ensures taken { let before = held (M.plain self.old.ground) port.old cache.old space.old
+        ensures taken { let before = held (M.plain self.old.ground.value) port.old cache.old space.old
             self.old.journal.items in
-            let after = held (M.plain self.new.ground) port.new cache.new space.new
+            let after = held (M.plain self.new.ground.value) port.new cache.new space.new
             self.new.journal.items in
             IfOk result (λ take.
             Takes (means P.fast P.dials K.port) t.now who (acts.Take nb) before take after) }
-        ensures short { let before = held (M.plain self.old.ground) port.old cache.old space.old
+        ensures short { let before = held (M.plain self.old.ground.value) port.old cache.old space.old
             self.old.journal.items in
-            let after = held (M.plain self.new.ground) port.new cache.new space.new
+            let after = held (M.plain self.new.ground.value) port.new cache.new space.new
             self.new.journal.items in
             OnErr result
             (FailsShort (means P.fast P.dials K.port) t.now who
@@ -124,18 +125,18 @@ impl<M: Moves> Arena<M> {
 
         // The arena is still what the replay of its journal gives.
         ensures replay { (start : Plain)
-            → IsReplay t.now start self.old.journal.items (M.plain self.old.ground)
-            → IsReplay t.now start self.new.journal.items (M.plain self.new.ground) }
+            → IsReplay t.now start self.old.journal.items (M.plain self.old.ground.value)
+            → IsReplay t.now start self.new.journal.items (M.plain self.new.ground.value) }
     {
         // Another arena has a top, so it was opened: no journal has a search before that.
-        self.ground.top_law();
+        self.ground.as_ref().top_law();
         let mut said = self.journal.begin()?;
-        match search(&mut self.ground, nb, cache, port, space, t, &mut said) {
+        match search(self.ground.as_mut(), nb, cache, port, space, t, &mut said) {
             Ok(found) => {
                 let found = &found;
                 self.journal
                     .append(who, Act::Take { nb }, said, ended_by(found));
-                Ok(take_found(self.ground.number(), found))
+                Ok(take_found(self.ground.as_ref().number(), found))
             }
             Err(NoMemory) => {
                 self.journal
@@ -156,18 +157,18 @@ impl<M: Moves> Arena<M> {
         space: &mut Space<K>,
         t: &Tunables,
     ) -> Result<(), GiveShort>
-        requires backed { IsBacked P.fast (M.plain self.old.ground) port.old
+        requires backed { IsBacked P.fast (M.plain self.old.ground.value) port.old
             (one_chunk (chunk_at b.addr b.size)) }
         requires apart { AreApart P.fast P.dials }
         ensures given { (cache : CacheValue) → OnOk result
             (Records (means P.fast P.dials K.port) t.now who (acts.Give b.addr b.size)
-            (held (M.plain self.old.ground) port.old cache space.old self.old.journal.items)
+            (held (M.plain self.old.ground.value) port.old cache space.old self.old.journal.items)
             (one_chunk (chunk_at b.addr b.size)) finds.Nowhere
-            (held (M.plain self.new.ground) port.new cache space.new self.new.journal.items)) }
+            (held (M.plain self.new.ground.value) port.new cache space.new self.new.journal.items)) }
         ensures short { (cache : CacheValue) →
-            let before = held (M.plain self.old.ground) port.old cache space.old
+            let before = held (M.plain self.old.ground.value) port.old cache space.old
             self.old.journal.items in
-            let after = held (M.plain self.new.ground) port.new cache space.new
+            let after = held (M.plain self.new.ground.value) port.new cache space.new
             self.new.journal.items in
             IfErr result (λ e.
             GivesShort (means P.fast P.dials K.port) t.now who b before e.back after) }
@@ -178,8 +179,8 @@ impl<M: Moves> Arena<M> {
 
         // The arena is still what the replay of its journal gives.
         ensures replay { (start : Plain)
-            → IsReplay t.now start self.old.journal.items (M.plain self.old.ground)
-            → IsReplay t.now start self.new.journal.items (M.plain self.new.ground) }
+            → IsReplay t.now start self.old.journal.items (M.plain self.old.ground.value)
+            → IsReplay t.now start self.new.journal.items (M.plain self.new.ground.value) }
     {
         let Ok(mut said) = self.journal.begin() else {
             return Err(GiveShort { back: Some(b) });
@@ -192,7 +193,7 @@ impl<M: Moves> Arena<M> {
         } = b;
         let act = Act::Give { addr, size };
         match give(
-            &mut self.ground,
+            self.ground.as_mut(),
             Chunk { at: addr, size },
             port,
             space,
@@ -229,14 +230,14 @@ impl<M: Moves + Drop> Arena<M> {
         requires windows { space.old.windows ≡ windows_of t.now }
         ensures opened { IfOk result (λ o. IfSome o (λ a.
             OpensAs M.plain K.port t.now who number bytes space.old
-            a.ground a.journal.items space.new)) }
+            a.ground.value a.journal.items space.new)) }
         ensures refused { IfOk result (λ o. IsNone o
             → RefusesOpening K.port t.now number bytes space.old space.new) }
         ensures short { OnErr result (OpensShort K.port t.now number bytes space.old space.new) }
 
         // The arena is what the replay of its journal gives.
         ensures replay { IfOk result (λ o. IfSome o (λ a.
-            IsReplay t.now (closed_arena t.now number) a.journal.items (M.plain a.ground))) }
+            IsReplay t.now (closed_arena t.now number) a.journal.items (M.plain a.ground.value))) }
     {
         let mut journal = Journal::new(alloc)?;
         let mut said = journal.begin()?;

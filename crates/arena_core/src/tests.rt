@@ -52,7 +52,7 @@ fn heap_0_is_asked_for_twice_at_most(rt: HostRuntime) -> Result<(), Fail> {
         let (system, said) = match opened {
             Some(arena) => {
                 let first = arena.journal.entries().next(alloc)?.ok_or("an entry")?;
-                (arena.ground.system(), first.said.len())
+                (arena.ground.as_ref().system(), first.said.len())
             }
             None => (0, 0),
         };

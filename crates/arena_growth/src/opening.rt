@@ -50,12 +50,12 @@ fn ask_first<K: Kernel>(
 }
 
 /// The arena as it is with a heap 0 of this length, where that doesn't pass its window.
-fn with_first_heap<M: Moves>(
+fn with_first_heap<M: Moves + Drop>(
     alloc: Global,
     number: u8,
     len: u64,
     t: &Tunables,
-) -> Result<Option<M>, NoMemory>
+) -> Result<Option<Box<M>>, NoMemory>
     requires other { 0 < number }
     requires number { number < 64 }
     requires tuned { IsTuned t.now }
@@ -63,14 +63,14 @@ fn with_first_heap<M: Moves>(
     requires pages { len % 4096 ≡ 0 }
     ensures some { IfOk result (λ o. nat_le len t.now.heap_max ≡ true → IsSome o) }
     ensures arena { IfOk result (λ o. IfSome o (λ g.
-        M.plain g ≡ opened_arena (closed_arena t.now number) len)) }
-    ensures sound { IfOk result (λ o. IfSome o (λ g. IsSound (M.plain g))) }
+        M.plain g.value ≡ opened_arena (closed_arena t.now number) len)) }
+    ensures sound { IfOk result (λ o. IfSome o (λ g. IsSound (M.plain g.value))) }
 {
     if len > t.heap_max {
         return Ok(None);
     }
     let ground = M::open(alloc, number, t.heap_max, t.heaps, len)?;
-    Ok(Some(ground))
+    Ok(Some(Box::new(alloc, ground)?))
 }
 
 /// Asks for heap 0 with a need, with the arena made before. `None` is the refusal.
@@ -81,13 +81,13 @@ fn open_for<M: Moves + Drop, K: Kernel>(
     space: &mut Space<K>,
     t: &Tunables,
     said: &mut Vec<Said>,
-) -> Result<Option<M>, NoMemory>
+) -> Result<Option<Box<M>>, NoMemory>
     requires other { 0 < number }
     requires number { number < 64 }
     requires tuned { IsTuned t.now }
     requires need { need ≤ 2 ^ 63 + 2 ^ 32 }
     requires windows { space.old.windows ≡ windows_of t.now }
-    ensures { AsksFirst M.plain K.port t.now number need space.old said.old.items
+    ensures { AsksFirst (λ b. M.plain b.value) K.port t.now number need space.old said.old.items
         result space.new said.new.items }
 {
     let len = first_length(need, t);
@@ -108,13 +108,13 @@ pub fn open_ground<M: Moves + Drop, K: Kernel>(
     space: &mut Space<K>,
     t: &Tunables,
     said: &mut Vec<Said>,
-) -> Result<Option<M>, NoMemory>
+) -> Result<Option<Box<M>>, NoMemory>
     requires other { 0 < number }
     requires number { number < 64 }
     requires tuned { IsTuned t.now }
     requires bytes { bytes ≤ 2 ^ 63 }
     requires windows { space.old.windows ≡ windows_of t.now }
-    ensures { Opens M.plain K.port t.now number bytes space.old said.old.items
+    ensures { Opens (λ b. M.plain b.value) K.port t.now number bytes space.old said.old.items
         result space.new said.new.items }
 {
     match open_for(alloc, number, bytes + BESIDE_REQUEST, space, t, said)? {

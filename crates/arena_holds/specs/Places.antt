@@ -31,7 +31,7 @@ abbrev pub with_journal : Plain → List Recorded → KeptArena
 with_journal arena journal = record { arena = arena; journal = journal }
 
 abbrev pub kept_of : {M : Type 0} → (M → Plain) → Arena M → KeptArena
-kept_of plain a = with_journal (plain a.ground) a.journal.items
+kept_of plain a = with_journal (plain a.ground.value) a.journal.items
 
 -- the arena with a number, before its first entry
 abbrev pub new_arena : Tunables → ℕ → Plain

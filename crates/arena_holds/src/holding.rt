@@ -57,23 +57,23 @@ fn search_arena<M: Moves, K: Kernel, P: FastPort + Dials>(
     t: &Tunables,
 ) -> Result<Option<Block>, NoMemory>
     requires ready { IsReady (means P.fast P.dials K.port) t.now
-        (stage (M.plain a.old.ground) (beside_arena port.old cache.old space.old) []) }
+        (stage (M.plain a.old.ground.value) (beside_arena port.old cache.old space.old) []) }
     requires allows { AllowsMaps P.dials port.old space.old }
     requires apart { AreApart P.fast P.dials }
     requires tuned { IsSearchable t.now }
     requires act { IsSearch act.now }
     ensures searches { IfOk result (λ block.
         SearchesArena (means P.fast P.dials K.port) t.now who act.now
-        (held (M.plain a.old.ground) port.old cache.old space.old a.old.journal.items)
-        block (held (M.plain a.new.ground) port.new cache.new space.new a.new.journal.items)) }
+        (held (M.plain a.old.ground.value) port.old cache.old space.old a.old.journal.items)
+        block (held (M.plain a.new.ground.value) port.new cache.new space.new a.new.journal.items)) }
     ensures short { OnErr result (FailsShort (means P.fast P.dials K.port) t.now who act.now
-        (held (M.plain a.old.ground) port.old cache.old space.old a.old.journal.items)
-        no_chunk (held (M.plain a.new.ground) port.new cache.new space.new a.new.journal.items)) }
+        (held (M.plain a.old.ground.value) port.old cache.old space.old a.old.journal.items)
+        no_chunk (held (M.plain a.new.ground.value) port.new cache.new space.new a.new.journal.items)) }
     ensures full { OnErr result (a.new.journal.items ≡ a.old.journal.items
         → a.old.journal.capacity ≤ length a.old.journal.items) }
     ensures replay { (start : Plain)
-        → IsReplay t.now start a.old.journal.items (M.plain a.old.ground)
-        → IsReplay t.now start a.new.journal.items (M.plain a.new.ground) }
+        → IsReplay t.now start a.old.journal.items (M.plain a.old.ground.value)
+        → IsReplay t.now start a.new.journal.items (M.plain a.new.ground.value) }
 {
     match act {
         Act::Take { nb } => Ok(block_in(a.take(who, *nb, cache, port, space, t)?)),

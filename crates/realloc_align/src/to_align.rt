@@ -97,7 +97,7 @@ pub fn aligned<M: Moves, K: Kernel, P: FastPort + Dials>(
     t: &Tunables,
 ) -> Result<Take, GiveShort>
     requires ready { IsReady (means P.fast P.dials K.port) t.now
-        (stage (M.plain a.old.ground) (beside_arena port.old cache.old space.old) []) }
+        (stage (M.plain a.old.ground.value) (beside_arena port.old cache.old space.old) []) }
     requires allows { AllowsMaps P.dials port.old space.old }
     requires apart { AreApart P.fast P.dials }
     requires tuned { IsSearchable t.now }
@@ -106,12 +106,12 @@ pub fn aligned<M: Moves, K: Kernel, P: FastPort + Dials>(
     requires most { nb + align + 32 ≤ 2 ^ 63 - 1 }
     ensures taken { IfOk result (λ take.
         AlignsBlock (means P.fast P.dials K.port) t.now who align nb
-        (held (M.plain a.old.ground) port.old cache.old space.old a.old.journal.items)
-        take (held (M.plain a.new.ground) port.new cache.new space.new a.new.journal.items)) }
+        (held (M.plain a.old.ground.value) port.old cache.old space.old a.old.journal.items)
+        take (held (M.plain a.new.ground.value) port.new cache.new space.new a.new.journal.items)) }
     ensures short { IfErr result (λ e.
         FailsAlign (means P.fast P.dials K.port) t.now who align nb
-        (held (M.plain a.old.ground) port.old cache.old space.old a.old.journal.items)
-        e.back (held (M.plain a.new.ground) port.new cache.new space.new a.new.journal.items)) }
+        (held (M.plain a.old.ground.value) port.old cache.old space.old a.old.journal.items)
+        e.back (held (M.plain a.new.ground.value) port.new cache.new space.new a.new.journal.items)) }
     ensures fits { IfOk result (FitsTake align nb) }
 
     // The journal stays as it was only where it had no room for the entry.
@@ -124,16 +124,16 @@ pub fn aligned<M: Moves, K: Kernel, P: FastPort + Dials>(
 
     // The arena is still what the replay of its journal gives.
     ensures replay { (start : Plain)
-        → IsReplay t.now start a.old.journal.items (M.plain a.old.ground)
-        → IsReplay t.now start a.new.journal.items (M.plain a.new.ground) }
+        → IsReplay t.now start a.old.journal.items (M.plain a.old.ground.value)
+        → IsReplay t.now start a.new.journal.items (M.plain a.new.ground.value) }
 {
-    a.ground.top_law();
+    a.ground.as_ref().top_law();
     let Ok(mut said) = a.journal.begin() else {
         return Err(GiveShort { back: None });
     };
-    let number = a.ground.number();
+    let number = a.ground.as_ref().number();
     let act = Act::Align { align, nb };
-    match align_in_arena(&mut a.ground, align, nb, cache, port, space, t, &mut said) {
+    match align_in_arena(a.ground.as_mut(), align, nb, cache, port, space, t, &mut said) {
         Ok(found) => {
             let found = &found;
             a.journal

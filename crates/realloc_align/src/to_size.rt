@@ -88,8 +88,8 @@ pub fn resize<M: Moves, K: Kernel, P: FastPort + Dials>(
     t: &Tunables,
 ) -> Result<Resized, GiveShort>
     requires ready { IsReady (means P.fast P.dials K.port) t.now
-        (stage (M.plain a.old.ground) (beside_arena port.old cache.old space.old) []) }
-    requires backed { IsBacked P.fast (M.plain a.old.ground) port.old
+        (stage (M.plain a.old.ground.value) (beside_arena port.old cache.old space.old) []) }
+    requires backed { IsBacked P.fast (M.plain a.old.ground.value) port.old
         (one_chunk (chunk_at b.addr b.size)) }
     requires allows { AllowsMaps P.dials port.old space.old }
     requires apart { AreApart P.fast P.dials }
@@ -97,12 +97,12 @@ pub fn resize<M: Moves, K: Kernel, P: FastPort + Dials>(
     requires size { IsRequestSize nb }
     ensures resized { IfOk result (λ r.
         ResizesBlock (means P.fast P.dials K.port) t.now who b nb
-        (held (M.plain a.old.ground) port.old cache.old space.old a.old.journal.items)
-        r (held (M.plain a.new.ground) port.new cache.new space.new a.new.journal.items)) }
+        (held (M.plain a.old.ground.value) port.old cache.old space.old a.old.journal.items)
+        r (held (M.plain a.new.ground.value) port.new cache.new space.new a.new.journal.items)) }
     ensures short { IfErr result (λ e.
         FailsResize (means P.fast P.dials K.port) t.now who b nb
-        (held (M.plain a.old.ground) port.old cache.old space.old a.old.journal.items)
-        e.back (held (M.plain a.new.ground) port.new cache.new space.new a.new.journal.items)) }
+        (held (M.plain a.old.ground.value) port.old cache.old space.old a.old.journal.items)
+        e.back (held (M.plain a.new.ground.value) port.new cache.new space.new a.new.journal.items)) }
     ensures fits { IfOk result (FitsResize nb) }
     ensures enough { IfErr result (λ e. FitsBack nb b e.back) }
 
@@ -116,17 +116,17 @@ pub fn resize<M: Moves, K: Kernel, P: FastPort + Dials>(
 
     // The arena is still what the replay of its journal gives.
     ensures replay { (start : Plain)
-        → IsReplay t.now start a.old.journal.items (M.plain a.old.ground)
-        → IsReplay t.now start a.new.journal.items (M.plain a.new.ground) }
+        → IsReplay t.now start a.old.journal.items (M.plain a.old.ground.value)
+        → IsReplay t.now start a.new.journal.items (M.plain a.new.ground.value) }
 {
     let Ok(mut said) = a.journal.begin() else {
         return Err(GiveShort { back: Some(b) });
     };
-    let number = a.ground.number();
+    let number = a.ground.as_ref().number();
     let Block { addr, size, .. } = b;
     let act = Act::Resize { addr, size, nb };
     let c = Chunk { at: addr, size };
-    match resize_in(&mut a.ground, c, nb, cache, port, space, t, &mut said) {
+    match resize_in(a.ground.as_mut(), c, nb, cache, port, space, t, &mut said) {
         Ok(found) => {
             let found = &found;
             a.journal.append(who, act, said, ended_by(found));

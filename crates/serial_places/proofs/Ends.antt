@@ -16,7 +16,7 @@ use Rattle.serial_places.proofs.Slots.{slot-map}
 -- what is so of each arena that is there
 pub record IsUsual (s : Slot) : Type 0 where
   pub ten : length s.bins.bins ≡ 10
-  pub heaps : is_main s.arena.ground.inner.value.arena ≡ false → (closed : List ℕ) × IsHeapPlaced s.arena.ground.inner.value.arena closed
+  pub heaps : is_main s.arena.ground.value.arena ≡ false → (closed : List ℕ) × IsHeapPlaced s.arena.ground.value.arena closed
 
 abbrev pub IsUsualIn : Option Slot → Type 0
 IsUsualIn o = IfSome o IsUsual

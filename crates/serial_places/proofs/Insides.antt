@@ -7,7 +7,6 @@ use Rattle.chunk_tags.specs.declared.refusals.NoMemory.{NoMemory}
 use Rattle.chunk_tags.specs.declared.tunables.Tunables.{Tunables}
 use Rattle.fast_bins.specs.FastPorts.{Pushes, Did, Idles, HasRoom}
 use Rattle.fast_bins.specs.PlainBins.{PlainBins, plain_fast, state_of, empty_state}
-use Rattle.serial_places.specs.declared.boxed.BoxedGround.{BoxedGround}
 use Rattle.arena_ground.specs.Grounds.{GroundView}
 use Rattle.arena_core.specs.declared.arena.Arena.{Arena}
 use Rattle.arena_choice.specs.Numbers.{has}
@@ -23,7 +22,7 @@ use Rattle.serial_places.specs.declared.serial.Serial.TheInside.{Inside}
 use Rattle.serial_places.specs.declared.slot.Slot.{Slot}
 use Rattle.serial_places.specs.declared.tray.Tray.{Tray}
 use Rattle.serial_places.specs.Trays.{tray_at, trays_taken, found_by_take, full_trays}
-use Rattle.serial_places.specs.SerialWays.{SerialState, KeptSlot, IsSerial, IsKeptIn, HasSlotRoom, Serves, LentSlot, GaveSlot, IdleSlot, PushedSlot, EndsAs, those_in, fast_lists, slot_in, put_in, taken_out, slot_with, kept_slot, kept_ground, kept_lent, is_there, state_at, state_ways}
+use Rattle.serial_places.specs.SerialWays.{SerialState, KeptSlot, IsSerial, IsKeptIn, HasSlotRoom, Serves, LentSlot, GaveSlot, IdleSlot, PushedSlot, EndsAs, those_in, fast_lists, slot_in, put_in, taken_out, slot_with, kept_slot, kept_ground, kept_ground, is_there, state_at, state_ways}
 use Rattle.serial_places.specs.LawsOfPlaces.{serves_same, known}
 use Rattle.serial_places.proofs.Slots.{slot_within, some_within, slot-map, there-map, put_here}
 use Rattle.serial_places.proofs.SerialBooks.{chooses}
@@ -97,7 +96,7 @@ lent_serial i now n view there s =
     subst IsSerial (sym (without_slot_is i now n view)) (serial_out now n (Some n) (slot_within now.slots n there) (now_serial i now view s))
 
 pub lent_slot : (i : Inside) (now : SerialState) (n : ℕ) (slot : Slot) → seen i ≡ now → IsSerial (seen i) → slot_in i.arenas.items n ≡ Some slot →
-    LentSlot now n (record { bins = slot.bins; dials = i.dials }) (Some (kept_lent slot.arena)) (without_slot i n)
+    LentSlot now n (record { bins = slot.bins; dials = i.dials }) (Some (kept_ground slot.arena)) (without_slot i n)
 lent_slot i now n slot view s at = record {
   slot = slot_seen i now n slot view at;
   words = ap (λ (st : SerialState). st.dials) view;
@@ -107,33 +106,33 @@ lent_slot i now n slot view s at = record {
 
 -- ---- and comes back
 
-abbrev pub with_back : Inside → ℕ → Arena BoxedGround → PlainPort → Option ℕ → SerialState
+abbrev pub with_back : Inside → ℕ → Arena GroundView → PlainPort → Option ℕ → SerialState
 with_back i n arena port lent =
     state_at (put_in i.arenas.items n (record { arena = arena; bins = port.bins })) port.dials i.book i.trays lent i.tunables
 
-with_back_is : (i : Inside) (now : SerialState) (n : ℕ) (arena : Arena BoxedGround) (port : PlainPort) → seen i ≡ now →
-    with_back i n arena port None ≡ record now { slots = put_in now.slots n (slot_with (kept_lent arena) port.bins); dials = port.dials; lent = None }
+with_back_is : (i : Inside) (now : SerialState) (n : ℕ) (arena : Arena GroundView) (port : PlainPort) → seen i ≡ now →
+    with_back i n arena port None ≡ record now { slots = put_in now.slots n (slot_with (kept_ground arena) port.bins); dials = port.dials; lent = None }
 with_back_is i now n arena port view =
     ap (λ (slots : List (Option KeptSlot)). let st : SerialState = record (seen i) { slots = slots; dials = port.dials; lent = None } in st) (slots_put i.arenas.items n (record { arena = arena; bins = port.bins }))
-    ∙ ap (λ (v : SerialState). let st : SerialState = record v { slots = put_in v.slots n (slot_with (kept_lent arena) port.bins); dials = port.dials; lent = None } in st) view
+    ∙ ap (λ (v : SerialState). let st : SerialState = record v { slots = put_in v.slots n (slot_with (kept_ground arena) port.bins); dials = port.dials; lent = None } in st) view
 
 -- the number of the arena that is lent
-pub lent_within : (i : Inside) (now : SerialState) (n : ℕ) (arena : Arena BoxedGround) → seen i ≡ now → IsReturn state_ways (kept_lent arena) now → i.lent ≡ Some n → n < length now.slots
+pub lent_within : (i : Inside) (now : SerialState) (n : ℕ) (arena : Arena GroundView) → seen i ≡ now → IsReturn state_ways (kept_ground arena) now → i.lent ≡ Some n → n < length now.slots
 lent_within i now n arena view r lent =
     let from : now.lent ≡ Some n = ap (λ (st : SerialState). st.lent) (sym view) ∙ lent in
     let here : r.arena ≡ n = same_some r.arena n (ap (λ (st : SerialState). st.lent) r.lent.left) from in
     let within : r.arena < length r.places.slots = some_within r.places.slots r.arena _ r.lent.slot in
     omega (arith, within, here, ap (λ (st : SerialState). length st.slots) r.lent.left, length-set r.places.slots r.arena (let none : Option KeptSlot = None in none))
 
-pub back_serial : (i : Inside) (now : SerialState) (m n : ℕ) (arena : Arena BoxedGround) (port : PlainPort) (lent : Option ℕ) → seen i ≡ now → IsReturn state_ways (kept_lent arena) now →
+pub back_serial : (i : Inside) (now : SerialState) (m n : ℕ) (arena : Arena GroundView) (port : PlainPort) (lent : Option ℕ) → seen i ≡ now → IsReturn state_ways (kept_ground arena) now →
     i.lent ≡ Some n → m ≡ n → lent ≡ None → IsSerial (seen i) → IsSerial (with_back i m arena port lent)
 back_serial i now m n arena port lent view r was same none s =
     let from : now.lent ≡ Some n = ap (λ (st : SerialState). st.lent) (sym view) ∙ was in
     rw (same, none) (subst IsSerial (sym (with_back_is i now n arena port view))
-    (serial_put now n (slot_with (kept_lent arena) port.bins) port.dials None (lent_within i now n arena view r was) (kept_back now (kept_lent arena) port.bins n r from) (now_serial i now view s)))
+    (serial_put now n (slot_with (kept_ground arena) port.bins) port.dials None (lent_within i now n arena view r was) (kept_back now (kept_ground arena) port.bins n r from) (now_serial i now view s)))
 
-pub gave_slot : (i : Inside) (now : SerialState) (m n : ℕ) (arena : Arena BoxedGround) (port : PlainPort) (lent : Option ℕ) → seen i ≡ now → i.lent ≡ Some n → m ≡ n → lent ≡ None →
-    GaveSlot now port (kept_lent arena) (with_back i m arena port lent)
+pub gave_slot : (i : Inside) (now : SerialState) (m n : ℕ) (arena : Arena GroundView) (port : PlainPort) (lent : Option ℕ) → seen i ≡ now → i.lent ≡ Some n → m ≡ n → lent ≡ None →
+    GaveSlot now port (kept_ground arena) (with_back i m arena port lent)
 gave_slot i now m n arena port lent view was same none = record {
   number = n;
   lent = ap (λ (st : SerialState). st.lent) (sym view) ∙ was;
@@ -148,7 +147,7 @@ slot_serial i now m n slot bins view same at s =
     let here : slot_in now.slots n ≡ Some (kept_slot slot) = slot_seen i now n slot view at in
     let kept : IsKeptIn now.tunables now.book.list n (kept_slot slot) = kept_at now n (kept_slot slot) here (now_serial i now view s) in
     subst IsSerial (sym (with_slot_is i now m n (record { arena = slot.arena; bins = bins }) view same))
-    (serial_put now n (slot_with (kept_lent slot.arena) bins) now.dials now.lent (some_within now.slots n (kept_slot slot) here) (record { kept = kept.kept; listed = kept.listed }) (now_serial i now view s))
+    (serial_put now n (slot_with (kept_ground slot.arena) bins) now.dials now.lent (some_within now.slots n (kept_slot slot) here) (record { kept = kept.kept; listed = kept.listed }) (now_serial i now view s))
 
 pub idle_slot : (i : Inside) (now : SerialState) (m n : ℕ) (slot : Slot) (bins : PlainBins) → seen i ≡ now → m ≡ n → slot_in i.arenas.items n ≡ Some slot → Idles plain_fast slot.bins bins →
     IdleSlot now (with_slot i m (record { arena = slot.arena; bins = bins }))
@@ -175,7 +174,7 @@ room_made i now m n slot bins (Err e) view same at h = tt
 room_made i now m n slot bins (Ok u) view same at h =
     let here : slot_in now.slots n ≡ Some (kept_slot slot) = slot_seen i now n slot view at in
     subst (λ (st : SerialState). HasSlotRoom st n) (sym (with_slot_is i now m n (record { arena = slot.arena; bins = bins }) view same))
-    (subst (λ (o : Option KeptSlot). IfSome o (λ s. HasRoom plain_fast s.bins)) (sym (put_here now.slots n (slot_with (kept_lent slot.arena) bins) (some_within now.slots n (kept_slot slot) here))) h)
+    (subst (λ (o : Option KeptSlot). IfSome o (λ s. HasRoom plain_fast s.bins)) (sym (put_here now.slots n (slot_with (kept_ground slot.arena) bins) (some_within now.slots n (kept_slot slot) here))) h)
 
 pub no_room : (i : Inside) (now : SerialState) (n : ℕ) (slot : Slot) (bins : PlainBins) (r : Result (Unit {0}) NoMemory) → seen i ≡ now → slot_in i.arenas.items n ≡ Some slot →
     OnErr r ((HasRoom plain_fast slot.bins → ⊥) × (HasRoom plain_fast bins → ⊥)) → OnErr r (HasSlotRoom now n → ⊥)
@@ -248,40 +247,40 @@ chosen i now book thread fresh t choice view tunables s is after =
 
 -- ---- a new arena
 
-abbrev pub with_added : Inside → ℕ → Arena BoxedGround → PlainBins → BookValue → SerialState
+abbrev pub with_added : Inside → ℕ → Arena GroundView → PlainBins → BookValue → SerialState
 with_added i n arena bins book = state_at (put_in i.arenas.items n (record { arena = arena; bins = bins })) i.dials book i.trays i.lent i.tunables
 
-with_added_is : (i : Inside) (now : SerialState) (m thread : ℕ) (arena : Arena BoxedGround) (bins : PlainBins) (book : BookValue) → seen i ≡ now → m ≡ (kept_lent arena).arena.number →
-    book ≡ attached_book i.book thread (kept_lent arena).arena.number →
-    let n : ℕ = (kept_lent arena).arena.number in
-    with_added i m arena bins book ≡ record now { slots = put_in now.slots n (slot_with (kept_lent arena) bins); book = attached_book now.book thread n }
+with_added_is : (i : Inside) (now : SerialState) (m thread : ℕ) (arena : Arena GroundView) (bins : PlainBins) (book : BookValue) → seen i ≡ now → m ≡ (kept_ground arena).arena.number →
+    book ≡ attached_book i.book thread (kept_ground arena).arena.number →
+    let n : ℕ = (kept_ground arena).arena.number in
+    with_added i m arena bins book ≡ record now { slots = put_in now.slots n (slot_with (kept_ground arena) bins); book = attached_book now.book thread n }
 with_added_is i now m thread arena bins book view same after =
-    let n : ℕ = (kept_lent arena).arena.number in
+    let n : ℕ = (kept_ground arena).arena.number in
     ap (λ (k : ℕ). with_added i k arena bins book) same
     ∙ (ap (with_added i n arena bins) after
     ∙ (ap (λ (slots : List (Option KeptSlot)). let st : SerialState = record (seen i) { slots = slots; book = attached_book i.book thread n } in st) (slots_put i.arenas.items n (record { arena = arena; bins = bins }))
-    ∙ ap (λ (v : SerialState). let st : SerialState = record v { slots = put_in v.slots n (slot_with (kept_lent arena) bins); book = attached_book v.book thread n } in st) view))
+    ∙ ap (λ (v : SerialState). let st : SerialState = record v { slots = put_in v.slots n (slot_with (kept_ground arena) bins); book = attached_book v.book thread n } in st) view))
 
-new_within : (now : SerialState) (arena : Arena BoxedGround) → IsNew state_ways (kept_lent arena) now → IsSerial now → (kept_lent arena).arena.number < length now.slots
+new_within : (now : SerialState) (arena : Arena GroundView) → IsNew state_ways (kept_ground arena) now → IsSerial now → (kept_ground arena).arena.number < length now.slots
 new_within now arena new s = omega (arith, new.owed.below, s.slots)
 
-pub added_serial : (i : Inside) (now : SerialState) (m thread : ℕ) (arena : Arena BoxedGround) (bins : PlainBins) (book : BookValue) → seen i ≡ now → m ≡ (kept_lent arena).arena.number →
-    book ≡ attached_book i.book thread (kept_lent arena).arena.number → IsNew state_ways (kept_lent arena) now → IsSerial (seen i) → IsSerial (with_added i m arena bins book)
+pub added_serial : (i : Inside) (now : SerialState) (m thread : ℕ) (arena : Arena GroundView) (bins : PlainBins) (book : BookValue) → seen i ≡ now → m ≡ (kept_ground arena).arena.number →
+    book ≡ attached_book i.book thread (kept_ground arena).arena.number → IsNew state_ways (kept_ground arena) now → IsSerial (seen i) → IsSerial (with_added i m arena bins book)
 added_serial i now m thread arena bins book view same after new s =
     let sound : IsSerial now = now_serial i now view s in
-    subst IsSerial (sym (with_added_is i now m thread arena bins book view same after)) (serial_added now thread (kept_lent arena) bins (new_within now arena new sound) new sound)
+    subst IsSerial (sym (with_added_is i now m thread arena bins book view same after)) (serial_added now thread (kept_ground arena) bins (new_within now arena new sound) new sound)
 
-pub added : (i : Inside) (now : SerialState) (m thread : ℕ) (arena : Arena BoxedGround) (bins : PlainBins) (book : BookValue) → seen i ≡ now → m ≡ (kept_lent arena).arena.number →
-    book ≡ attached_book i.book thread (kept_lent arena).arena.number → state_of bins ≡ empty_state → IsNew state_ways (kept_lent arena) now → IsSerial (seen i) →
-    IsAdded state_ways thread now (kept_lent arena) (with_added i m arena bins book)
+pub added : (i : Inside) (now : SerialState) (m thread : ℕ) (arena : Arena GroundView) (bins : PlainBins) (book : BookValue) → seen i ≡ now → m ≡ (kept_ground arena).arena.number →
+    book ≡ attached_book i.book thread (kept_ground arena).arena.number → state_of bins ≡ empty_state → IsNew state_ways (kept_ground arena) now → IsSerial (seen i) →
+    IsAdded state_ways thread now (kept_ground arena) (with_added i m arena bins book)
 added i now m thread arena bins book view same after empty new s =
     let sound : IsSerial now = now_serial i now view s in
-    is_added now (with_added i m arena bins book) thread (kept_lent arena) bins (new_within now arena new sound) sound new empty (with_added_is i now m thread arena bins book view same after)
+    is_added now (with_added i m arena bins book) thread (kept_ground arena) bins (new_within now arena new sound) sound new empty (with_added_is i now m thread arena bins book view same after)
 
 -- it may be attached
-pub may_attach : (i : Inside) (now : SerialState) (n : ℕ) (arena : Arena BoxedGround) → seen i ≡ now → n ≡ (kept_lent arena).arena.number → IsNew state_ways (kept_lent arena) now → CanAttach i.book n
+pub may_attach : (i : Inside) (now : SerialState) (n : ℕ) (arena : Arena GroundView) → seen i ≡ now → n ≡ (kept_ground arena).arena.number → IsNew state_ways (kept_ground arena) now → CanAttach i.book n
 may_attach i now n arena view same new =
-    subst (λ (k : ℕ). CanAttach i.book k) (sym same) (subst (λ (st : SerialState). CanAttach st.book (kept_lent arena).arena.number) (sym view) new.owed.may)
+    subst (λ (k : ℕ). CanAttach i.book k) (sym same) (subst (λ (st : SerialState). CanAttach st.book (kept_ground arena).arena.number) (sym view) new.owed.may)
 
 -- ---- trays
 

@@ -24,7 +24,7 @@ use Rattle.serial_places.specs.Trays.{in_tray, in_trays, tray_at, empty_trays}
 use Rattle.serial_places.specs.declared.slot.Slot.{Slot}
 use Rattle.serial_places.specs.declared.tray.Tray.{Tray}
 use Rattle.serial_places.specs.declared.tray.Tray.TheVariants.{Empty}
-use Rattle.serial_places.specs.SerialWays.{SerialState, KeptSlot, WorldSlot, IsKept, IsKeptIn, IsSerial, IsFirst, IsWhole, Serves, Notes, world_slot, slot_in, kept_slot, kept_lent, state_at, seen_slot, first_slots, no_slots, first_words, first_world, world_at, stock_in, used_in, is_there}
+use Rattle.serial_places.specs.SerialWays.{SerialState, KeptSlot, WorldSlot, IsKept, IsKeptIn, IsSerial, IsFirst, IsWhole, Serves, Notes, world_slot, slot_in, kept_slot, kept_ground, state_at, seen_slot, first_slots, no_slots, first_words, first_world, world_at, stock_in, used_in, is_there}
 use Rattle.serial_places.proofs.Slots.{slot-map, there-map}
 use Rattle.serial_places.proofs.SerialBooks.{has_cases}
 use Rattle.serial_places.proofs.TrayLists.{no_tray}
@@ -57,11 +57,11 @@ world_none n = none_there 63 n
 
 -- main without a byte, in its words
 pub record IsNewMain (main : Slot) : Type 0 where
-  pub ground : main.arena.ground.inner.value.arena ≡ empty_main
+  pub ground : main.arena.ground.value.arena ≡ empty_main
   pub journal : main.arena.journal.items ≡ []
   pub bins_empty : state_of main.bins ≡ empty_state
 
-main_is : (main : Slot) → IsNewMain main → kept_lent main.arena ≡ with_journal empty_main []
+main_is : (main : Slot) → IsNewMain main → kept_ground main.arena ≡ with_journal empty_main []
 main_is main n = ap (λ (a : Plain). with_journal a main.arena.journal.items) n.ground ∙ ap (λ (js : List Recorded). with_journal empty_main js) n.journal
 
 main_kept : (t : Tunables) (k : KeptArena) → k ≡ with_journal empty_main [] → IsKept t 0 k
@@ -69,7 +69,7 @@ main_kept t k e = subst (IsKept t 0) (sym e) (record { number = refl; sound = so
 
 each_kept : (t : Tunables) (main : Slot) (m n : ℕ) → IsNewMain main → let none : Option Slot = None in
     IfSome (slot_in (map (option_map kept_slot) (Some main ∷ replicate m none)) n) (IsKeptIn t (0 ∷ []) n)
-each_kept t main m zero new = record { kept = main_kept t (kept_lent main.arena) (main_is main new); listed = refl }
+each_kept t main m zero new = record { kept = main_kept t (kept_ground main.arena) (main_is main new); listed = refl }
 each_kept t main m (suc n) new =
     let none : Option Slot = None in
     subst (λ (o : Option KeptSlot). IfSome o (IsKeptIn t (0 ∷ []) (suc n))) (sym (slot-map kept_slot (replicate m none) n ∙ ap (option_map kept_slot) (none_there m n))) tt

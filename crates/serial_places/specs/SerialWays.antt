@@ -45,7 +45,6 @@ use Rattle.arena_holds.specs.Calls.{Call, Done, Holds, HoldsFree, Opens, Books, 
 use Rattle.arena_holds.specs.Places.{KeptArena, with_journal, kept_of, new_arena, tray_count, Hands, as_chunk_of, as_mapped, as_mapped_bytes, Covers, PlaceWays, Setting, setting}
 use Rattle.serial_places.specs.Playing.{HoldWorld, PlainPort, plain_means, PlayedHold, played_hold}
 use Rattle.serial_places.specs.Trays.{in_trays, tray_at, trays_posted, trays_taken, seen_by_post, found_by_take, empty_trays, IsHeldTray, full_trays}
-use Rattle.serial_places.specs.declared.boxed.BoxedGround.{BoxedGround}
 use Rattle.serial_places.specs.declared.slot.Slot.{Slot}
 use Rattle.serial_places.specs.declared.tray.Tray.{Tray}
 
@@ -78,12 +77,8 @@ slot_with kept bins = record { kept = kept; bins = bins }
 abbrev pub kept_ground : Arena GroundView → KeptArena
 kept_ground arena = kept_of (λ g. g.arena) arena
 
--- the same behind a pointer, by which it is lent
-abbrev pub kept_lent : Arena BoxedGround → KeptArena
-kept_lent arena = kept_of (λ b. b.inner.value.arena) arena
-
 abbrev pub kept_slot : Slot → KeptSlot
-kept_slot s = slot_with (kept_lent s.arena) s.bins
+kept_slot s = slot_with (kept_ground s.arena) s.bins
 
 -- ---- the places
 

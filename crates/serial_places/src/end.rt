@@ -3,10 +3,9 @@
 ghost use Rattle.std.specs.Prelude.{◌≡◌, ◌*◌, ◌++◌, ◌≤◌, length, map, flat_map, option_map, IfOk, OnOk};
 ghost use Rattle.fast_bins.specs.FastPorts.{fast_bin_count};
 ghost use Rattle.arena_holds.specs.Places.{tray_count};
-ghost use Rattle.serial_places.specs.SerialWays.{kept_ground, kept_lent, kept_slot, fast_lists, those_in};
+ghost use Rattle.serial_places.specs.SerialWays.{kept_ground, kept_slot, fast_lists, those_in};
 ghost use Rattle.serial_places.specs.Trays.{full_trays};
 
-use crate::boxed::BoxedGround;
 use crate::slot::Slot;
 use crate::tray::Tray;
 use arena_choice::Book;
@@ -41,17 +40,6 @@ fn append_lists(lists: &mut Vec<Vec<Addr>>, more: Vec<Vec<Addr>>) -> Result<(), 
     Ok(())
 }
 
-/// An arena out of the box in which it was lent.
-fn without_box(arena: Arena<BoxedGround>) -> Arena<Ground>
-    ensures { kept_ground result ≡ kept_lent arena }
-{
-    let Arena { ground, journal } = arena;
-    Arena {
-        ground: Box::into_inner(ground.inner),
-        journal,
-    }
-}
-
 /// The arenas that are there, and the addresses in their fast bins.
 pub fn split_slots(
     alloc: Global,
@@ -68,7 +56,7 @@ pub fn split_slots(
     for slot in slots {
         if let Some(Slot { arena, bins }) = slot {
             append_lists(&mut fast, bins.lists(alloc)?)?;
-            arenas.push(without_box(arena))?;
+            arenas.push(arena)?;
         }
     }
     Ok((arenas, fast))

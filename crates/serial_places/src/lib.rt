@@ -3,7 +3,6 @@
 #![tactic(auto)]
 
 mod both;
-mod boxed;
 mod end;
 mod serial;
 mod slot;
@@ -11,6 +10,5 @@ mod tray;
 mod trays;
 
 pub use both::Both;
-pub use boxed::BoxedGround;
 pub use end::SerialEnd;
 pub use serial::Serial;

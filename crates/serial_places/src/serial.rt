@@ -7,7 +7,6 @@ ghost use Rattle.arena_rules.specs.PlainArena.{empty_main, is_main};
 ghost use Rattle.serial_places.specs.SerialWays.{IsFirst, IsSerial, EndsAs, is_there, slot_in};
 
 use crate::both::Both;
-use crate::boxed::BoxedGround;
 use crate::end::{SerialEnd, split_slots};
 use crate::slot::Slot;
 use crate::trays::Trays;
@@ -52,12 +51,11 @@ impl Model for Serial {
 }
 
 /// Main before its first growth.
-fn first_ground(alloc: Global) -> Result<BoxedGround, NoMemory>
-    ensures { IfOk result (λ b. b.inner.value.arena ≡ empty_main) }
+fn first_ground(alloc: Global) -> Result<Box<Ground>, NoMemory>
+    ensures { IfOk result (λ b. b.value.arena ≡ empty_main) }
 {
     let main = Ground::main(alloc)?;
-    let inner = Box::new(alloc, main)?;
-    Ok(BoxedGround { inner })
+    Ok(Box::new(alloc, main)?)
 }
 
 /// The slots before the first call: main's is the first of them.
@@ -119,7 +117,7 @@ impl Serial {
         for slot in &self.arenas {
             if let Some(slot) = slot {
                 slot.bins.laws();
-                let ground = slot.arena.ground.inner.as_ref();
+                let ground = slot.arena.ground.as_ref();
                 ground.laws();
             }
         }
@@ -162,7 +160,7 @@ impl Serial {
 }
 
 impl Places for Serial {
-    type Ground = BoxedGround;
+    type Ground = Ground;
 
     type Hold = Both<PlainFast, PlainDials>;
 
@@ -172,7 +170,7 @@ impl Places for Serial {
     ghost use Rattle.serial_places.specs.Joined.{joined_fast};
     ghost use Rattle.arena_holds.specs.Returning.{IsReturn, Unlocks, IsNew, IsAdded};
     ghost use Rattle.serial_places.specs.LawsOfPlaces.{serial_laws};
-    ghost use Rattle.serial_places.specs.SerialWays.{kept_lent, state_ways};
+    ghost use Rattle.serial_places.specs.SerialWays.{kept_ground, state_ways};
 
     ghost ways = { state_ways };
 
@@ -182,7 +180,7 @@ impl Places for Serial {
         self.alloc
     }
 
-    fn lock(&mut self, a: u8) -> (Both<PlainFast, PlainDials>, Option<Arena<BoxedGround>>) {
+    fn lock(&mut self, a: u8) -> (Both<PlainFast, PlainDials>, Option<Arena<Ground>>) {
         let slot = &mut self.arenas[usize::from(a)];
         let Slot { arena, bins } = slot.take().unwrap();
         self.lent = Some(a);
@@ -197,16 +195,16 @@ impl Places for Serial {
         &mut self,
         start: u8,
         _avoid: Option<u8>,
-    ) -> (u8, Both<PlainFast, PlainDials>, Option<Arena<BoxedGround>>) {
+    ) -> (u8, Both<PlainFast, PlainDials>, Option<Arena<Ground>>) {
         let (hold, arena) = self.lock(start);
         (start, hold, arena)
     }
 
-    fn unlock(&mut self, hold: Both<PlainFast, PlainDials>, arena: Arena<BoxedGround>)
-        requires lent { IsReturn state_ways (kept_lent arena) self.old }
-        ensures gave { state_ways.gave self.old hold (kept_lent arena) self.new }
+    fn unlock(&mut self, hold: Both<PlainFast, PlainDials>, arena: Arena<Ground>)
+        requires lent { IsReturn state_ways (kept_ground arena) self.old }
+        ensures gave { state_ways.gave self.old hold (kept_ground arena) self.new }
         ensures unlocked { Unlocks state_ways (joined_fast plain_fast) self.old hold
-            (kept_lent arena) self.new }
+            (kept_ground arena) self.new }
     {
         let Both { bins, dials } = hold;
         let a = self.lent.take().unwrap();
@@ -253,11 +251,11 @@ impl Places for Serial {
         self.book.detach(thread);
     }
 
-    fn add(&mut self, thread: u8, arena: Arena<BoxedGround>)
-        requires new { IsNew state_ways (kept_lent arena) self.old }
-        ensures { IsAdded state_ways thread self.old (kept_lent arena) self.new }
+    fn add(&mut self, thread: u8, arena: Arena<Ground>)
+        requires new { IsNew state_ways (kept_ground arena) self.old }
+        ensures { IsAdded state_ways thread self.old (kept_ground arena) self.new }
     {
-        let a = arena.ground.number();
+        let a = arena.ground.as_ref().number();
         let bins = PlainFast::new(self.alloc);
         self.arenas[usize::from(a)] = Some(Slot { arena, bins });
         self.book.attach(thread, a);

@@ -46,12 +46,12 @@ ten_seen [] ten = tt
 ten_seen (None ∷ os) ten = ten_seen os (λ n. ten (suc n))
 ten_seen (Some s ∷ os) ten = (length-map s.bins.bins (λ (b : RoomyBin). b.bin) ∙ ten 0, ten_seen os (λ n. ten (suc n)))
 
-grounds : (arenas : List (Arena GroundView)) → map (λ (k : KeptArena). k.arena) (map kept_ground arenas) ≡ map (λ (a : Arena GroundView). a.ground.arena) arenas
+grounds : (arenas : List (Arena GroundView)) → map (λ (k : KeptArena). k.arena) (map kept_ground arenas) ≡ map (λ (a : Arena GroundView). a.ground.value.arena) arenas
 grounds [] = refl
-grounds (a ∷ more) = ap (λ (rest : List Plain). a.ground.arena ∷ rest) (grounds more)
+grounds (a ∷ more) = ap (λ (rest : List Plain). a.ground.value.arena ∷ rest) (grounds more)
 
 pub are_arenas : (st : SerialState) (arenas : List (Arena GroundView)) (fast : List (List ℕ)) (book : BookValue) (trays : List (ℕ × Block)) (words : DialState) → EndsAs st arenas fast book trays words →
-    ((n : ℕ) → IfSome (slot_in st.slots n) (λ s. length s.bins.bins ≡ 10)) → AreArenas (scenes_of st.slots) (map (λ (a : Arena GroundView). a.ground.arena) arenas) fast
+    ((n : ℕ) → IfSome (slot_in st.slots n) (λ s. length s.bins.bins ≡ 10)) → AreArenas (scenes_of st.slots) (map (λ (a : Arena GroundView). a.ground.value.arena) arenas) fast
 are_arenas st arenas fast book trays words ends ten = record {
   arenas_are = arenas_seen st.slots ∙ ap (map (λ (k : KeptArena). k.arena)) (sym ends.arenas_are) ∙ grounds arenas;
   lists_are = lists_seen st.slots ∙ sym ends.fast_are;
@@ -118,13 +118,13 @@ shown_at_end threads st arenas fast book trays words lines wanted s ends same is
 -- the same where slices of these are shown
 pub slices_shown : {K E : Type 0} (threads seen : List (Thread K)) (st : SerialState) (arenas lent : List (Arena GroundView)) (fast lists : List (List ℕ)) (book : BookValue) (trays full : List (ℕ × Block)) (words : DialState) (lines wanted : List ℕ) (r : Result Shown E) →
     EndsAs st arenas fast book trays words → ((n : ℕ) → IfSome (slot_in st.slots n) (λ s. length s.bins.bins ≡ 10)) → seen ≡ threads → lent ≡ arenas → lists ≡ fast → full ≡ trays → lines ≡ wanted →
-    ((scenes : List ArenaScene) → AreArenas scenes (map (λ (a : Arena GroundView). a.ground.arena) lent) lists →
+    ((scenes : List ArenaScene) → AreArenas scenes (map (λ (a : Arena GroundView). a.ground.value.arena) lent) lists →
     IfOk r (λ s. s ≡ shown_of (record { owns = map own_of seen; arenas = scenes; trays = full; book = book; dials = words; lines = lines }))) →
     IfOk r (λ s. s ≡ shown_of (scene_of wanted (world_with threads st)))
 slices_shown {K = K} threads seen st arenas lent fast lists book trays full words lines wanted r ends ten threads_are arenas_are lists_are trays_are lines_are shows =
-    let here : AreArenas (scenes_of st.slots) (map (λ (a : Arena GroundView). a.ground.arena) lent) lists =
-    subst (λ (ls : List (List ℕ)). AreArenas (scenes_of st.slots) (map (λ (a : Arena GroundView). a.ground.arena) lent) ls) (sym lists_are)
-    (subst (λ (those : List (Arena GroundView)). AreArenas (scenes_of st.slots) (map (λ (a : Arena GroundView). a.ground.arena) those) fast) (sym arenas_are) (are_arenas st arenas fast book trays words ends ten)) in
+    let here : AreArenas (scenes_of st.slots) (map (λ (a : Arena GroundView). a.ground.value.arena) lent) lists =
+    subst (λ (ls : List (List ℕ)). AreArenas (scenes_of st.slots) (map (λ (a : Arena GroundView). a.ground.value.arena) lent) ls) (sym lists_are)
+    (subst (λ (those : List (Arena GroundView)). AreArenas (scenes_of st.slots) (map (λ (a : Arena GroundView). a.ground.value.arena) those) fast) (sym arenas_are) (are_arenas st arenas fast book trays words ends ten)) in
     IfOk-weaker r (λ s. s ≡ shown_of (scene_with st (map own_of seen) full book words lines)) _
     (λ s is.
     let same : s ≡ shown_of (scene_with st (map own_of threads) trays book words lines) =

@@ -44,7 +44,7 @@ none_yet found list lists all = record {
 
 -- the first of the arenas that are left
 pub first_left : (arenas : List (Arena GroundView)) (index : ℕ) (a : Arena GroundView) → index < length arenas → a ≡ get_or arenas index a →
-    plains_of (drop index arenas) ≡ a.ground.arena ∷ plains_of (drop (index + 1) arenas)
+    plains_of (drop index arenas) ≡ a.ground.value.arena ∷ plains_of (drop (index + 1) arenas)
 first_left arenas index a within is =
     ap plains_of (drop_more arenas index a within)
-    ∙ ap (λ (x : Arena GroundView). x.ground.arena ∷ plains_of (drop (index + 1) arenas)) (sym is)
+    ∙ ap (λ (x : Arena GroundView). x.ground.value.arena ∷ plains_of (drop (index + 1) arenas)) (sym is)

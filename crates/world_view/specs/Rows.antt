@@ -18,7 +18,7 @@ fast_at lists index = map (fast_bin_at lists index) (range_with_len 0 fast_bin_c
 
 -- the arenas without their journals
 abbrev pub plains_of : List (held.Arena GroundView) → List Plain
-plains_of arenas = map (λ a. a.ground.arena) arenas
+plains_of arenas = map (λ a. a.ground.value.arena) arenas
 
 -- the chunks in the bins of arenas, of which the first has this index
 abbrev pub binned_from : List (List ℕ) → ℕ → List Plain → List Placed

@@ -60,7 +60,7 @@ fn put_arenas(
         (binned_from (map (λ l. l.items) lists.now) 0 (plains_of arenas.now))) }
 {
     for (index, arena) in arenas.iter().enumerate() {
-        put_binned(alloc, found, &arena.ground, lists, index)?;
+        put_binned(alloc, found, arena.ground.as_ref(), lists, index)?;
     }
     Ok(())
 }
@@ -114,7 +114,7 @@ fn shown_arenas(
 {
     let mut views = Vec::new(alloc);
     for (index, arena) in arenas.iter().enumerate() {
-        views.push(arena_view(alloc, found, list, &arena.ground, lists, index)?)?;
+        views.push(arena_view(alloc, found, list, arena.ground.as_ref(), lists, index)?)?;
     }
     Ok(views)
 }

@@ -106,7 +106,7 @@ pub fn snapshot<K: Kernel>(
     requires arenas { length arenas.now ≤ 64 }
     requires bytes { dials.now.bytes + 2 ^ 40 < 2 ^ 64 }
     ensures shown { (scenes : List ArenaScene) →
-        AreArenas scenes (map (λ a. a.ground.arena) arenas.now) (map (λ l. l.items) fast.now) →
+        AreArenas scenes (map (λ a. a.ground.value.arena) arenas.now) (map (λ l. l.items) fast.now) →
         IfOk result (λ s. s ≡ shown_of (record {
           owns = map own_of threads.now;
           arenas = scenes;

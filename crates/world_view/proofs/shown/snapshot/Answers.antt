@@ -25,6 +25,6 @@ returns-clause-shown g c = λ scenes are.
       lines = c.args.lines.now;
     } in
     let arenas : c.in_ok-arena_views.field-0.items ≡ map (shown_arena s) s.arenas =
-    arenas_shown s (map (λ a. a.ground.arena) c.args.arenas.now) (map (λ l. l.items) c.args.fast.now) c.list.result.now _ c.in_ok-arena_views.field-0.items are c.in_ok-found.ensures.found c.list.ensures c.in_ok-arena_views.ensures.shown in
+    arenas_shown s (map (λ a. a.ground.value.arena) c.args.arenas.now) (map (λ l. l.items) c.args.fast.now) c.list.result.now _ c.in_ok-arena_views.field-0.items are c.in_ok-found.ensures.found c.list.ensures c.in_ok-arena_views.ensures.shown in
     same_parts _ _ _ _ _ _ _ _ _ _ _ _ _ _ _ _ arenas (c.in_ok-mapped_views.ensures ∙ c.in_ok-found.ensures.mapped) c.in_ok-cache_views.ensures c.in_ok-thread_views.ensures
     (c.in_ok-from_slice.ensures.items ∙ c.free.ensures) c.next.ensures c.limit.ensures c.dial_view.ensures
