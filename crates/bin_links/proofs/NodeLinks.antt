@@ -1,9 +1,9 @@
 -- Links that are written.
-use Rattle.std.proofs.Common.{◌≡◌, ℕ, ◌<◌, ◌≤◌, ltb, sym, ap, ◌∙◌, inl, inr, refl, set, get_or, length, true, false}
+use Rattle.std.proofs.Common.{◌≡◌, ℕ, ◌<◌, ◌≤◌, ltb, sym, ap, ◌∙◌, inl, inr, arith, refl, set, get_or, length, true, false}
 use Rattle.std.proofs.lemmas.Bool.{cases_lt, cases_eq, lt-ltb, le-ltb}
 use Rattle.std.proofs.lemmas.List.{get_or-set_same, get_or-set_other}
-use Rattle.part_words.specs.Parts.{word_at, update}
-use Rattle.part_words.proofs.Updates.{update_same, update_other}
+use Rattle.part_words.specs.Parts.{word_at, no_words, update}
+use Rattle.part_words.proofs.Updates.{update_same, update_other, word_at-no_words}
 use Rattle.bin_links.specs.Lists.{bin_count}
 use Rattle.bin_links.specs.Codes.{node_of}
 use Rattle.bin_links.specs.Rings.{Redirects}
@@ -47,12 +47,17 @@ wrote_word old new node c le own words keeps = record {
   width = keeps.width;
 }
 
--- own nodes that are their own neighbours
-pub fresh : (nodes : Nodes) → ((n : ℕ) → n < bin_count → get_or nodes.own.items n no_codes ≡ record { fd = n; bk = n }) → IsFresh nodes
-fresh nodes own = record {
+-- a node without codes leads to the bin that is never used
+pub leads_nowhere : (nodes : Nodes) (n : ℕ) → codes_at nodes n ≡ no_codes → ahead nodes n ≡ 0
+leads_nowhere nodes n is = ap (λ (c : LinkCodes). node_in nodes c.fd) is ∙ node_of-own _ _ 0 (omega arith)
+
+-- own nodes that are their own neighbours, and no words
+pub fresh : (nodes : Nodes) (stride : ℕ) → nodes.words ≡ no_words nodes.base stride → ((n : ℕ) → n < bin_count → get_or nodes.own.items n no_codes ≡ record { fd = n; bk = n }) → IsFresh nodes
+fresh nodes stride none own = record {
   own = λ n lt.
       let is = own_codes nodes n lt ∙ own n lt in
       (ap (λ (c : LinkCodes). node_in nodes c.fd) is ∙ node_of-own _ _ n lt, ap (λ (c : LinkCodes). node_in nodes c.bk) is ∙ node_of-own _ _ n lt);
+  chunks = λ n high. leads_nowhere nodes n (word_codes nodes n high ∙ (ap (λ ws. word_at ws no_codes n) none ∙ ap (λ (g : ℕ → LinkCodes). g n) (word_at-no_words nodes.base stride no_codes)));
 }
 
 -- nodes with another way back from one of them

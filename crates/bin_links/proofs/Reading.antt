@@ -83,12 +83,13 @@ none_is_not_one {f} {lists = lists} h bin lt own =
     sym (ne_eqb (length (list_at bin lists)) 1 (omega (arith, zero_long)))
 
 -- No chunks.
-pub spells_none : (f b : ℕ → ℕ) (e : Extent) → ((n : ℕ) → n < bin_count → (f n ≡ n) × (b n ≡ n)) → Spells f b e empty_lists
+pub spells_none : (f b : ℕ → ℕ) (e : Extent) → ((n : ℕ) → n < bin_count → (f n ≡ n) × (b n ≡ n)) → ((n : ℕ) → bin_count ≤ n → f n ≡ 0) → Spells f b e empty_lists
 unfolding empty_lists
-spells_none f b e own = record {
+spells_none f b e own chunks = record {
   width = length-empty_lists;
   unused = get_or-replicate bin_count 0 [] [] (omega arith);
   rings = λ bin lt. subst (λ xs. IsPath f b bin xs bin) (sym (get_or-replicate bin_count bin [] [] lt)) (record { ahead = (own bin lt).0; back = (own bin lt).1 });
   once = λ n. omega (arith, none_listed n);
   places = λ n k. absurd (omega (arith, k, none_listed n));
+  idle = λ n high none. chunks n high;
 }

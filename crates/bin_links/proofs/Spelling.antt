@@ -1,5 +1,5 @@
 -- The lists that links spell, after each change of the links.
-use Rattle.std.proofs.Common.{◌≡◌, ℕ, ◌+◌, ◌^◌, ◌<◌, ◌≤◌, ◌≢◌, List, [], ◌∷◌, cond, eqb, ltb, sym, ap, ◌∙◌, subst, inl, inr, arith, refl, map, get_or, length, zero, suc, true, false}
+use Rattle.std.proofs.Common.{◌≡◌, ℕ, ◌+◌, ◌^◌, ◌<◌, ◌≤◌, ◌≢◌, List, [], ◌∷◌, cond, eqb, ltb, not, sym, ap, ◌∙◌, subst, inl, inr, arith, refl, map, get_or, length, zero, suc, true, false}
 use Rattle.std.specs.List.{range_with_len, count_by}
 use Rattle.std.proofs.lemmas.Bool.Decides.{nat_tests}
 use Rattle.std.proofs.lemmas.Bool.{eq-eqb, ne_eqb, cases_lt, cases_eq, lt-ltb, le-ltb}
@@ -100,6 +100,26 @@ pub amid_nodes : {f b : ℕ → ℕ} {e : Extent} {lists : List (List ℕ)} → 
 amid_nodes {e = e} h at k =
     amid_listed h (IsNode e) (λ n lt. record { word = λ le. absurd (omega (arith, lt, le)) }) (λ n m. record { word = λ le. (h.places n m).word }) at k
 
+-- a chunk that stands nowhere is before none
+not_before : {f b : ℕ → ℕ} {e : Extent} {lists : List (List ℕ)} {at n : ℕ} → Spells f b e lists → 1 ≤ times_listed at lists → bin_count ≤ n → times_listed n lists ≡ 0 → n ≢ b at
+not_before {lists = lists} {at} {n} h k high none =
+    (amid_listed h (λ m. n ≢ m) (λ m lt q. absurd (omega (arith, lt, high, q))) (λ m some q. absurd (omega (arith, some, none, ap (λ i. times_listed i lists) q))) at k).back_is
+
+-- a listed chunk leads somewhere, and no other one does
+leads_on : {f b : ℕ → ℕ} {e : Extent} {lists : List (List ℕ)} → Spells f b e lists → (at : ℕ) → 1 ≤ times_listed at lists → f at ≢ 0
+leads_on {f} {b} {lists = lists} h at k =
+    let i = bin_of_listed at lists k in
+    let lt : i.bin < bin_count = omega (arith, i.below, h.width) in
+    let ne : i.bin ≢ at = λ q. absurd (omega (arith, lt, q, (h.places at k).high)) in
+    let used : i.bin ≢ 0 = λ q. absurd (omega (arith, i.stands, ap (λ m. times_in at (list_at m lists)) q, ap (times_in at) h.unused)) in
+    (amid_path f b {P = λ n. n ≢ 0} at (list_at i.bin lists) ne (h.rings i.bin lt) (record { start = used; end = used; nodes = λ n m q. absurd (omega (arith, q, (h.places n (omega (arith, m, within n i.bin lists))).high)) }) i.stands).ahead_is
+
+pub listed_read : {f b : ℕ → ℕ} {e : Extent} {lists : List (List ℕ)} → Spells f b e lists → (at : ℕ) → bin_count ≤ at → not (eqb (f at) 0) ≡ eqb (times_listed at lists) 1
+listed_read {f} {lists = lists} h at high = elim (cases_lt 0 (times_listed at lists)) [
+  | inl some ↦ ap not (ne_eqb (f at) 0 (leads_on h at (omega (arith, some)))) ∙ sym (eq-eqb (times_listed at lists) 1 (omega (arith, some, h.once at)))
+  | inr none ↦ ap not (eq-eqb (f at) 0 (h.idle at high (omega (arith, none)))) ∙ sym (ne_eqb (times_listed at lists) 1 (omega (arith, none)))
+]
+
 -- and so is the first node of a bin
 pub first_node : {f b : ℕ → ℕ} {e : Extent} {lists : List (List ℕ)} → Spells f b e lists → (bin : ℕ) → bin < bin_count → IsNode e (f bin)
 first_node {f} {b} {e} {lists} h bin lt =
@@ -107,8 +127,8 @@ first_node {f} {b} {e} {lists} h bin lt =
     (ring_along h (IsNode e) (λ n l. record { word = λ le. absurd (omega (arith, l, le)) }) (λ n m. record { word = λ le. (h.places n m).word }) bin lt)
 
 -- A chunk leaves its list.
-pub unlinked : {f b f' b' : ℕ → ℕ} {e : Extent} {lists : List (List ℕ)} {at : ℕ} → Spells f b e lists → 1 ≤ times_listed at lists → Skips f b f' b' at → Spells f' b' e (map (without at) lists)
-unlinked {f} {b} {f'} {b'} {e} {lists} {at} h k skips =
+pub unlinked : {f b f' b' : ℕ → ℕ} {e : Extent} {lists : List (List ℕ)} {at : ℕ} → Spells f b e lists → 1 ≤ times_listed at lists → Skips f b f' b' at → f' at ≡ 0 → Spells f' b' e (map (without at) lists)
+unlinked {f} {b} {f'} {b'} {e} {lists} {at} h k skips cleared =
     let high = (h.places at k).high in
     let amid = amid_nodes h at k in
     let fewer : (n : ℕ) → times_listed n (map (without at) lists) ≤ times_listed n lists =
@@ -124,6 +144,12 @@ unlinked {f} {b} {f'} {b'} {e} {lists} {at} h k skips =
           subst (λ xs. IsPath f' b' bin xs bin) (sym (get_or-map (without at) lists bin [])) (path_skipped skips amid ne ne (list_at bin lists) (h.rings bin lt));
       once = λ n. omega (arith, h.once n, fewer n);
       places = λ n m. h.places n (omega (arith, m, fewer n));
+      idle = λ n high none. elim (cases_eq n at) [
+        | inl q ↦ ap f' q ∙ cleared
+        | inr ne ↦
+            let nowhere : times_listed n lists ≡ 0 = omega (arith, none, unlinked_other n at lists ne) in
+            skips.ahead_else n (λ q. not_before h k high nowhere q) ne ∙ h.idle n high nowhere
+      ];
     }
 
 -- A chunk comes to stand behind a node.
@@ -140,25 +166,32 @@ apart_from_new {lists = lists} {at} h new =
     (λ n k q. absurd (omega (arith, k, new.nowhere, ap (λ m. times_listed m lists) q)))
 
 -- what the lists are then, by how often a chunk stands in them
-spells_more : {f b f' b' : ℕ → ℕ} {e : Extent} {lists more : List (List ℕ)} {at : ℕ} → Spells f b e lists → IsNew e lists at → at < 2 ^ 64 → length more ≡ length lists → list_at 0 more ≡ [] → times_listed at more ≤ 1 → ((n : ℕ) → n ≢ at → times_listed n more ≡ times_listed n lists) → ((bin : ℕ) → bin < bin_count → IsPath f' b' bin (list_at bin more) bin) → Spells f' b' e more
-spells_more {e = e} {lists} {more} {at} h new fits width unused itself others rings = record {
+spells_more : {f b f' b' : ℕ → ℕ} {e : Extent} {lists more : List (List ℕ)} {at : ℕ} → Spells f b e lists → IsNew e lists at → at < 2 ^ 64 → length more ≡ length lists → list_at 0 more ≡ [] → times_listed at more ≡ 1 → ((n : ℕ) → n ≢ at → times_listed n more ≡ times_listed n lists) → ((n : ℕ) → n ≢ at → bin_count ≤ n → times_listed n lists ≡ 0 → f' n ≡ f n) → ((bin : ℕ) → bin < bin_count → IsPath f' b' bin (list_at bin more) bin) → Spells f' b' e more
+spells_more {e = e} {lists} {more} {at} h new fits width unused itself others same rings = record {
   width = width ∙ h.width;
   unused = unused;
   rings = rings;
   once = λ n. elim (cases_eq n at) [
-    | inl q ↦ omega (arith, subst (λ m. times_listed m more ≤ 1) (sym q) itself)
+    | inl q ↦ omega (arith, itself, ap (λ m. times_listed m more) q)
     | inr ne ↦ omega (arith, others n ne, h.once n)
   ];
   places = λ n m. elim (cases_eq n at) [
     | inl q ↦ subst (IsPlace e) (sym q) (record { high = new.high; fits = fits; word = new.word })
     | inr ne ↦ h.places n (omega (arith, m, others n ne))
   ];
+  idle = λ n high none. elim (cases_eq n at) [
+    | inl q ↦ absurd (omega (arith, none, itself, ap (λ m. times_listed m more) q))
+    | inr ne ↦
+        let nowhere : times_listed n lists ≡ 0 = omega (arith, none, others n ne) in
+        same n ne high nowhere ∙ h.idle n high nowhere
+  ];
 }
 
 pub inserted : {f b f' b' : ℕ → ℕ} {e : Extent} {lists : List (List ℕ)} {after at : ℕ} → Spells f b e lists → IsNew e lists at → at < 2 ^ 64 → 1 ≤ times_listed after lists → Splices f b f' b' after at → Spells f' b' e (map (put_behind after at) lists)
 inserted {f} {b} {f'} {b'} {e} {lists} {after} {at} h new fits k splices =
     let high = (h.places after k).high in
-    spells_more h new fits (length-map lists (put_behind after at)) (get_or-map (put_behind after at) lists 0 [] ∙ ap (put_behind after at) h.unused) (omega (arith, inserted_itself after at lists, new.nowhere, h.once after)) (λ n ne. inserted_other n after at lists ne)
+    spells_more h new fits (length-map lists (put_behind after at)) (get_or-map (put_behind after at) lists 0 [] ∙ ap (put_behind after at) h.unused) (omega (arith, inserted_itself after at lists, new.nowhere, h.once after, k)) (λ n ne. inserted_other n after at lists ne)
+    (λ n ne low none. splices.ahead_else n (λ q. absurd (omega (arith, none, k, ap (λ m. times_listed m lists) q))) ne)
     (λ bin lt.
     let xs = list_at bin lists in
     let miss : eqb after bin ≡ false = ne_eqb after bin (λ q. absurd (omega (arith, lt, q, high))) in
@@ -171,6 +204,7 @@ put_in_front {f} {b} {f'} {b'} {e} {lists} {bin} {at} h new fits used below spli
     let long = length-set lists bin (at ∷ list_at bin lists) in
     spells_more h new fits long (get_or-set_other lists bin 0 (at ∷ list_at bin lists) [] (λ q. absurd (omega (arith, used, q))) ∙ h.unused) (omega (arith, fronted at bin at lists inside, new.nowhere, ap (λ v. cond {A = ℕ} v 1 0) (eq-eqb at at refl)))
     (λ n ne. omega (arith, fronted n bin at lists inside, ap (λ v. cond {A = ℕ} v 1 0) (ne_eqb n at ne)))
+    (λ n ne high none. splices.ahead_else n (λ q. absurd (omega (arith, high, below, q))) ne)
     (λ k lt.
     let xs = list_at k lists in
     let path = path_spliced splices (first_step f b bin bin (list_at bin lists) (h.rings bin below)).back xs (apart_from_new h new k lt) (h.rings k lt) in

@@ -4,9 +4,10 @@ use Rattle.std.proofs.Math.Path.{fun_ext}
 use Rattle.part_words.specs.Extents.{IsOpen}
 use Rattle.bin_links.specs.Lists.{Linked, bin_count, times_listed, without, put_behind, put_front, empty_lists}
 use Rattle.bin_links.specs.Rings.{lists_of, IsNode, Spells, Skips, Splices}
-use Rattle.bin_links.specs.NodeWords.{links_at, ahead, back, extent, linked_of, AreLinked, IsFresh}
+use Rattle.bin_links.specs.NodeWords.{codes_at, no_codes, links_at, ahead, back, extent, linked_of, AreLinked, IsFresh}
 use Rattle.bin_links.specs.declared.nodes.Links.{Links}
 use Rattle.bin_links.specs.declared.nodes.Nodes.{Nodes}
+use Rattle.bin_links.proofs.NodeLinks.{leads_nowhere}
 use Rattle.bin_links.proofs.Paths.{Amid}
 use Rattle.bin_links.proofs.Reading.{spells_none}
 use Rattle.bin_links.proofs.Spelling.{spelled, amid_nodes, unlinked, inserted, put_in_front, IsNew}
@@ -45,6 +46,7 @@ reopened {nodes} {nodes'} {v} s same more =
       rings = h.rings;
       once = h.once;
       places = λ n k. record { high = (h.places n k).high; fits = (h.places n k).fits; word = more n (h.places n k).word };
+      idle = h.idle;
     } in
     record {
       linked = subst (λ f. Spells f (back nodes') (extent nodes') (lists_of f)) (sym fd) (subst (λ b. Spells (ahead nodes) b (extent nodes') (lists_of (ahead nodes))) (sym bk) wide);
@@ -57,8 +59,8 @@ neighbours s at k = amid_nodes s.linked at (omega (arith, k, ap (λ (w : Linked)
 pub is_chunk : {nodes : Nodes} {v : Linked} → Seen nodes v → (at : ℕ) → 1 ≤ times_listed at v.lists → bin_count ≤ at
 is_chunk s at k = ((spells s).places at k).high
 
-pub unlink_step : {nodes nodes' : Nodes} {v : Linked} {at : ℕ} → Seen nodes v → 1 ≤ times_listed at v.lists → Skips (ahead nodes) (back nodes) (ahead nodes') (back nodes') at → extent nodes' ≡ extent nodes → Becomes nodes' (map (without at) v.lists)
-unlink_step s k skips same = becomes s same (unlinked (spells s) k skips)
+pub unlink_step : {nodes nodes' : Nodes} {v : Linked} {at : ℕ} → Seen nodes v → 1 ≤ times_listed at v.lists → Skips (ahead nodes) (back nodes) (ahead nodes') (back nodes') at → codes_at nodes' at ≡ no_codes → extent nodes' ≡ extent nodes → Becomes nodes' (map (without at) v.lists)
+unlink_step {nodes' = nodes'} s k skips cleared same = becomes s same (unlinked (spells s) k skips (leads_nowhere nodes' _ cleared))
 
 pub insert_step : {nodes nodes' : Nodes} {v : Linked} {after at : ℕ} → Seen nodes v → IsNew v.extent v.lists at → at < 2 ^ 64 → 1 ≤ times_listed after v.lists → Splices (ahead nodes) (back nodes) (ahead nodes') (back nodes') after at → extent nodes' ≡ extent nodes → Becomes nodes' (map (put_behind after at) v.lists)
 insert_step s new fits k splices same = becomes s same (inserted (spells s) new fits k splices)
@@ -68,6 +70,6 @@ front_step s new fits used lt splices same = becomes s same (put_in_front (spell
 
 pub new_step : {nodes : Nodes} → IsFresh nodes → Becomes nodes empty_lists
 new_step {nodes} fresh =
-    let h = spells_none (ahead nodes) (back nodes) (extent nodes) fresh.own in
+    let h = spells_none (ahead nodes) (back nodes) (extent nodes) fresh.own fresh.chunks in
     let is = spelled h in
     record { linked = subst (Spells (ahead nodes) (back nodes) (extent nodes)) (sym is) h; lists_are = is }

@@ -1,6 +1,6 @@
 -- The links of nodes, as they are kept: those of the bins' own nodes apart from those of chunks (this project's own).
 -- No public clause cites this file.
-use Rattle.std.specs.Prelude.{◌≡◌, ◌≢◌, ℕ, ◌<◌, nat_lt, if◌then◌else◌, slice_index_or}
+use Rattle.std.specs.Prelude.{◌≡◌, ◌≢◌, ℕ, ◌<◌, ◌≤◌, nat_lt, if◌then◌else◌, slice_index_or}
 use Rattle.part_words.specs.Extents.{Extent}
 use Rattle.part_words.specs.Parts.{word_at, extent_of}
 use Rattle.bin_links.specs.Lists.{bin_count, Linked}
@@ -44,9 +44,10 @@ pub record Wrote (old new : Nodes) (node : ℕ) (c : LinkCodes) : Type 0 where
   pub base : new.base ≡ old.base
   pub width : new.width ≡ old.width
 
--- each bin's node leads to itself
+-- each bin's node leads to itself, and no chunk's leads anywhere
 pub record IsFresh (nodes : Nodes) : Type 0 where
   pub own : (n : ℕ) → n < bin_count → (ahead nodes n ≡ n) × (back nodes n ≡ n)
+  pub chunks : (n : ℕ) → bin_count ≤ n → ahead nodes n ≡ 0
 
 -- the lists that the links spell
 abbrev pub linked_of : Nodes → Linked

@@ -38,13 +38,15 @@ pub record IsPlace (e : Extent) (n : ℕ) : Type 0 where
   pub fits : n < 2 ^ 64
   pub word : IsOpen e n
 
--- the links spell these lists forward and back, and no chunk stands twice
+-- the links spell these lists forward and back, no chunk stands twice, and one that stands nowhere leads to the node of
+-- the bin that is never used
 pub record Spells (f b : ℕ → ℕ) (e : Extent) (lists : List (List ℕ)) : Type 0 where
   pub width : length lists ≡ bin_count
   pub unused : list_at 0 lists ≡ []
   pub rings : (bin : ℕ) → bin < bin_count → IsPath f b bin (list_at bin lists) bin
   pub once : (n : ℕ) → times_listed n lists ≤ 1
   pub places : (n : ℕ) → 1 ≤ times_listed n lists → IsPlace e n
+  pub idle : (n : ℕ) → bin_count ≤ n → times_listed n lists ≡ 0 → f n ≡ 0
 
 -- one link leads elsewhere
 pub record Redirects (f f' : ℕ → ℕ) (node to : ℕ) : Type 0 where

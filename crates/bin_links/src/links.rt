@@ -89,12 +89,23 @@ impl LinkWords {
         first >= BINS && self.nodes.links(first).fd == u64::from(bin)
     }
 
-    /// Laws of all bins; the call does nothing. There are 127 lists, that of bin 0 is empty, and no chunk stands twice
-    /// in them.
+    /// Whether a chunk is in a bin.
+    pub fn is_listed(&self, at: Addr) -> bool
+        requires high { bin_count ≤ at }
+        requires word { IsOpen self.now.extent at }
+        ensures { result ≡ nat_eq (times_listed at self.now.lists) 1 }
+    {
+        self.nodes.links(at.0).fd != 0
+    }
+
+    /// Laws of all bins; the call does nothing. There are 127 lists, that of bin 0 is empty, no chunk stands twice in them,
+    /// and each that stands there has a word.
     pub fn laws(&self)
         ensures width { length self.now.lists ≡ bin_count }
         ensures unused { list_at 0 self.now.lists ≡ [] }
         ensures once { (n : ℕ) → times_listed n self.now.lists ≤ 1 }
+        ensures words { (n : ℕ) → 1 ≤ times_listed n self.now.lists
+            → (bin_count ≤ n) × IsOpen self.now.extent n }
     {
         let _ = &self.nodes;
     }

@@ -24,8 +24,8 @@ skip-requires-clause-apart_before c =
 
 pub invariant_of-self : goal.invariant_of-self
 invariant_of-self c =
-    (unlink_step {nodes = c.self.inside.nodes} {v = c.args.self.now} {at = c.at.inside.0} (record { linked = c.self.invariant; view = c.self.view_is }) (rw c.at.view_is c.requires) c.skip.ensures.links c.skip.ensures.extent).linked
+    (unlink_step {nodes = c.self.inside.nodes} {v = c.args.self.now} {at = c.at.inside.0} (record { linked = c.self.invariant; view = c.self.view_is }) (rw c.at.view_is c.requires) c.skip.ensures.links c.skip.ensures.cleared c.skip.ensures.extent).linked
 
 pub returns-clause-lists : goal.returns-clause-lists
 returns-clause-lists c =
-    rw (← c.at.view_is) (unlink_step {nodes = c.self.inside.nodes} {v = c.args.self.now} {at = c.at.inside.0} (record { linked = c.self.invariant; view = c.self.view_is }) (rw c.at.view_is c.requires) c.skip.ensures.links c.skip.ensures.extent).lists_are
+    rw (← c.at.view_is) (unlink_step {nodes = c.self.inside.nodes} {v = c.args.self.now} {at = c.at.inside.0} (record { linked = c.self.invariant; view = c.self.view_is }) (rw c.at.view_is c.requires) c.skip.ensures.links c.skip.ensures.cleared c.skip.ensures.extent).lists_are

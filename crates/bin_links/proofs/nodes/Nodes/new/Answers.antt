@@ -7,4 +7,4 @@ pub invariant_of-result-clause-marks : goal.invariant_of-result-clause-marks
 invariant_of-result-clause-marks c = fresh_marks _ _ _ _ c.new.ensures (λ n lt. c.loop-bin.invariant.1 n (omega arith))
 
 pub returns-clause-own : goal.returns-clause-own
-returns-clause-own c = fresh _ (λ n lt. c.loop-bin.invariant.1 n (omega arith))
+returns-clause-own c = fresh _ _ c.new-2.ensures (λ n lt. c.loop-bin.invariant.1 n (omega arith))
