@@ -15,8 +15,6 @@ use Rattle.chunk_tags.specs.BinOrder.{IsFalling, inserted, smallest_fit, lesser,
 use Rattle.large_bins.specs.SeenChunks.{size_at, chunks_by, large_chunks, put_large, HaveTiles}
 use Rattle.large_bins.specs.Places.{put_by}
 use Rattle.chunk_tags.proofs.Falling.{compares, below, equal, above, falling_inserted}
-use Rattle.large_bins.specs.Guides.{band_of, AreGuides, IsGuide}
-use Rattle.large_bins.proofs.GuideLaws.{guides_longer, band_bin, IsLonger}
 use Rattle.large_bins.proofs.Insertion.{put_by_is}
 use Rattle.large_bins.proofs.Fitting.{same, of_size_is, second_is}
 
@@ -43,21 +41,6 @@ put_large_is tiles c lists h =
     let bin = large_index_of c.size in
     let put = map (λ (x : Chunk). x.at) (inserted c (large_chunks tiles c.size lists)) in
     get_or-set_same lists bin put [] h ∙ put_by_is (size_at tiles) c.size c.at (list_at bin lists)
-
--- no list has a chunk less often, and the bin has the new one
-pub put_large_longer : (tiles : List Tile) (c : Chunk) (lists : List (List ℕ)) → large_index_of c.size < length lists → (bin : ℕ) → IsLonger (list_at bin lists) (list_at bin (put_large tiles c lists))
-put_large_longer tiles c lists h bin =
-    let put = map (λ (x : Chunk). x.at) (inserted c (large_chunks tiles c.size lists)) in
-    elim (eqb_tells bin (large_index_of c.size)) [
-      | inl t ↦ subst (λ i. IsLonger (list_at i lists) (list_at i (put_large tiles c lists))) (sym t.1) (record {
-        each = λ n. omega (arith, put_by_times (size_at tiles) c.size c.at n (list_at (large_index_of c.size) lists), ap (times_in n) (put_large_is tiles c lists h));
-      })
-      | inr t ↦ record { each = λ n. omega (arith, ap (times_in n) (get_or-set_other lists (large_index_of c.size) bin put [] t.1)) }
-    ]
-
-pub put_large_stands : (tiles : List Tile) (c : Chunk) (lists : List (List ℕ)) → large_index_of c.size < length lists → 1 ≤ times_in c.at (list_at (large_index_of c.size) (put_large tiles c lists))
-put_large_stands tiles c lists h =
-    omega (arith, ap (times_in c.at) (put_large_is tiles c lists h), put_by_times (size_at tiles) c.size c.at c.at (list_at (large_index_of c.size) lists), ap (λ b. cond {A = ℕ} b 1 0) (eq-eqb c.at c.at refl))
 
 -- The best fit stands in its bin, and fits.
 
@@ -144,15 +127,3 @@ put_large_tiles tiles c lists h stands have = record {
 
 pub no_tiles_needed : (tiles : List Tile) → HaveTiles tiles empty_lists
 no_tiles_needed tiles = record { each = λ n some. absurd (omega (arith, some, none_listed n)) }
-
--- Guides after an insertion: as they were, or with the new chunk as that of its band.
-
-pub put_large_guides : (tiles : List Tile) (c : Chunk) (lists : List (List ℕ)) {gs : List ℕ} → large_index_of c.size < length lists → AreGuides (size_at tiles) lists gs → AreGuides (size_at tiles) (put_large tiles c lists) gs
-put_large_guides tiles c lists h g = guides_longer g (put_large_longer tiles c lists h)
-
-pub put_large_guide : (tiles : List Tile) (c : Chunk) (lists : List (List ℕ)) → large_index_of c.size < length lists → 1024 ≤ c.size → size_at tiles c.at ≡ c.size → IsGuide (size_at tiles) (put_large tiles c lists) (band_of c.size) c.at
-put_large_guide tiles c lists h large e = record {
-  listed = omega (arith, put_large_stands tiles c lists h, ap (λ i. times_in c.at (list_at i (put_large tiles c lists))) (band_bin c.size large));
-  large = omega (arith, large, e);
-  within = ap band_of e;
-}

@@ -1,5 +1,7 @@
+mod Ends
+pub mod FirstBins
+mod FirstLaws
 mod Fitting
-pub mod GuideLaws
 mod Insertion
 pub mod LargeLaws
 mod Turns

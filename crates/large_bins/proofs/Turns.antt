@@ -6,7 +6,7 @@ use Rattle.std.proofs.lemmas.List.Sums.{sum_by-append}
 use Rattle.chunk_tags.specs.Sizes.{large_index_of}
 use Rattle.bin_links.specs.Lists.{bin_count, times_in, times_listed, list_at, first_of, last_of}
 use Rattle.bin_links.proofs.ListLaws.{in_here, in_more, within}
-use Rattle.large_bins.proofs.Insertion.{ends_in, begins_with}
+use Rattle.large_bins.proofs.Ends.{ends_in, begins_with}
 
 -- how many chunks stand before the first place of an address
 abbrev pub place_of : ℕ → List ℕ → ℕ
@@ -62,6 +62,9 @@ once_in lists bin once = record { each = λ n. omega (arith, once n, within n bi
 -- a large bin is one of the bins
 pub large_below : (s : ℕ) → large_index_of s < bin_count
 large_below s = grind (arith, nat_tests)
+
+pub large_above : (s : ℕ) → 1024 ≤ s → 64 ≤ large_index_of s
+large_above s large = grind (arith, nat_tests)
 
 pub bin_below : {bin : ℕ} (s : ℕ) → bin ≡ large_index_of s → bin < bin_count
 bin_below {bin} s e = omega (arith, e, large_below s)

@@ -4,4 +4,4 @@ pub use Rattle.chunk_tags.specs.Tiles
 pub use Rattle.bin_links.specs.Lists
 pub mod Places
 pub mod SeenChunks
-pub mod Guides
+pub mod FirstChunks

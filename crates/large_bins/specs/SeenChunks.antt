@@ -19,6 +19,10 @@ size_at tiles at = size_in (tile_at at tiles)
 abbrev pub chunks_by : (ℕ → ℕ) → List ℕ → List Chunk
 chunks_by size xs = map (λ at. record { at = at; size = size at }) xs
 
+-- the chunks of each bin
+abbrev pub bins_by : (ℕ → ℕ) → List (List ℕ) → List (List Chunk)
+bins_by size lists = map (chunks_by size) lists
+
 -- the chunks of the large bin for a size
 abbrev pub large_chunks : List Tile → ℕ → List (List ℕ) → List Chunk
 large_chunks tiles size lists = chunks_by (size_at tiles) (list_at (large_index_of size) lists)

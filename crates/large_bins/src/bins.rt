@@ -1,20 +1,20 @@
 //! Insertion into a large bin, and its best fit.
 
-ghost use Rattle.std.specs.Prelude.{◌≡◌, ℕ, ◌<◌, ◌≤◌, ◌≢◌, List, ◌∷◌, Some, max, IsSome, IfSome, IfNone};
+ghost use Rattle.std.specs.Prelude.{◌≡◌, ℕ, ◌<◌, ◌≤◌, List, ◌∷◌, ◌++◌, IsSome, IfSome, IfNone, map};
 ghost use Rattle.std.specs.Option.{option_map};
-ghost use Rattle.bin_links.specs.Extents.{IsOpen};
-ghost use Rattle.bin_links.specs.Lists.{bin_count, list_at, times_in, times_listed};
+ghost use Rattle.part_words.specs.Extents.{IsOpen, IsWider};
+ghost use Rattle.bin_links.specs.Lists.{bin_count, list_at, times_listed, without};
 ghost use Rattle.chunk_tags.specs.Sizes.{large_index_of};
 ghost use Rattle.chunk_tags.specs.Tiles.{tile_at};
 ghost use Rattle.chunk_tags.specs.BinOrder.{IsFalling, inserted, best_of};
-ghost use Rattle.large_bins.specs.Guides.{band_count, band_of, bin_of_band, AreGuides, IsGuide, IsNoGuide};
-ghost use Rattle.large_bins.specs.SeenChunks.{size_at, chunks_by, large_chunks, put_large, HaveTiles};
-ghost use Rattle.large_bins.specs.Places.{GoesInFront, GoesBehind, AllBelow, BeginsPast, EndsBelow, FitsLast};
+ghost use Rattle.large_bins.specs.FirstChunks.{AreFalling, AreFirsts};
+ghost use Rattle.large_bins.specs.SeenChunks.{size_at, chunks_by, bins_by, large_chunks, put_large, HaveTiles};
+ghost use Rattle.large_bins.specs.Places.{first_of_size, AllAbove, AllBelow, FitsLast, StopsAt};
 
-use crate::guides::{Guides, band_index};
+use crate::splices::{insert_before, push_back, replace};
 use bin_links::LinkWords;
 use chunk_image::TileWords;
-use chunk_tags::{Addr, Size, is_small, large_index};
+use chunk_tags::{Addr, Size, large_index};
 
 /// The bytes of a chunk.
 fn size_of(tiles: &TileWords, at: Addr) -> u64
@@ -25,9 +25,16 @@ fn size_of(tiles: &TileWords, at: Addr) -> u64
 }
 
 /// Puts a free chunk into the large bin for its size: behind all greater chunks, and where its size is there already,
-/// as the second of its equals (glibc's `_int_malloc`, where it places an unsorted chunk in a large bin). It begins at a
-/// guide, and so walks over chunks of the size's band.
-pub fn insert(links: &mut LinkWords, tiles: &TileWords, guides: &mut Guides, at: Addr, size: Size)
+/// as the second of its equals (glibc's `_int_malloc`, where it places an unsorted chunk in a large bin). `firsts` has
+/// the first chunk of each size of each large bin, so that a walk passes equals at once (glibc's `fd_nextsize` and
+/// `bk_nextsize`).
+pub fn insert(
+    links: &mut LinkWords,
+    firsts: &mut LinkWords,
+    tiles: &TileWords,
+    at: Addr,
+    size: Size,
+)
     requires large { 1024 ≤ size }
     requires high { bin_count ≤ at }
     requires word { IsOpen links.old.extent at }
@@ -35,7 +42,9 @@ pub fn insert(links: &mut LinkWords, tiles: &TileWords, guides: &mut Guides, at:
     requires tile { size_at tiles.now.tiles at ≡ size }
     requires tiles { HaveTiles tiles.now.tiles links.old.lists }
     requires falling { IsFalling (large_chunks tiles.now.tiles size links.old.lists) }
-    requires guides { AreGuides (size_at tiles.now.tiles) links.old.lists guides.old }
+    requires firsts { AreFirsts (bins_by (size_at tiles.now.tiles) links.old.lists)
+        firsts.old.lists }
+    requires wider { IsWider links.old.extent firsts.old.extent }
     ensures lists { links.new.lists
         ≡ put_large tiles.now.tiles (record { at = at; size = size }) links.old.lists }
 
@@ -43,224 +52,131 @@ pub fn insert(links: &mut LinkWords, tiles: &TileWords, guides: &mut Guides, at:
     ensures falling { IsFalling (inserted (record { at = at; size = size })
         (large_chunks tiles.now.tiles size links.old.lists)) }
     ensures extent { links.new.extent ≡ links.old.extent }
-    ensures guides { AreGuides (size_at tiles.now.tiles) links.new.lists guides.new }
+    ensures firsts { AreFirsts (bins_by (size_at tiles.now.tiles) links.new.lists)
+        firsts.new.lists }
+    ensures open { firsts.new.extent ≡ firsts.old.extent }
 {
     links.laws();
-    let band = band_index(size);
-    let own = guides.get(band);
-    put(links, tiles, at, size, guides.at_or_below(band));
-    if goes_before(tiles, size.0, own) {
-        guides.set(band, Some(at));
-    }
-}
-
-/// The same without the guides: the chunk's place is looked for from a listed chunk on.
-fn put(links: &mut LinkWords, tiles: &TileWords, at: Addr, size: Size, start: Option<Addr>)
-    requires large { 1024 ≤ size }
-    requires high { bin_count ≤ at }
-    requires word { IsOpen links.old.extent at }
-    requires unlisted { times_listed at links.old.lists ≡ 0 }
-    requires tiles { HaveTiles tiles.now.tiles links.old.lists }
-    requires falling { IsFalling (large_chunks tiles.now.tiles size links.old.lists) }
-    requires start { IfSome start
-        (λ at. 1 ≤ times_in at (list_at (large_index_of size) links.old.lists)) }
-    ensures lists { links.new.lists
-        ≡ put_large tiles.now.tiles (record { at = at; size = size }) links.old.lists }
-    ensures extent { links.new.extent ≡ links.old.extent }
-{
-    links.laws();
+    firsts.laws();
     let bin = large_index(size);
-    match place(links, tiles, bin, size.0, start) {
-        None => links.push_front(bin, at),
-        Some(after) => links.insert_behind(after, at),
-    }
-}
-
-/// Whether a chunk of a size goes before the guide of its band.
-fn goes_before(tiles: &TileWords, size: u64, guide: Option<Addr>) -> bool
-    requires { IfSome guide (λ at. IsSome (tile_at at tiles.now.tiles)) }
-{
-    match guide {
-        None => true,
-        Some(at) => size_of(tiles, at) < size,
-    }
-}
-
-/// Takes a chunk that is to leave its bin from the guides. Where it is one, the chunk behind it takes its place, if its size
-/// lies in the same band.
-pub fn forget(links: &LinkWords, tiles: &TileWords, guides: &mut Guides, at: Addr)
-    requires listed { 1 ≤ times_listed at links.now.lists }
-    requires tiles { HaveTiles tiles.now.tiles links.now.lists }
-    requires guides { AreGuides (size_at tiles.now.tiles) links.now.lists guides.old }
-    ensures guides { AreGuides (size_at tiles.now.tiles) links.now.lists guides.new }
-    ensures gone { IsNoGuide guides.new at }
-{
-    links.laws();
-    let size = tiles.tile(at).size;
-    if is_small(size) {
-        return;
-    }
-    let band = band_index(size);
-    if guides.has(band, at) {
-        guides.set(band, next_in_band(links, tiles, at, band));
-    }
-}
-
-/// The chunk behind another one of its bin, if its size lies in a band.
-fn next_in_band(links: &LinkWords, tiles: &TileWords, at: Addr, band: usize) -> Option<Addr>
-    requires listed { 1 ≤ times_listed at links.now.lists }
-    requires tiles { HaveTiles tiles.now.tiles links.now.lists }
-    requires guide { 1 ≤ times_in at (list_at (bin_of_band band) links.now.lists) }
-    requires band { band < band_count }
-    ensures guide { IfSome result
-        (λ next. IsGuide (size_at tiles.now.tiles) links.now.lists band next) }
-    ensures other { IfSome result (λ next. next ≢ at) }
-{
-    links.laws();
-    let next = links.next(at)?;
-    let size = tiles.tile(next).size;
-    if is_small(size) || band_index(size) != band {
-        return None;
-    }
-    Some(next)
-}
-
-/// The listed chunk behind which a new one of this size goes; `None` where that is the front. It is looked for from another
-/// listed chunk on.
-fn place(
-    links: &LinkWords,
-    tiles: &TileWords,
-    bin: u8,
-    size: u64,
-    start: Option<Addr>,
-) -> Option<Addr>
-    requires bin { bin < bin_count }
-    requires tiles { HaveTiles tiles.now.tiles links.now.lists }
-    requires falling { IsFalling
-        (chunks_by (size_at tiles.now.tiles) (list_at bin links.now.lists)) }
-    requires start { IfSome start (λ at. 1 ≤ times_in at (list_at bin links.now.lists)) }
-    ensures front { IfNone result
-        (GoesInFront (size_at tiles.now.tiles) size (list_at bin links.now.lists)) }
-    ensures behind { IfSome result
-        (GoesBehind (size_at tiles.now.tiles) size (list_at bin links.now.lists)) }
-{
-    let last = links.last(bin)?;
-    if size < size_of(tiles, last) {
-        return Some(last);
-    }
-    links.laws();
-    let first = past_greater(links, tiles, bin, size, start.unwrap_or(last));
-    let mut after = links.before(first);
-    let mut next = Some(first);
-    while let Some(at) = next {
-        let other = size_of(tiles, at);
-        if other < size {
-            return after;
+    match first_not_above(links, firsts, tiles, bin, size.0) {
+        None => {
+            push_back(links, bin, at);
+            push_back(firsts, bin, at);
         }
-        if other == size {
-            return Some(at);
-        }
-        after = Some(at);
-        next = links.next(at);
-    }
-    after
-}
-
-/// A chunk before which all chunks of its bin are greater than a size: the first such from a listed one on, towards the front.
-fn past_greater(links: &LinkWords, tiles: &TileWords, bin: u8, size: u64, start: Addr) -> Addr
-    requires bin { bin < bin_count }
-    requires tiles { HaveTiles tiles.now.tiles links.now.lists }
-    requires falling { IsFalling
-        (chunks_by (size_at tiles.now.tiles) (list_at bin links.now.lists)) }
-    requires start { 1 ≤ times_in start (list_at bin links.now.lists) }
-    ensures begins { BeginsPast (size_at tiles.now.tiles) size (list_at bin links.now.lists) result }
-    ensures least { size_at tiles.now.tiles start ≤ size_at tiles.now.tiles result }
-    ensures most { size_at tiles.now.tiles result ≤ max size (size_at tiles.now.tiles start) }
-{
-    links.laws();
-    let mut at = start;
-    while let Some(before) = links.before(at) {
-        if size < size_of(tiles, before) {
-            return at;
-        }
-        at = before;
-    }
-    at
-}
-
-/// The smallest chunk of the large bin for this size that is as large; of several equals the second, which leaves the
-/// first where it is (glibc's `_int_malloc`, the search of the request's own large bin). `None` exactly where no chunk
-/// of the bin fits. It begins at guides, and so walks over chunks of the size's band, and of the best one's.
-pub fn best(links: &LinkWords, tiles: &TileWords, guides: &Guides, nb: Size) -> Option<Addr>
-    requires large { 1024 ≤ nb }
-    requires tiles { HaveTiles tiles.now.tiles links.now.lists }
-    requires falling { IsFalling (large_chunks tiles.now.tiles nb links.now.lists) }
-    requires guides { AreGuides (size_at tiles.now.tiles) links.now.lists guides.now }
-    ensures { result
-        ≡ option_map (λ c. c.at) (best_of nb (large_chunks tiles.now.tiles nb links.now.lists)) }
-{
-    links.laws();
-    let bin = large_index(nb);
-    let last = last_fitting(links, tiles, bin, nb.0, guides.below(band_index(nb)))?;
-    let size = size_of(tiles, last);
-    let start = equal_guide(links, tiles, guides, bin, size).unwrap_or(last);
-    let first = past_greater(links, tiles, bin, size, start);
-    match links.next(first) {
-        None => Some(first),
-        Some(second) => {
-            if size_of(tiles, second) == size {
-                Some(second)
+        Some(first) => {
+            if size_of(tiles, first) == size.0 {
+                links.insert_behind(first, at);
             } else {
-                Some(first)
+                insert_before(links, bin, first, at);
+                insert_before(firsts, bin, first, at);
             }
         }
     }
 }
 
-/// The guide of a size's band, if it is in some bin and has this very size.
-fn equal_guide(
+/// The first chunk of a bin that isn't greater than a size. `None` where all are, which the last one tells.
+fn first_not_above(
     links: &LinkWords,
+    firsts: &LinkWords,
     tiles: &TileWords,
-    guides: &Guides,
     bin: u8,
     size: u64,
 ) -> Option<Addr>
-    requires large { 1024 ≤ size }
-    requires tiles { HaveTiles tiles.now.tiles links.now.lists }
-    requires guides { AreGuides (size_at tiles.now.tiles) links.now.lists guides.now }
-    ensures size { IfSome result (λ at. size_at tiles.now.tiles at ≡ size) }
-    ensures listed { IfSome result (λ at. 1 ≤ times_in at (list_at bin links.now.lists)) }
-{
-    if large_index(Size(size)) != bin {
-        return None;
-    }
-    let guide = guides.get(band_index(Size(size)))?;
-    if size_of(tiles, guide) != size {
-        return None;
-    }
-    Some(guide)
-}
-
-/// The last chunk of a bin that has this size at least. It is looked for from a listed chunk on, if that is smaller.
-fn last_fitting(
-    links: &LinkWords,
-    tiles: &TileWords,
-    bin: u8,
-    nb: u64,
-    start: Option<Addr>,
-) -> Option<Addr>
+    requires large { 64 ≤ bin }
     requires bin { bin < bin_count }
     requires tiles { HaveTiles tiles.now.tiles links.now.lists }
     requires falling { IsFalling
         (chunks_by (size_at tiles.now.tiles) (list_at bin links.now.lists)) }
-    requires start { IfSome start (λ at. 1 ≤ times_in at (list_at bin links.now.lists)) }
+    requires firsts { AreFirsts (bins_by (size_at tiles.now.tiles) links.now.lists)
+        firsts.now.lists }
+    ensures none { IfNone result
+        (AllAbove (size_at tiles.now.tiles) size (list_at bin links.now.lists)) }
+    ensures some { IfSome result (StopsAt (size_at tiles.now.tiles) size
+        (list_at bin links.now.lists) (list_at bin firsts.now.lists)) }
+{
+    firsts.laws();
+    let last = links.last(bin)?;
+    if size < size_of(tiles, last) {
+        return None;
+    }
+    let mut next = firsts.first(bin);
+    while let Some(at) = next {
+        if size_of(tiles, at) <= size {
+            return Some(at);
+        }
+        next = firsts.next(at);
+    }
+    None
+}
+
+/// Takes a chunk that is to leave its bin from the first chunks of their sizes. Where it is one, the chunk behind it takes its
+/// place, if that has its size (glibc's `unlink_chunk`).
+pub fn forget(links: &LinkWords, firsts: &mut LinkWords, tiles: &TileWords, at: Addr)
+    requires listed { 1 ≤ times_listed at links.now.lists }
+    requires tiles { HaveTiles tiles.now.tiles links.now.lists }
+    requires falling { AreFalling (bins_by (size_at tiles.now.tiles) links.now.lists) }
+    requires firsts { AreFirsts (bins_by (size_at tiles.now.tiles) links.now.lists)
+        firsts.old.lists }
+    requires wider { IsWider links.now.extent firsts.old.extent }
+    ensures firsts { AreFirsts (bins_by (size_at tiles.now.tiles)
+        (map (without at) links.now.lists)) firsts.new.lists }
+    ensures open { firsts.new.extent ≡ firsts.old.extent }
+{
+    links.laws();
+    firsts.laws();
+    if firsts.is_listed(at) {
+        match equal_behind(links, tiles, at) {
+            None => firsts.unlink(at),
+            Some(next) => replace(firsts, at, next),
+        }
+    }
+}
+
+/// The chunk behind another one of its bin, if it has the same size.
+fn equal_behind(links: &LinkWords, tiles: &TileWords, at: Addr) -> Option<Addr>
+    requires listed { 1 ≤ times_listed at links.now.lists }
+    requires tiles { HaveTiles tiles.now.tiles links.now.lists }
+    ensures { (bin : ℕ) (front back : List ℕ) → bin < bin_count
+        → list_at bin links.now.lists ≡ front ++ at ∷ back
+        → result ≡ first_of_size (size_at tiles.now.tiles) (size_at tiles.now.tiles at) back }
+{
+    links.laws();
+    let next = links.next(at)?;
+    if size_of(tiles, next) == size_of(tiles, at) {
+        Some(next)
+    } else {
+        None
+    }
+}
+
+/// The smallest chunk of the large bin for this size that is as large; of several equals the second, which leaves the
+/// first where it is (glibc's `_int_malloc`, the search of the request's own large bin). `None` exactly where no chunk
+/// of the bin fits.
+pub fn best(links: &LinkWords, firsts: &LinkWords, tiles: &TileWords, nb: Size) -> Option<Addr>
+    requires large { 1024 ≤ nb }
+    requires tiles { HaveTiles tiles.now.tiles links.now.lists }
+    requires falling { IsFalling (large_chunks tiles.now.tiles nb links.now.lists) }
+    requires firsts { AreFirsts (bins_by (size_at tiles.now.tiles) links.now.lists)
+        firsts.now.lists }
+    ensures { result
+        ≡ option_map (λ c. c.at) (best_of nb (large_chunks tiles.now.tiles nb links.now.lists)) }
+{
+    let first = last_fitting(firsts, tiles, large_index(nb), nb.0)?;
+    Some(equal_behind(links, tiles, first).unwrap_or(first))
+}
+
+/// The last chunk of a bin that has this size at least.
+fn last_fitting(links: &LinkWords, tiles: &TileWords, bin: u8, nb: u64) -> Option<Addr>
+    requires bin { bin < bin_count }
+    requires tiles { HaveTiles tiles.now.tiles links.now.lists }
     ensures none { IfNone result
         (AllBelow (size_at tiles.now.tiles) nb (list_at bin links.now.lists)) }
     ensures last { IfSome result
         (FitsLast (size_at tiles.now.tiles) nb (list_at bin links.now.lists)) }
 {
     links.laws();
-    let mut next = smaller_or_last(links, tiles, bin, nb, start);
+    let mut next = links.last(bin);
     while let Some(at) = next {
         if nb <= size_of(tiles, at) {
             return Some(at);
@@ -268,31 +184,4 @@ fn last_fitting(
         next = links.before(at);
     }
     None
-}
-
-/// A listed chunk, if it is smaller than a size, else the last one of its bin: none behind it is as large.
-fn smaller_or_last(
-    links: &LinkWords,
-    tiles: &TileWords,
-    bin: u8,
-    nb: u64,
-    start: Option<Addr>,
-) -> Option<Addr>
-    requires bin { bin < bin_count }
-    requires tiles { HaveTiles tiles.now.tiles links.now.lists }
-    requires falling { IsFalling
-        (chunks_by (size_at tiles.now.tiles) (list_at bin links.now.lists)) }
-    requires start { IfSome start (λ at. 1 ≤ times_in at (list_at bin links.now.lists)) }
-    ensures { EndsBelow (size_at tiles.now.tiles) nb (list_at bin links.now.lists) result }
-{
-    match start {
-        None => links.last(bin),
-        Some(at) => {
-            if size_of(tiles, at) < nb {
-                Some(at)
-            } else {
-                links.last(bin)
-            }
-        }
-    }
 }

@@ -1,8 +1,7 @@
-//! The large bins of an arena: each in the order of falling sizes. No call takes memory but `Guides::new`.
+//! The large bins of an arena: each in the order of falling sizes. No call takes memory.
 #![tactic(auto)]
 
 mod bins;
-mod guides;
+mod splices;
 
 pub use bins::{best, forget, insert};
-pub use guides::Guides;

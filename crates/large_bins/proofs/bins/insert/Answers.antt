@@ -1,42 +1,96 @@
-use Rattle.std.proofs.Common.{◌≡◌, ◌<◌, length, sym, ap, subst, ◌∙◌, arith}
+use Rattle.std.proofs.Common.{◌≡◌, ◌<◌, [], ◌∷◌, ◌++◌, refl, sym, ◌∙◌, arith}
 use Rattle.chunk_tags.proofs.Falling.{falling_inserted}
-use Rattle.chunk_tags.specs.declared.tiles.Chunk.{Chunk}
-use Rattle.chunk_tags.specs.Sizes.{large_index_of}
-use Rattle.large_bins.specs.Guides.{bin_of_band, IsGuide}
-use Rattle.large_bins.specs.SeenChunks.{size_at, put_large}
-use Rattle.large_bins.proofs.GuideLaws.{guides_given, of_bin_listed, own_of_bin, band_bin, tile_if}
-use Rattle.large_bins.proofs.LargeLaws.{put_large_guide, put_large_guides}
-use Rattle.large_bins.proofs.Turns.{large_below}
+use Rattle.bin_links.specs.Lists.{list_at}
+use Rattle.bin_links.proofs.ListLaws.{listed_in}
+use Rattle.large_bins.specs.Places.{leads, AllAbove, StopsAt}
+use Rattle.large_bins.specs.SeenChunks.{size_at}
+use Rattle.large_bins.proofs.FirstBins.{firsts_are, firsts_set, firsts_stay, large_firsts, unlisted_firsts}
+use Rattle.large_bins.proofs.Insertion.{puts_last, puts_second, puts_before, put_is, Puts}
+use Rattle.large_bins.proofs.Turns.{bin_below, large_above}
 use Rattle.large_bins.proofs.bins.insert.Goals as goal
+use Rattle.large_bins.proofs.bins.insert.Goals.{In-None, In-Some}
 
-pub put-requires-clause-start : goal.put-requires-clause-start
-put-requires-clause-start c =
-    let bin : bin_of_band c.band_index-band.result ≡ large_index_of c.args.size = ap bin_of_band c.band_index-band.ensures.band ∙ band_bin c.args.size c.requires.large in
-    of_bin_listed c.band_index-band.result (large_index_of c.args.size) c.at_or_below.result c.requires.guides bin c.at_or_below.ensures
+last : (c : In-None) → Puts (size_at c.args.tiles.now.tiles) c.args.size c.args.at (list_at c.large_index-bin.result c.args.links.now.lists) (list_at c.large_index-bin.result c.args.firsts.now.lists) (list_at c.large_index-bin.result c.args.links.now.lists ++ c.args.at ∷ []) (list_at c.large_index-bin.result c.args.firsts.now.lists ++ c.args.at ∷ [])
+last c =
+    let bin = c.large_index-bin.result in
+    let f = size_at c.args.tiles.now.tiles in
+    let above : AllAbove f c.args.size (list_at bin c.args.links.now.lists) = rw c.size.view_is at c.in-None.ensures.none in
+    puts_last f c.args.size c.args.at _ _ c.requires.tile (large_firsts f c.args.links.now.lists c.requires.firsts bin (omega (arith, c.large_index-bin.ensures, large_above c.args.size c.requires.large))) above
 
-pub goes_before-requires : goal.goes_before-requires
-goes_before-requires c =
-    let bin : bin_of_band c.band_index-band.result ≡ large_index_of c.args.size = ap bin_of_band c.band_index-band.ensures.band ∙ band_bin c.args.size c.requires.large in
-    tile_if (large_index_of c.args.size) c.get-own.result c.requires.tiles
-    (of_bin_listed c.band_index-band.result (large_index_of c.args.size) c.get-own.result c.requires.guides bin (own_of_bin c.args.guides.now c.band_index-band.result c.get-own.result c.get-own.ensures))
+stop : (c : In-Some) → StopsAt (size_at c.args.tiles.now.tiles) c.args.size (list_at c.large_index-bin.result c.args.links.now.lists) (list_at c.large_index-bin.result c.args.firsts.now.lists) c.in-Some.first
+stop c = rw c.size.view_is at c.in-Some.ensures.some
 
-pub returns-then-goes_before-clause-falling : goal.returns-then-goes_before-clause-falling
-returns-then-goes_before-clause-falling c = falling_inserted _ _ c.requires.falling
+pub push_back-requires-in-None-clause-unlisted : goal.push_back-requires-in-None-clause-unlisted
+push_back-requires-in-None-clause-unlisted c = unlisted_firsts (size_at c.args.tiles.now.tiles) c.args.links.now.lists c.requires.firsts c.args.at c.requires.unlisted
 
-pub returns-else-goes_before-clause-falling : goal.returns-else-goes_before-clause-falling
-returns-else-goes_before-clause-falling c = falling_inserted _ _ c.requires.falling
+pub insert_before-requires-else-size_of-size-clause-unlisted :
+    goal.insert_before-requires-else-size_of-size-clause-unlisted
+insert_before-requires-else-size_of-size-clause-unlisted c =
+    unlisted_firsts (size_at c.args.tiles.now.tiles) c.args.links.now.lists c.requires.firsts c.args.at c.requires.unlisted
 
-pub returns-else-goes_before-clause-guides : goal.returns-else-goes_before-clause-guides
-returns-else-goes_before-clause-guides c =
-    let chunk : Chunk = record { at = c.args.at; size = c.args.size } in
-    rw c.put.ensures.lists (put_large_guides c.args.tiles.now.tiles chunk c.args.links.now.lists (omega (arith, large_below c.args.size, c.laws.ensures.width)) c.requires.guides)
+pub size_of-requires : goal.size_of-requires
+size_of-requires c =
+    let s = c.in-Some.ensures.some in
+    c.requires.tiles.each c.in-Some.first (listed_in c.in-Some.first c.large_index-bin.result c.args.links.now.lists s.front s.back s.split)
 
-pub returns-then-goes_before-clause-guides : goal.returns-then-goes_before-clause-guides
-returns-then-goes_before-clause-guides c =
-    let ts = c.args.tiles.now.tiles in
-    let lists = c.args.links.now.lists in
-    let band = c.band_index-band.result in
-    let chunk : Chunk = record { at = c.args.at; size = c.args.size } in
-    let below : large_index_of c.args.size < length lists = omega (arith, large_below c.args.size, c.laws.ensures.width) in
-    let guide = subst (λ n. IsGuide (size_at ts) (put_large ts chunk lists) n c.args.at) (sym c.band_index-band.ensures.band) (put_large_guide ts chunk lists below c.requires.large c.requires.tile) in
-    rw c.put.ensures.lists (guides_given (record { at = c.args.at; is = c.set.ensures; guide = λ some. guide }) (λ other ne some. (put_large_guides ts chunk lists below c.requires.guides).each other some))
+pub returns-in-None-clause-falling : goal.returns-in-None-clause-falling
+returns-in-None-clause-falling c = falling_inserted _ _ c.requires.falling
+
+pub returns-then-size_of-size-clause-falling : goal.returns-then-size_of-size-clause-falling
+returns-then-size_of-size-clause-falling c = falling_inserted _ _ c.requires.falling
+
+pub returns-else-size_of-size-clause-falling : goal.returns-else-size_of-size-clause-falling
+returns-else-size_of-size-clause-falling c = falling_inserted _ _ c.requires.falling
+
+pub returns-in-None-clause-lists : goal.returns-in-None-clause-lists
+returns-in-None-clause-lists c =
+    c.push_back.ensures.lists ∙ put_is c.args.tiles.now.tiles c.args.links.now.lists c.large_index-bin.result c.args.size c.args.at _ c.large_index-bin.ensures (last (goal.at.returns-in-None-clause-lists c).In-None).put
+
+pub returns-in-None-clause-firsts : goal.returns-in-None-clause-firsts
+returns-in-None-clause-firsts c =
+    let f = size_at c.args.tiles.now.tiles in
+    let bin = c.large_index-bin.result in
+    let below = bin_below c.args.size c.large_index-bin.ensures in
+    firsts_are f c.push_back.ensures.lists c.push_back-in-None.ensures.lists
+    (firsts_set f c.args.links.now.lists c.requires.firsts bin _ _ (omega (arith, c.large_index-bin.ensures, large_above c.args.size c.requires.large)) (omega (arith, below, c.laws.ensures.width)) (omega (arith, below, c.laws-2.ensures.width)) (last (goal.at.returns-in-None-clause-firsts c).In-None).first)
+
+pub returns-then-size_of-size-clause-lists : goal.returns-then-size_of-size-clause-lists
+returns-then-size_of-size-clause-lists c =
+    let f = size_at c.args.tiles.now.tiles in
+    let bin = c.large_index-bin.result in
+    let s = stop (goal.at.returns-then-size_of-size-clause-lists c).In-Some in
+    let same : f c.in-Some.first ≡ c.args.size = rw c.size.view_is at (sym c.size_of.ensures ∙ c.if-size_of-size.true) in
+    let p = puts_second f c.args.size c.args.at c.in-Some.first _ _ c.requires.tile same s in
+    c.insert_behind.ensures.lists bin s.front s.back (bin_below c.args.size c.large_index-bin.ensures) s.split ∙ put_is c.args.tiles.now.tiles c.args.links.now.lists bin c.args.size c.args.at _ c.large_index-bin.ensures p.put
+
+pub returns-then-size_of-size-clause-firsts : goal.returns-then-size_of-size-clause-firsts
+returns-then-size_of-size-clause-firsts c =
+    let f = size_at c.args.tiles.now.tiles in
+    let bin = c.large_index-bin.result in
+    let below = bin_below c.args.size c.large_index-bin.ensures in
+    let s = stop (goal.at.returns-then-size_of-size-clause-firsts c).In-Some in
+    let same : f c.in-Some.first ≡ c.args.size = rw c.size.view_is at (sym c.size_of.ensures ∙ c.if-size_of-size.true) in
+    let p = puts_second f c.args.size c.args.at c.in-Some.first _ _ c.requires.tile same s in
+    firsts_are f (c.insert_behind.ensures.lists bin s.front s.back below s.split) refl
+    (firsts_stay f c.args.links.now.lists c.requires.firsts bin _ (omega (arith, c.large_index-bin.ensures, large_above c.args.size c.requires.large)) (omega (arith, below, c.laws.ensures.width)) p.first)
+
+pub returns-else-size_of-size-clause-lists : goal.returns-else-size_of-size-clause-lists
+returns-else-size_of-size-clause-lists c =
+    let f = size_at c.args.tiles.now.tiles in
+    let s = stop (goal.at.returns-else-size_of-size-clause-lists c).In-Some in
+    let other = c.if-size_of-size.false in
+    let less : f c.in-Some.first < c.args.size = omega (arith, s.most, other, c.size_of.ensures, c.size.view_is) in
+    let p = puts_before f c.args.size c.args.at c.in-Some.first _ _ c.requires.tile less s in
+    c.insert_before.ensures.lists s.front s.back s.split ∙ put_is c.args.tiles.now.tiles c.args.links.now.lists c.large_index-bin.result c.args.size c.args.at _ c.large_index-bin.ensures p.put
+
+pub returns-else-size_of-size-clause-firsts : goal.returns-else-size_of-size-clause-firsts
+returns-else-size_of-size-clause-firsts c =
+    let f = size_at c.args.tiles.now.tiles in
+    let bin = c.large_index-bin.result in
+    let below = bin_below c.args.size c.large_index-bin.ensures in
+    let s = stop (goal.at.returns-else-size_of-size-clause-firsts c).In-Some in
+    let other = c.if-size_of-size.false in
+    let less : f c.in-Some.first < c.args.size = omega (arith, s.most, other, c.size_of.ensures, c.size.view_is) in
+    let p = puts_before f c.args.size c.args.at c.in-Some.first _ _ c.requires.tile less s in
+    firsts_are f (c.insert_before.ensures.lists s.front s.back s.split) (c.insert_before-else-size_of-size.ensures.lists (leads f s.front) _ s.first)
+    (firsts_set f c.args.links.now.lists c.requires.firsts bin _ _ (omega (arith, c.large_index-bin.ensures, large_above c.args.size c.requires.large)) (omega (arith, below, c.laws.ensures.width)) (omega (arith, below, c.laws-2.ensures.width)) p.first)
