@@ -1,5 +1,5 @@
 pub mod Bridges
-pub mod Guiding
+pub mod Firsts
 pub mod Heaping
 pub mod Joining
 pub mod Keeping

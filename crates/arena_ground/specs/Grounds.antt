@@ -1,14 +1,13 @@
 -- A plain arena as words say it: tiles by address, and bins of addresses, whose sizes are those of the tiles (this
 -- project's own).
-use Rattle.std.specs.Prelude.{◌≡◌, ℕ, ◌-◌, ◌/◌, ◌<◌, ◌≤◌, false, List, [], Option, Some, None, map, if◌then◌else◌, IsTrue, slice_index, slice_index_or, vec_capacity}
+use Rattle.std.specs.Prelude.{◌≡◌, ℕ, ◌-◌, ◌/◌, ◌<◌, ◌≤◌, false, List, [], Option, Some, None, map, if◌then◌else◌, IsTrue, vec_capacity}
 use Rattle.chunk_tags.specs.declared.tiles.Chunk.{Chunk}
 use Rattle.chunk_tags.specs.declared.tiles.Tile.{Tile}
-use Rattle.chunk_tags.specs.BinOrder.{times_in}
 use Rattle.chunk_tags.specs.Sizes.{is_small_size, small_index_of}
 use Rattle.part_words.specs.Extents.{Extent, IsWider}
 use Rattle.bin_links.specs.Lists.{Linked, put_front, without}
 use Rattle.chunk_image.specs.Rows.{TileRow}
-use Rattle.large_bins.specs.Guides.{bin_of_band, band_of}
+use Rattle.large_bins.specs.FirstChunks.{AreFirsts}
 use Rattle.large_bins.specs.SeenChunks.{size_at, put_large}
 use Rattle.address_space.specs.Spaces.{main_start, piece_start}
 use Rattle.arena_rules.specs.PlainArena.{Plain, is_main}
@@ -74,20 +73,13 @@ pub record IsGround (r : Regions) (w : TileRow) (l : Linked) (last : Option ℕ)
   pub base : w.extent.base ≡ words_start (arena_with r w l last)
   pub width : w.extent.width ≡ part_bytes (arena_with r w l last) / 16
 
--- Guides as large_bins has them, said of chunks with their sizes: what leaves the bins as they are leaves them too.
+-- the first chunk of each size of large bins, said of chunks with their sizes: what leaves the bins as they are leaves them
+-- too. They have link words wherever the bins have them
+pub record HaveFirsts (bins : List (List Chunk)) (e : Extent) (firsts : Linked) : Type 0 where
+  pub each : AreFirsts bins firsts.lists
+  pub wider : IsWider e firsts.extent
 
--- a chunk of the bin of a band of sizes, whose size lies in the band
-pub record IsGuideIn (bins : List (List Chunk)) (band at : ℕ) : Type 0 where
-  pub size : ℕ
-  pub listed : 1 ≤ times_in (record { at = at; size = size }) (slice_index_or bins (bin_of_band band) [])
-  pub large : 1024 ≤ size
-  pub within : band_of size ≡ band
-
--- each band has a guide, or 0
-pub record HaveGuides (bins : List (List Chunk)) (guides : List ℕ) : Type 0 where
-  pub each : (band : ℕ) → 0 < slice_index guides band → IsGuideIn bins band (slice_index guides band)
-
--- a ground with its guides
-pub record IsGuided (r : Regions) (w : TileRow) (l : Linked) (last : Option ℕ) (bands : List ℕ) : Type 0 where
+-- a ground with these
+pub record IsOrdered (r : Regions) (w : TileRow) (l : Linked) (last : Option ℕ) (heads : Linked) : Type 0 where
   pub ground : IsGround r w l last
-  pub guides : HaveGuides (bins_at w.tiles l.lists) bands
+  pub firsts : HaveFirsts (bins_at w.tiles l.lists) l.extent heads

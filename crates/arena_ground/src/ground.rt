@@ -22,7 +22,6 @@ use bin_links::LinkWords;
 use chunk_image::TileWords;
 use chunk_tags::{Addr, Chunk, NoMemory, Size, Tile, TileKind, small_index};
 use heap_top::Regions;
-use large_bins::Guides;
 use std::alloc::Global;
 use std::marker::Model;
 
@@ -32,8 +31,8 @@ use std::marker::Model;
 pub struct Ground {
     tiles: TileWords,
     links: LinkWords,
-    /// Where walks over large bins begin.
-    guides: Guides,
+    /// The first chunk of each size of each large bin.
+    firsts: LinkWords,
     regions: Regions,
     /// The last remainder.
     last: Option<Addr>,
@@ -45,11 +44,11 @@ impl Model for Ground {
 
     ghost Value = { GroundView };
 
-    ghost use Rattle.arena_ground.specs.Grounds.{view_of, IsGuided};
+    ghost use Rattle.arena_ground.specs.Grounds.{view_of, IsOrdered};
 
     ghost view = { λ g. view_of g.regions g.tiles g.links g.last };
 
-    ghost invariant = { λ g. IsGuided g.regions g.tiles g.links g.last g.guides };
+    ghost invariant = { λ g. IsOrdered g.regions g.tiles g.links g.last g.firsts };
 }
 
 impl Ground {
@@ -59,11 +58,11 @@ impl Ground {
     {
         let stride = PIECE_START - MAIN_START;
         let links = LinkWords::new(alloc, MAIN_START, stride)?;
-        let guides = Guides::new(alloc)?;
+        let firsts = LinkWords::new(alloc, MAIN_START, stride)?;
         Ok(Ground {
             tiles: TileWords::new(alloc, Addr(MAIN_START), stride),
             links,
-            guides,
+            firsts,
             regions: Regions::main(alloc),
             last: None,
             alloc,
@@ -110,7 +109,7 @@ impl Ground {
         let _ = &self.tiles;
     }
 
-    /// Opens the words of a range: those of links first, so that each tile's address has one.
+    /// Opens the words of a range: those of links first, so that each tile's address has both.
     fn open_words(&mut self, at: u64, len: u64) -> Result<(), NoMemory>
         requires within { IsWithinPart self.old.extent at len }
         requires some { 0 < len }
@@ -119,6 +118,7 @@ impl Ground {
             ((AreOpen self.old.extent at len → ⊥) × (AreOpen self.new.extent at len → ⊥)) }
         ensures arena { self.new.arena ≡ self.old.arena }
     {
+        self.firsts.open(self.alloc, Addr(at), len)?;
         self.links.open(self.alloc, Addr(at), len)?;
         self.tiles.open(self.alloc, Addr(at), len)
     }
@@ -152,7 +152,7 @@ impl Moves for Ground {
                 join(
                     &mut self.tiles,
                     &mut self.links,
-                    &mut self.guides,
+                    &mut self.firsts,
                     &t,
                     &chunk,
                     t.addr,
@@ -173,7 +173,7 @@ impl Moves for Ground {
             join(
                 &mut self.tiles,
                 &mut self.links,
-                &mut self.guides,
+                &mut self.firsts,
                 &chunk,
                 &u,
                 u.addr,
@@ -196,7 +196,7 @@ impl Moves for Ground {
     }
 
     fn claim(&mut self, c: Chunk) {
-        claim(&mut self.tiles, &mut self.links, &mut self.guides, c);
+        claim(&mut self.tiles, &mut self.links, &mut self.firsts, c);
     }
 
     fn part(&mut self, c: Chunk, nb: Size) -> Chunk {
@@ -235,7 +235,7 @@ impl Moves for Ground {
     }
 
     fn sort_in(&mut self, c: Chunk) {
-        sort_in(&self.tiles, &mut self.links, &mut self.guides, c);
+        sort_in(&self.tiles, &mut self.links, &mut self.firsts, c);
     }
 
     fn oldest_unsorted(&self) -> Option<Chunk> {
@@ -259,7 +259,7 @@ impl Moves for Ground {
     }
 
     fn best(&self, nb: Size) -> Option<Chunk> {
-        best(&self.tiles, &self.links, &self.guides, nb)
+        best(&self.tiles, &self.links, &self.firsts, nb)
     }
 
     fn first_larger(&mut self, nb: Size) -> Option<Chunk> {
@@ -327,9 +327,10 @@ impl Moves for Ground {
         heaps: u16,
         len: u64,
     ) -> Result<Ground, NoMemory> {
-        let guides = Guides::new(alloc)?;
         let mut regions = Regions::other(alloc, number, heap_max, heaps)?;
         let start = regions.heap_start(0);
+        let mut firsts = LinkWords::new(alloc, start, heap_max)?;
+        firsts.open(alloc, Addr(start), len)?;
         let mut links = LinkWords::new(alloc, start, heap_max)?;
         links.open(alloc, Addr(start), len)?;
         let mut tiles = TileWords::new(alloc, Addr(start), heap_max);
@@ -338,7 +339,7 @@ impl Moves for Ground {
         Ok(Ground {
             tiles,
             links,
-            guides,
+            firsts,
             regions,
             last: None,
             alloc,
@@ -386,7 +387,7 @@ impl Moves for Ground {
     }
 
     fn drop_heap(&mut self, end: &HeapEnd) {
-        unlink_end(&self.tiles, &mut self.links, &mut self.guides, end);
+        unlink_end(&self.tiles, &mut self.links, &mut self.firsts, end);
         self.regions.drop_heap(&mut self.tiles, end);
     }
 

@@ -8,18 +8,18 @@ ghost use Rattle.chunk_tags.specs.Sizes.{IsChunkSize, bin_of as bin_index};
 ghost use Rattle.chunk_tags.specs.Tiles.{Row, is_edge, is_free as is_free_tile, is_top as is_top_tile, fused, swapped, tile_at, tile_behind};
 ghost use Rattle.part_words.specs.Extents.{IsWider};
 ghost use Rattle.bin_links.specs.Lists.{bin_count, list_at, put_front, times_in, times_listed, without};
-ghost use Rattle.large_bins.specs.Guides.{AreGuides};
-ghost use Rattle.large_bins.specs.SeenChunks.{size_at, large_chunks, HaveTiles};
+ghost use Rattle.large_bins.specs.FirstChunks.{AreFalling};
+ghost use Rattle.large_bins.specs.SeenChunks.{large_chunks, HaveTiles};
 ghost use Rattle.arena_rules.specs.Moves.{tile_of};
 ghost use Rattle.heap_top.specs.Regions.{address_of};
-ghost use Rattle.arena_ground.specs.Grounds.{bins_at, tile_chunk, chunks_at, sorted_lists, lists_without};
+ghost use Rattle.arena_ground.specs.Grounds.{bins_at, tile_chunk, chunks_at, sorted_lists, lists_without, HaveFirsts};
 ghost use Rattle.arena_rules.specs.Search.{first_oldest};
 
 use arena_rules::HeapEnd;
 use bin_links::LinkWords;
 use chunk_image::TileWords;
 use chunk_tags::{Addr, Chunk, NoMemory, Size, Tile, TileKind, is_small, large_index, small_index};
-use large_bins::{Guides, forget};
+use large_bins::forget;
 use std::alloc::Global;
 
 /// The bin of unsorted chunks (glibc's `unsorted_chunks`).
@@ -77,7 +77,7 @@ pub(crate) fn oldest_in(tiles: &TileWords, links: &LinkWords, bin: u8) -> Option
 pub(crate) fn join(
     tiles: &mut TileWords,
     links: &mut LinkWords,
-    guides: &mut Guides,
+    firsts: &mut LinkWords,
     t: &Tile,
     u: &Tile,
     free: Addr,
@@ -88,7 +88,8 @@ pub(crate) fn join(
     requires behind { tile_behind t.now.addr tiles.old.tiles ≡ Some u.now }
     requires listed { 1 ≤ times_listed free links.old.lists }
     requires tiles { HaveTiles tiles.old.tiles links.old.lists }
-    requires guides { AreGuides (size_at tiles.old.tiles) links.old.lists guides.old }
+    requires falling { AreFalling (bins_at tiles.old.tiles links.old.lists) }
+    requires firsts { HaveFirsts (bins_at tiles.old.tiles links.old.lists) links.old.extent firsts.old }
     requires below { t.now.size + u.now.size < 2 ^ 34 }
     ensures chunk { result ≡ record { at = t.now.addr; size = t.now.size + u.now.size } }
     ensures tiles { tiles.new ≡ record tiles.old {
@@ -97,30 +98,31 @@ pub(crate) fn join(
     } }
     ensures lists { links.new.lists ≡ map (without free) links.old.lists }
     ensures extent { links.new.extent ≡ links.old.extent }
-    ensures guides { AreGuides (size_at tiles.old.tiles) links.new.lists guides.new }
+    ensures firsts { HaveFirsts (bins_at tiles.old.tiles links.new.lists) links.new.extent firsts.new }
 {
-    forget(links, tiles, guides, free);
+    forget(links, firsts, tiles, free);
     links.unlink(free);
     tiles.fuse(t, u, TileKind::Used);
     chunk_of(tiles, t.addr)
 }
 
 /// A free chunk leaves its bin and is used.
-pub(crate) fn claim(tiles: &mut TileWords, links: &mut LinkWords, guides: &mut Guides, c: Chunk)
+pub(crate) fn claim(tiles: &mut TileWords, links: &mut LinkWords, firsts: &mut LinkWords, c: Chunk)
     requires row { Row tiles.old.tiles }
     requires tile { tile_at c.at tiles.old.tiles ≡ Some (tile_of TileKind.Free c.at c.size) }
     requires listed { 1 ≤ times_listed c.at links.old.lists }
     requires tiles { HaveTiles tiles.old.tiles links.old.lists }
-    requires guides { AreGuides (size_at tiles.old.tiles) links.old.lists guides.old }
+    requires falling { AreFalling (bins_at tiles.old.tiles links.old.lists) }
+    requires firsts { HaveFirsts (bins_at tiles.old.tiles links.old.lists) links.old.extent firsts.old }
     ensures tiles { tiles.new ≡ record tiles.old {
       tiles = swapped c.at (tile_of TileKind.Used c.at c.size ∷ []) tiles.old.tiles;
     } }
     ensures lists { links.new.lists ≡ map (without c.at) links.old.lists }
     ensures extent { links.new.extent ≡ links.old.extent }
-    ensures guides { AreGuides (size_at tiles.old.tiles) links.new.lists guides.new }
+    ensures firsts { HaveFirsts (bins_at tiles.old.tiles links.new.lists) links.new.extent firsts.new }
 {
     let Chunk { at, size } = c;
-    forget(links, tiles, guides, at);
+    forget(links, firsts, tiles, at);
     links.unlink(at);
     tiles.set_kind(
         &Tile {
@@ -136,21 +138,22 @@ pub(crate) fn claim(tiles: &mut TileWords, links: &mut LinkWords, guides: &mut G
 pub(crate) fn unlink_end(
     tiles: &TileWords,
     links: &mut LinkWords,
-    guides: &mut Guides,
+    firsts: &mut LinkWords,
     end: &HeapEnd,
 )
     requires listed { (u : Square) → end.now.before ≡ Some u
         → 1 ≤ times_listed u.addr links.old.lists }
     requires tiles { HaveTiles tiles.now.tiles links.old.lists }
-    requires guides { AreGuides (size_at tiles.now.tiles) links.old.lists guides.old }
+    requires falling { AreFalling (bins_at tiles.now.tiles links.old.lists) }
+    requires firsts { HaveFirsts (bins_at tiles.now.tiles links.old.lists) links.old.extent firsts.old }
     ensures lists { links.new.lists ≡ lists_without (address_of end.now.before) links.old.lists }
     ensures extent { links.new.extent ≡ links.old.extent }
-    ensures guides { AreGuides (size_at tiles.now.tiles) links.new.lists guides.new }
+    ensures firsts { HaveFirsts (bins_at tiles.now.tiles links.new.lists) links.new.extent firsts.new }
 {
     match end.before {
         None => (),
         Some(chunk) => {
-            forget(links, tiles, guides, chunk.addr);
+            forget(links, firsts, tiles, chunk.addr);
             links.unlink(chunk.addr);
         }
     }
@@ -197,19 +200,19 @@ pub(crate) fn part(tiles: &mut TileWords, c: Chunk, nb: Size) -> Chunk
 }
 
 /// A free chunk leaves its bin and goes to that of its size (as the scan of glibc's `_int_malloc` does).
-pub(crate) fn sort_in(tiles: &TileWords, links: &mut LinkWords, guides: &mut Guides, c: Chunk)
+pub(crate) fn sort_in(tiles: &TileWords, links: &mut LinkWords, firsts: &mut LinkWords, c: Chunk)
     requires row { Row tiles.now.tiles }
     requires tile { tile_at c.at tiles.now.tiles ≡ Some (tile_of TileKind.Free c.at c.size) }
     requires covers { IsWider tiles.now.extent links.old.extent }
     requires high { bin_count ≤ c.at }
     requires unsorted { 1 ≤ times_in c.at (list_at 1 links.old.lists) }
     requires tiles { HaveTiles tiles.now.tiles links.old.lists }
-    requires guides { AreGuides (size_at tiles.now.tiles) links.old.lists guides.old }
+    requires firsts { HaveFirsts (bins_at tiles.now.tiles links.old.lists) links.old.extent firsts.old }
     requires falling { 1024 ≤ c.size → IsFalling
         (large_chunks tiles.now.tiles c.size (map (without c.at) links.old.lists)) }
     ensures lists { links.new.lists ≡ sorted_lists tiles.now.tiles c links.old.lists }
     ensures extent { links.new.extent ≡ links.old.extent }
-    ensures guides { AreGuides (size_at tiles.now.tiles) links.new.lists guides.new }
+    ensures firsts { HaveFirsts (bins_at tiles.now.tiles links.new.lists) links.new.extent firsts.new }
 {
     links.laws();
     let t = tiles.tile(c.at);
@@ -217,22 +220,27 @@ pub(crate) fn sort_in(tiles: &TileWords, links: &mut LinkWords, guides: &mut Gui
     if is_small(t.size) {
         links.push_front(small_index(t.size), t.addr);
     } else {
-        large_bins::insert(links, tiles, guides, t.addr, t.size);
+        large_bins::insert(links, firsts, tiles, t.addr, t.size);
     }
 }
 
 /// The smallest chunk of the large bin for a size that fits; of several equals the second.
-pub(crate) fn best(tiles: &TileWords, links: &LinkWords, guides: &Guides, nb: Size) -> Option<Chunk>
+pub(crate) fn best(
+    tiles: &TileWords,
+    links: &LinkWords,
+    firsts: &LinkWords,
+    nb: Size,
+) -> Option<Chunk>
     requires large { 1024 ≤ nb }
     requires tiles { HaveTiles tiles.now.tiles links.now.lists }
     requires falling { IsFalling (large_chunks tiles.now.tiles nb links.now.lists) }
-    requires guides { AreGuides (size_at tiles.now.tiles) links.now.lists guides.now }
+    requires firsts { HaveFirsts (bins_at tiles.now.tiles links.now.lists) links.now.extent firsts.now }
     requires free { (c : Piece) →
         best_of nb (large_chunks tiles.now.tiles nb links.now.lists) ≡ Some c
         → tile_at c.at tiles.now.tiles ≡ Some (tile_of TileKind.Free c.at c.size) }
     ensures { result ≡ best_of nb (large_chunks tiles.now.tiles nb links.now.lists) }
 {
-    match large_bins::best(links, tiles, guides, nb) {
+    match large_bins::best(links, firsts, tiles, nb) {
         None => None,
         Some(at) => Some(chunk_of(tiles, at)),
     }

@@ -17,3 +17,6 @@ returns-in-Some c =
     let f = chunk_found _ _ c.in-Some.ensures in
     ap (λ (d : Chunk). Some d) (c.chunk_of.ensures ∙ (ap (tile_chunk c.args.tiles.now.tiles) (sym f.at) ∙ chunk_here c.args.tiles.now.tiles f.chunk (c.requires.free f.chunk f.is)))
     ∙ sym f.is
+
+pub best-requires-clause-firsts : goal.best-requires-clause-firsts
+best-requires-clause-firsts c = c.requires.firsts.each

@@ -1,5 +1,13 @@
-use Rattle.large_bins.proofs.GuideLaws.{guides_without}
 use Rattle.arena_ground.proofs.steps.claim.Goals as goal
 
-pub returns-clause-guides : goal.returns-clause-guides
-returns-clause-guides c = rw c.unlink.ensures.lists (guides_without c.args.c.at c.forget.ensures.guides c.forget.ensures.gone)
+pub forget-requires-clause-firsts : goal.forget-requires-clause-firsts
+forget-requires-clause-firsts c = c.requires.firsts.each
+
+pub forget-requires-clause-wider : goal.forget-requires-clause-wider
+forget-requires-clause-wider c = c.requires.firsts.wider
+
+pub returns-clause-firsts : goal.returns-clause-firsts
+returns-clause-firsts c = record {
+  each = rw c.unlink.ensures.lists c.forget.ensures.firsts;
+  wider = rw (c.unlink.ensures.extent, c.forget.ensures.open) c.requires.firsts.wider;
+}

@@ -3,7 +3,6 @@ use Rattle.std.specs.Option.{IsSome}
 use Rattle.chunk_tags.specs.declared.tiles.Tile.{Tile}
 use Rattle.chunk_tags.specs.declared.tiles.TileKind.TheVariants.{Used}
 use Rattle.large_bins.specs.SeenChunks.{size_in}
-use Rattle.large_bins.proofs.GuideLaws.{guides_without}
 use Rattle.arena_rules.specs.Moves.{tile_of}
 use Rattle.heap_top.proofs.TopLaws.{fused_here}
 use Rattle.arena_ground.proofs.steps.join.Goals as goal
@@ -19,5 +18,14 @@ returns-clause-chunk c =
     let is = rw c.fuse.ensures at c.chunk_of.ensures in
     is ∙ ap (λ o. record { at = c.args.t.now.addr; size = size_in o }) (fused_here c.args.t.now.addr x _ _ c.requires.tile refl)
 
-pub returns-clause-guides : goal.returns-clause-guides
-returns-clause-guides c = rw c.unlink.ensures.lists (guides_without c.args.free c.forget.ensures.guides c.forget.ensures.gone)
+pub forget-requires-clause-firsts : goal.forget-requires-clause-firsts
+forget-requires-clause-firsts c = c.requires.firsts.each
+
+pub forget-requires-clause-wider : goal.forget-requires-clause-wider
+forget-requires-clause-wider c = c.requires.firsts.wider
+
+pub returns-clause-firsts : goal.returns-clause-firsts
+returns-clause-firsts c = record {
+  each = rw c.unlink.ensures.lists c.forget.ensures.firsts;
+  wider = rw (c.unlink.ensures.extent, c.forget.ensures.open) c.requires.firsts.wider;
+}

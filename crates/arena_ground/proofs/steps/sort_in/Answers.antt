@@ -1,15 +1,18 @@
-use Rattle.std.proofs.Common.{◌≡◌, ◌<◌, ◌≤◌, ap, sym, ◌∙◌, subst, arith, ltb-true}
+use Rattle.std.proofs.Common.{◌≡◌, ◌<◌, ◌≤◌, ap, sym, ◌∙◌, subst, arith, ltb-true, map}
 use Rattle.part_words.proofs.Opening.{IsOpen-covers}
 use Rattle.part_words.specs.Extents.{IsOpen}
-use Rattle.std.proofs.lemmas.List.{length-map}
 use Rattle.bin_links.specs.Lists.{list_at, times_in, times_listed, without}
 use Rattle.bin_links.proofs.ListLaws.{unlinked_itself, within}
-use Rattle.large_bins.proofs.GuideLaws.{guides_fronted, guides_without, none_unsorted}
+use Rattle.large_bins.specs.FirstChunks.{AreFirsts}
+use Rattle.large_bins.specs.SeenChunks.{size_at}
+use Rattle.large_bins.proofs.FirstBins.{firsts_fronted, firsts_unsorted}
 use Rattle.arena_rules.proofs.Changes.{tile_is}
 use Rattle.arena_rules.proofs.Rows.{addr_at}
+use Rattle.arena_ground.specs.Grounds.{bins_at}
 use Rattle.arena_ground.proofs.Bridges.{open_here}
 use Rattle.arena_ground.proofs.Sorting.{tiles_without}
 use Rattle.arena_ground.proofs.steps.sort_in.Goals as goal
+use Rattle.arena_ground.proofs.steps.sort_in.Goals.{After-unlink}
 
 pub push_front-requires-clause-word : goal.push_front-requires-clause-word
 push_front-requires-clause-word c =
@@ -42,20 +45,30 @@ unlink-requires c =
     let here = addr_at c.args.c.at c.tile-t.result c.args.tiles.now.tiles c.tile-t.ensures.tile in
     omega (arith, c.requires.unsorted, within c.args.c.at 1 c.args.links.now.lists, ap (λ n. times_listed n c.args.links.now.lists) here)
 
-pub insert-requires-clause-guides : goal.insert-requires-clause-guides
-insert-requires-clause-guides c =
+rest : (c : After-unlink) → AreFirsts (bins_at c.args.tiles.now.tiles (map (without c.tile-t.result.addr) c.args.links.now.lists)) c.args.firsts.now.lists
+rest c =
     let at = c.tile-t.result.addr in
     let lists = c.args.links.now.lists in
     let here = addr_at c.args.c.at c.tile-t.result c.args.tiles.now.tiles c.tile-t.ensures.tile in
     let stands : 1 ≤ times_in at (list_at 1 lists) = omega (arith, c.requires.unsorted, ap (λ n. times_in n (list_at 1 lists)) here) in
-    rw c.unlink.ensures.lists (guides_without at c.requires.guides (none_unsorted at c.requires.guides c.laws.ensures.width (c.laws.ensures.once at) stands))
+    firsts_unsorted (size_at c.args.tiles.now.tiles) lists at c.requires.firsts.each c.laws.ensures.width (c.laws.ensures.once at) stands
 
-pub returns-then-is_small-clause-guides : goal.returns-then-is_small-clause-guides
-returns-then-is_small-clause-guides c =
-    let at = c.tile-t.result.addr in
-    let lists = c.args.links.now.lists in
-    let here = addr_at c.args.c.at c.tile-t.result c.args.tiles.now.tiles c.tile-t.ensures.tile in
-    let stands : 1 ≤ times_in at (list_at 1 lists) = omega (arith, c.requires.unsorted, ap (λ n. times_in n (list_at 1 lists)) here) in
-    let rest = guides_without at c.requires.guides (none_unsorted at c.requires.guides c.laws.ensures.width (c.laws.ensures.once at) stands) in
+pub insert-requires-clause-firsts : goal.insert-requires-clause-firsts
+insert-requires-clause-firsts c = rw c.unlink.ensures.lists (rest (goal.at.insert-requires-clause-firsts c).After-unlink)
+
+pub insert-requires-clause-wider : goal.insert-requires-clause-wider
+insert-requires-clause-wider c = rw c.unlink.ensures.extent c.requires.firsts.wider
+
+pub returns-then-is_small-clause-firsts : goal.returns-then-is_small-clause-firsts
+returns-then-is_small-clause-firsts c =
     let small : c.tile-t.result.size < 1024 = ltb-true c.tile-t.result.size 1024 (sym c.is_small.ensures ∙ c.if-is_small.true) in
-    rw (c.push_front.ensures.lists, c.unlink.ensures.lists) (guides_fronted c.small_index.result at rest (omega (arith, small, c.small_index.ensures, length-map lists (without at), c.laws.ensures.width)))
+    record {
+      each = rw (c.push_front.ensures.lists, c.unlink.ensures.lists) (firsts_fronted (size_at c.args.tiles.now.tiles) _ c.small_index.result c.tile-t.result.addr (rest (goal.at.returns-then-is_small-clause-firsts c).After-unlink) (omega (arith, small, c.small_index.ensures)));
+      wider = rw (c.push_front.ensures.extent, c.unlink.ensures.extent) c.requires.firsts.wider;
+    }
+
+pub returns-else-is_small-clause-firsts : goal.returns-else-is_small-clause-firsts
+returns-else-is_small-clause-firsts c = record {
+  each = c.insert.ensures.firsts;
+  wider = rw (c.insert.ensures.extent, c.unlink.ensures.extent, c.insert.ensures.open) c.requires.firsts.wider;
+}

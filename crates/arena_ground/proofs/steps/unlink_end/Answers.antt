@@ -1,5 +1,13 @@
-use Rattle.large_bins.proofs.GuideLaws.{guides_without}
 use Rattle.arena_ground.proofs.steps.unlink_end.Goals as goal
 
-pub returns-in-Some-clause-guides : goal.returns-in-Some-clause-guides
-returns-in-Some-clause-guides c = rw c.unlink.ensures.lists (guides_without _ c.forget.ensures.guides c.forget.ensures.gone)
+pub forget-requires-clause-firsts : goal.forget-requires-clause-firsts
+forget-requires-clause-firsts c = c.requires.firsts.each
+
+pub forget-requires-clause-wider : goal.forget-requires-clause-wider
+forget-requires-clause-wider c = c.requires.firsts.wider
+
+pub returns-in-Some-clause-firsts : goal.returns-in-Some-clause-firsts
+returns-in-Some-clause-firsts c = record {
+  each = rw c.unlink.ensures.lists c.forget.ensures.firsts;
+  wider = rw (c.unlink.ensures.extent, c.forget.ensures.open) c.requires.firsts.wider;
+}

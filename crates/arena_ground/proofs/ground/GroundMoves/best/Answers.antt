@@ -4,7 +4,6 @@ use Rattle.chunk_tags.specs.Sizes.{large_index_of}
 use Rattle.arena_rules.specs.PlainArena.{bin_at}
 use Rattle.arena_ground.specs.Grounds.{GroundView}
 use Rattle.arena_ground.proofs.Bridges.{bin_is}
-use Rattle.arena_ground.proofs.Guiding.{by_address}
 use Rattle.arena_ground.proofs.Keeping.{held}
 use Rattle.arena_ground.proofs.Sorting.{have_tiles, falling_at, best_tile}
 use Rattle.arena_ground.proofs.ground.GroundMoves.best.Goals as goal
@@ -24,5 +23,5 @@ returns c =
     ∙ (ap (best_of c.args.nb) (sym (bin_is c.self.inside.tiles.tiles c.self.inside.links.lists (large_index_of c.args.nb)))
     ∙ ap (λ (v : GroundView). best_of c.args.nb (bin_at v.arena (large_index_of c.args.nb))) c.self.view_is)
 
-pub best-requires-clause-guides : goal.best-requires-clause-guides
-best-requires-clause-guides c = by_address c.self.inside.tiles.tiles c.self.inside.links.lists c.self.inside.guides c.self.invariant.guides
+pub best-requires-clause-firsts : goal.best-requires-clause-firsts
+best-requires-clause-firsts c = c.self.invariant.firsts

@@ -3,7 +3,7 @@ use Rattle.arena_rules.specs.Moves.{claimed}
 use Rattle.arena_rules.proofs.ChunkMoves.{listed_tile}
 use Rattle.arena_ground.specs.Grounds.{GroundView, arena_with, bins_at}
 use Rattle.arena_ground.proofs.Bridges.{listed_times}
-use Rattle.arena_ground.proofs.Guiding.{by_address, by_chunk, still}
+use Rattle.arena_ground.proofs.Firsts.{falling_bins, still}
 use Rattle.arena_ground.proofs.Keeping.{held, lists_of}
 use Rattle.arena_ground.proofs.Moving.{claim_done}
 use Rattle.arena_ground.proofs.Sorting.{have_tiles, rest_bins}
@@ -25,7 +25,7 @@ invariant_of-self c =
     let g = held _ _ _ _ _ c.self.invariant.ground c.self.view_is c.requires.sound in
     let some = rw (← c.self.view_is) at c.requires.listed in
     let bins = ap (bins_at c.self.inside.tiles.tiles) c.claim.ensures.lists ∙ rest_bins _ _ _ _ c.args.c g some in
-    rw c.claim.ensures.tiles (still (claim_done _ _ _ _ _ c.args.c g some c.claim.ensures.lists c.claim.ensures.extent) (sym bins) (by_chunk _ _ _ c.claim.ensures.guides))
+    rw c.claim.ensures.tiles (still (claim_done _ _ _ _ _ c.args.c g some c.claim.ensures.lists c.claim.ensures.extent) (sym bins) c.claim.ensures.firsts)
 
 pub returns : goal.returns
 returns c =
@@ -36,5 +36,8 @@ returns c =
 pub claim-requires-clause-tiles : goal.claim-requires-clause-tiles
 claim-requires-clause-tiles c = have_tiles _ _ _ _ (held _ _ _ _ _ c.self.invariant.ground c.self.view_is c.requires.sound)
 
-pub claim-requires-clause-guides : goal.claim-requires-clause-guides
-claim-requires-clause-guides c = by_address c.self.inside.tiles.tiles c.self.inside.links.lists c.self.inside.guides c.self.invariant.guides
+pub claim-requires-clause-falling : goal.claim-requires-clause-falling
+claim-requires-clause-falling c = falling_bins _ _ _ _ (held _ _ _ _ _ c.self.invariant.ground c.self.view_is c.requires.sound)
+
+pub claim-requires-clause-firsts : goal.claim-requires-clause-firsts
+claim-requires-clause-firsts c = c.self.invariant.firsts

@@ -3,7 +3,7 @@ use Rattle.std.proofs.lemmas.Bool.{and_parts, leb-true}
 use Rattle.arena_rules.specs.Resize.{grown_into_top}
 use Rattle.arena_rules.specs.PlainArena.{Plain}
 use Rattle.arena_ground.specs.Grounds.{GroundView, bins_at}
-use Rattle.arena_ground.proofs.Guiding.{still}
+use Rattle.arena_ground.proofs.Firsts.{still}
 use Rattle.arena_ground.proofs.Keeping.{ground_below, held}
 use Rattle.arena_ground.proofs.Moving.{own_tile}
 use Rattle.arena_ground.proofs.Topping.{behind_top, grow_done}
@@ -29,7 +29,7 @@ pub invariant_of-self : goal.invariant_of-self
 invariant_of-self c =
     let g = held _ _ _ _ _ c.self.invariant.ground c.self.view_is c.requires.sound in
     still (grow_done _ _ _ _ _ _ c.args.c c.args.nb g (rw (← c.self.view_is) at c.requires.own) c.requires.chunk (rw (← c.self.view_is) at c.requires.room)
-    (record { arena = c.grow_into_top.ensures.arena (bins_at c.self.inside.tiles.tiles c.self.inside.links.lists) c.self.inside.last; top = c.grow_into_top.ensures.top; extent = c.grow_into_top.ensures.extent; closed = c.grow_into_top.ensures.closed })) (sym (ap (λ (x : Plain). x.bins) (c.grow_into_top.ensures.arena (bins_at c.self.inside.tiles.tiles c.self.inside.links.lists) c.self.inside.last))) c.self.invariant.guides
+    (record { arena = c.grow_into_top.ensures.arena (bins_at c.self.inside.tiles.tiles c.self.inside.links.lists) c.self.inside.last; top = c.grow_into_top.ensures.top; extent = c.grow_into_top.ensures.extent; closed = c.grow_into_top.ensures.closed })) (sym (ap (λ (x : Plain). x.bins) (c.grow_into_top.ensures.arena (bins_at c.self.inside.tiles.tiles c.self.inside.links.lists) c.self.inside.last))) c.self.invariant.firsts
 
 pub returns : goal.returns
 returns c =

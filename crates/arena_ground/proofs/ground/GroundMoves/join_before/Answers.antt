@@ -3,7 +3,7 @@ use Rattle.std.specs.Option.{IsSome}
 use Rattle.arena_rules.specs.Moves.{hand, joined_before}
 use Rattle.arena_ground.specs.Grounds.{GroundView}
 use Rattle.heap_top.proofs.TopLaws.{pair_below}
-use Rattle.arena_ground.proofs.Guiding.{by_address, by_chunk, still}
+use Rattle.arena_ground.proofs.Firsts.{falling_bins, still}
 use Rattle.arena_ground.proofs.Keeping.{ground_below, held}
 use Rattle.arena_ground.proofs.Sorting.{have_tiles}
 use Rattle.arena_ground.proofs.Moving.{own_tile}
@@ -34,7 +34,7 @@ pub invariant_of-self : goal.invariant_of-self
 invariant_of-self c =
     let g = held _ _ _ _ _ c.self.invariant.ground c.self.view_is c.requires.sound in
     let j = join_before_done _ _ _ _ _ c.args.c _ g (rw (← c.self.view_is) at c.requires.own) (sym c.in-Some.ensures) c.join.ensures.lists c.join.ensures.extent in
-    rw c.join.ensures.tiles (still j.done j.bins (by_chunk _ _ _ c.join.ensures.guides))
+    rw c.join.ensures.tiles (still j.done j.bins c.join.ensures.firsts)
 
 pub returns-in-Some : goal.returns-in-Some
 returns-in-Some c =
@@ -51,5 +51,8 @@ join-requires-clause-below c =
 pub join-requires-clause-tiles : goal.join-requires-clause-tiles
 join-requires-clause-tiles c = have_tiles _ _ _ _ (held _ _ _ _ _ c.self.invariant.ground c.self.view_is c.requires.sound)
 
-pub join-requires-clause-guides : goal.join-requires-clause-guides
-join-requires-clause-guides c = by_address c.self.inside.tiles.tiles c.self.inside.links.lists c.self.inside.guides c.self.invariant.guides
+pub join-requires-clause-falling : goal.join-requires-clause-falling
+join-requires-clause-falling c = falling_bins _ _ _ _ (held _ _ _ _ _ c.self.invariant.ground c.self.view_is c.requires.sound)
+
+pub join-requires-clause-firsts : goal.join-requires-clause-firsts
+join-requires-clause-firsts c = c.self.invariant.firsts

@@ -2,7 +2,7 @@ use Rattle.std.proofs.Common.{◌≡◌, sym, ap, ◌∙◌, subst}
 use Rattle.arena_rules.specs.Moves.{hand, joined_behind, is_free_tile}
 use Rattle.arena_ground.specs.Grounds.{GroundView, arena_with}
 use Rattle.heap_top.proofs.TopLaws.{pair_below}
-use Rattle.arena_ground.proofs.Guiding.{by_address, by_chunk, still}
+use Rattle.arena_ground.proofs.Firsts.{falling_bins, still}
 use Rattle.arena_ground.proofs.Keeping.{ground_below, held}
 use Rattle.arena_ground.proofs.Sorting.{have_tiles}
 use Rattle.arena_ground.proofs.Moving.{own_tile}
@@ -28,7 +28,7 @@ pub invariant_of-self : goal.invariant_of-self
 invariant_of-self c =
     let g = held _ _ _ _ _ c.self.invariant.ground c.self.view_is c.requires.sound in
     let j = join_behind_done _ _ _ _ _ c.args.c _ g (rw (← c.self.view_is) at c.requires.own) c.behind-u.ensures (sym c.is_free.ensures ∙ c.if-is_free.true) c.join.ensures.lists c.join.ensures.extent in
-    rw c.join.ensures.tiles (still j.done j.bins (by_chunk _ _ _ c.join.ensures.guides))
+    rw c.join.ensures.tiles (still j.done j.bins c.join.ensures.firsts)
 
 pub returns-then-is_free : goal.returns-then-is_free
 returns-then-is_free c =
@@ -50,5 +50,8 @@ join-requires-clause-below c =
 pub join-requires-clause-tiles : goal.join-requires-clause-tiles
 join-requires-clause-tiles c = have_tiles _ _ _ _ (held _ _ _ _ _ c.self.invariant.ground c.self.view_is c.requires.sound)
 
-pub join-requires-clause-guides : goal.join-requires-clause-guides
-join-requires-clause-guides c = by_address c.self.inside.tiles.tiles c.self.inside.links.lists c.self.inside.guides c.self.invariant.guides
+pub join-requires-clause-falling : goal.join-requires-clause-falling
+join-requires-clause-falling c = falling_bins _ _ _ _ (held _ _ _ _ _ c.self.invariant.ground c.self.view_is c.requires.sound)
+
+pub join-requires-clause-firsts : goal.join-requires-clause-firsts
+join-requires-clause-firsts c = c.self.invariant.firsts

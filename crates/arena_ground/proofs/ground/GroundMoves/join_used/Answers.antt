@@ -3,7 +3,7 @@ use Rattle.arena_rules.specs.Moves.{hand}
 use Rattle.arena_rules.specs.Resize.{joined_with}
 use Rattle.heap_top.proofs.TopLaws.{pair_below}
 use Rattle.arena_ground.specs.Grounds.{GroundView}
-use Rattle.arena_ground.proofs.Guiding.{still}
+use Rattle.arena_ground.proofs.Firsts.{still}
 use Rattle.arena_ground.proofs.Keeping.{ground_below, held}
 use Rattle.arena_ground.proofs.Moving.{own_tile}
 use Rattle.arena_ground.proofs.Joining.{used_behind, join_used_done}
@@ -28,7 +28,7 @@ fuse-requires-clause-below c =
 pub invariant_of-self : goal.invariant_of-self
 invariant_of-self c =
     let g = held _ _ _ _ _ c.self.invariant.ground c.self.view_is c.requires.sound in
-    rw c.fuse.ensures (still (join_used_done _ _ _ _ c.args.c c.args.d g (rw (← c.self.view_is) at c.requires.own) (rw (← c.self.view_is) at c.requires.next) c.requires.behind) refl c.self.invariant.guides)
+    rw c.fuse.ensures (still (join_used_done _ _ _ _ c.args.c c.args.d g (rw (← c.self.view_is) at c.requires.own) (rw (← c.self.view_is) at c.requires.next) c.requires.behind) refl c.self.invariant.firsts)
 
 pub overflow_add-size : goal.overflow_add-size
 overflow_add-size c =

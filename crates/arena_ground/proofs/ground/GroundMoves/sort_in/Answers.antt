@@ -2,7 +2,7 @@ use Rattle.std.proofs.Common.{ap, ◌∙◌, arith}
 use Rattle.arena_rules.specs.Search.{sorted_in}
 use Rattle.arena_rules.proofs.ChunkMoves.{listed_tile}
 use Rattle.arena_ground.specs.Grounds.{GroundView, arena_with}
-use Rattle.arena_ground.proofs.Guiding.{by_address, by_chunk, unsorted_stands}
+use Rattle.arena_ground.proofs.Firsts.{unsorted_stands}
 use Rattle.arena_ground.proofs.Keeping.{held, high_tile}
 use Rattle.arena_ground.proofs.Sorting.{have_tiles, falling_rest, unsorted_listed, sort_done}
 use Rattle.arena_ground.proofs.ground.GroundMoves.sort_in.Goals as goal
@@ -25,8 +25,8 @@ sort_in-requires-clause-unsorted c =
     let stands = unsorted_stands c.self.inside.tiles.tiles c.args.c c.self.inside.links.lists (rw (← c.self.view_is) at c.requires.unsorted) in
     omega (arith, stands)
 
-pub sort_in-requires-clause-guides : goal.sort_in-requires-clause-guides
-sort_in-requires-clause-guides c = by_address c.self.inside.tiles.tiles c.self.inside.links.lists c.self.inside.guides c.self.invariant.guides
+pub sort_in-requires-clause-firsts : goal.sort_in-requires-clause-firsts
+sort_in-requires-clause-firsts c = c.self.invariant.firsts
 
 pub sort_in-requires-clause-tiles : goal.sort_in-requires-clause-tiles
 sort_in-requires-clause-tiles c = have_tiles _ _ _ _ (held _ _ _ _ _ c.self.invariant.ground c.self.view_is c.requires.sound)
@@ -42,7 +42,7 @@ invariant_of-self c =
     let a = arena_with c.self.inside.regions c.self.inside.tiles c.self.inside.links c.self.inside.last in
     let g = held _ _ _ _ _ c.self.invariant.ground c.self.view_is c.requires.sound in
     let d = sort_done _ _ _ _ _ c.args.c g (unsorted_listed a c.args.c (rw (← c.self.view_is) at c.requires.unsorted)) c.sort_in.ensures.lists c.sort_in.ensures.extent in
-    record { ground = d.kept; guides = by_chunk _ _ _ c.sort_in.ensures.guides }
+    record { ground = d.kept; firsts = c.sort_in.ensures.firsts }
 
 pub returns : goal.returns
 returns c =
