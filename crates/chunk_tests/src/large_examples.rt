@@ -1,8 +1,8 @@
-//! Worked examples: the bands and the order of a large bin, stated on the definitions alone. Nothing runs; the check computes them.
+//! Worked examples: the first chunk of each size and the order of a large bin, stated on the definitions alone. Nothing runs; the check computes them.
 
-ghost use Rattle.std.specs.Prelude.{◌≡◌, ℕ, ◌*◌, [], ◌∷◌, map, Some, None};
+ghost use Rattle.std.specs.Prelude.{◌≡◌, ℕ, ◌*◌, [], ◌∷◌, Some, None};
 ghost use Rattle.chunk_tags.specs.BinOrder.{inserted, best_of};
-ghost use Rattle.large_bins.specs.Guides.{band_of};
+ghost use Rattle.large_bins.specs.FirstChunks.{firsts_in};
 ghost use Rattle.large_bins.specs.SeenChunks.{chunks_by};
 
 /// Of three equal chunks the third that came stands between the first and the second, and is given first.
@@ -18,14 +18,19 @@ fn three_equal_chunks()
     ensures too_small { (a : ℕ) → best_of 2032 (chunks_by (λ _. 2016) (a ∷ [])) ≡ None }
 {}
 
-/// Sizes at the borders of bins, and of how wide their bands are: a larger size lies in no lower band.
-fn bands_rise()
-    ensures narrow { map band_of (1024 ∷ 1072 ∷ 1088 ∷ 3120 ∷ 3136 ∷ 10736 ∷ [])
-        ≡ 0 ∷ 3 ∷ 36 ∷ 1027 ∷ 1060 ∷ 1535 ∷ [] }
-    ensures wider { map band_of (10752 ∷ 40944 ∷ 40960 ∷ 45040 ∷ 45056 ∷ 163824 ∷ [])
-        ≡ 1556 ∷ 1791 ∷ 1800 ∷ 1803 ∷ 1804 ∷ 1919 ∷ [] }
-    ensures widest { map band_of (163840 ∷ 524272 ∷ 524288 ∷ 786416 ∷ 786432 ∷ 3000000 ∷ [])
-        ≡ 1940 ∷ 1983 ∷ 1984 ∷ 1987 ∷ 1988 ∷ 2015 ∷ [] }
+/// Chunks of falling sizes, of which the first of each size is linked: equals behind a greater one, two sizes of 60,000 bytes
+/// and more, many sizes, and a bin that isn't large.
+fn first_of_each_size()
+    ensures behind_a_greater { firsts_in 97 (record { at = 1; size = 12016 }
+        ∷ chunks_by (λ _. 12000) (2 ∷ 3 ∷ 4 ∷ [])) ≡ 1 ∷ 2 ∷ [] }
+    ensures second { firsts_in 97 (inserted (record { at = 5; size = 12000 })
+        (record { at = 1; size = 12016 } ∷ chunks_by (λ _. 12000) (2 ∷ 3 ∷ []))) ≡ 1 ∷ 2 ∷ [] }
+    ensures two_large { firsts_in 121 (record { at = 7; size = 65536 }
+        ∷ record { at = 8; size = 65536 } ∷ record { at = 1; size = 60000 }
+        ∷ record { at = 2; size = 60000 } ∷ []) ≡ 7 ∷ 1 ∷ [] }
+    ensures many { firsts_in 126 (chunks_by (λ at. 1000000 * at) (9 ∷ 8 ∷ 5 ∷ 4 ∷ 1 ∷ []))
+        ≡ 9 ∷ 8 ∷ 5 ∷ 4 ∷ 1 ∷ [] }
+    ensures small { firsts_in 63 (chunks_by (λ _. 1008) (1 ∷ 2 ∷ [])) ≡ [] }
 {}
 
 /// A chunk goes behind greater ones and before smaller ones, and the smallest that fits is given.

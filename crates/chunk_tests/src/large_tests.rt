@@ -3,16 +3,16 @@
 ghost use Rattle.std.specs.Prelude.{◌≡◌, ℕ, ◌+◌, ◌<◌, ◌≤◌, [], ◌∷◌, None, IsSome, IfOk, nat_eq, if◌then◌else◌};
 ghost use Rattle.chunk_tags.specs.BinOrder.{IsFalling};
 ghost use Rattle.chunk_tags.specs.Tiles.{entered, tile_at};
-ghost use Rattle.bin_links.specs.Extents.{IsOpen};
+ghost use Rattle.bin_links.specs.Extents.{IsOpen, IsWider};
 ghost use Rattle.chunk_image.specs.Rows.{IsRoom, IsWordSize};
 ghost use Rattle.bin_links.specs.Lists.{bin_count, empty_lists, list_at, times_listed};
-ghost use Rattle.large_bins.specs.Guides.{AreGuides};
-ghost use Rattle.large_bins.specs.SeenChunks.{size_at, chunks_by, HaveTiles};
+ghost use Rattle.large_bins.specs.FirstChunks.{AreFirsts};
+ghost use Rattle.large_bins.specs.SeenChunks.{size_at, chunks_by, bins_by, HaveTiles};
 
 use bin_links::LinkWords;
 use chunk_image::TileWords;
 use chunk_tags::{Addr, NoMemory, Size, Tile, TileKind};
-use large_bins::{Guides, best, insert};
+use large_bins::{best, insert};
 use std::alloc::Global;
 use std::test::Fail;
 
@@ -66,7 +66,7 @@ fn no_chunks(alloc: Global) -> Result<LinkWords, NoMemory>
 }
 
 /// Puts a chunk of the bin's sizes into it.
-fn put(links: &mut LinkWords, tiles: &TileWords, guides: &mut Guides, at: u64)
+fn put(links: &mut LinkWords, firsts: &mut LinkWords, tiles: &TileWords, at: u64)
     requires stands { IsSome (tile_at at tiles.now.tiles) }
     requires least { 1984 ≤ size_at tiles.now.tiles at }
     requires most { size_at tiles.now.tiles at < 2048 }
@@ -76,18 +76,22 @@ fn put(links: &mut LinkWords, tiles: &TileWords, guides: &mut Guides, at: u64)
     requires tiles { HaveTiles tiles.now.tiles links.old.lists }
     requires falling { IsFalling
         (chunks_by (size_at tiles.now.tiles) (list_at 79 links.old.lists)) }
-    requires guides { AreGuides (size_at tiles.now.tiles) links.old.lists guides.old }
+    requires firsts { AreFirsts (bins_by (size_at tiles.now.tiles) links.old.lists)
+        firsts.old.lists }
+    requires wider { IsWider links.old.extent firsts.old.extent }
     ensures listed { (n : ℕ) → times_listed n links.new.lists
         ≡ times_listed n links.old.lists + (if nat_eq n at then 1 else 0) }
     ensures tiles { HaveTiles tiles.now.tiles links.new.lists }
     ensures falling { IsFalling
         (chunks_by (size_at tiles.now.tiles) (list_at 79 links.new.lists)) }
     ensures extent { links.new.extent ≡ links.old.extent }
-    ensures guides { AreGuides (size_at tiles.now.tiles) links.new.lists guides.new }
+    ensures firsts { AreFirsts (bins_by (size_at tiles.now.tiles) links.new.lists)
+        firsts.new.lists }
+    ensures wider { IsWider links.new.extent firsts.new.extent }
 {
     links.laws();
     let size = tiles.tile(Addr(at)).size;
-    insert(links, tiles, guides, Addr(at), size);
+    insert(links, firsts, tiles, Addr(at), size);
 }
 
 /// Takes the bin's last chunk out of it.
@@ -101,21 +105,21 @@ fn take_last(links: &mut LinkWords) -> Option<Addr> {
 fn equals_and_others_in_order(rt: HostRuntime) -> Result<(), Fail> {
     let tiles = five_chunks(rt.alloc())?;
     let mut links = no_chunks(rt.alloc())?;
-    let mut guides = Guides::new(rt.alloc())?;
-    put(&mut links, &tiles, &mut guides, 4096);
-    let of_one = best(&links, &tiles, &guides, Size(2000));
-    put(&mut links, &tiles, &mut guides, 6112);
-    put(&mut links, &tiles, &mut guides, 8128);
+    let mut firsts = no_chunks(rt.alloc())?;
+    put(&mut links, &mut firsts, &tiles, 4096);
+    let of_one = best(&links, &firsts, &tiles, Size(2000));
+    put(&mut links, &mut firsts, &tiles, 6112);
+    put(&mut links, &mut firsts, &tiles, 8128);
     let of_three = (
-        best(&links, &tiles, &guides, Size(2016)),
-        best(&links, &tiles, &guides, Size(2032)),
+        best(&links, &firsts, &tiles, Size(2016)),
+        best(&links, &firsts, &tiles, Size(2032)),
     );
-    put(&mut links, &tiles, &mut guides, 10_144);
-    put(&mut links, &tiles, &mut guides, 12_176);
+    put(&mut links, &mut firsts, &tiles, 10_144);
+    put(&mut links, &mut firsts, &tiles, 12_176);
     let of_five = (
-        best(&links, &tiles, &guides, Size(2032)),
-        best(&links, &tiles, &guides, Size(2000)),
-        best(&links, &tiles, &guides, Size(1984)),
+        best(&links, &firsts, &tiles, Size(2032)),
+        best(&links, &firsts, &tiles, Size(2000)),
+        best(&links, &firsts, &tiles, Size(1984)),
     );
     assert_eq!(rt; of_one, Some(Addr(4096)));
     assert_eq!(rt; of_three, (Some(Addr(8128)), None));

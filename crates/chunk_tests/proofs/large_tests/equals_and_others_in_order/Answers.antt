@@ -1,9 +1,9 @@
 use Rattle.std.proofs.Common.{◌≡◌, arith}
+use Rattle.part_words.proofs.Opening.{Covers-same}
 use Rattle.bin_links.specs.Lists.{empty_lists, times_listed}
 use Rattle.bin_links.proofs.ListLaws.{none_listed}
-use Rattle.large_bins.specs.Guides.{band_count}
 use Rattle.large_bins.specs.SeenChunks.{size_at}
-use Rattle.large_bins.proofs.GuideLaws.{no_guides}
+use Rattle.large_bins.proofs.FirstBins.{no_firsts}
 use Rattle.large_bins.proofs.LargeLaws.{no_tiles_needed}
 use Rattle.chunk_tests.proofs.large_tests.equals_and_others_in_order.Goals as goal
 
@@ -37,5 +37,8 @@ put-requires-5-clause-unlisted g c =
     let none : times_listed 12176 c.in_ok-links.links.lists ≡ 0 = rw c.in_ok-links.ensures.lists (none_listed 12176) in
     omega (arith, none, c.put.ensures.listed 12176, c.put-2.ensures.listed 12176, c.put-3.ensures.listed 12176, c.put-4.ensures.listed 12176)
 
-pub put-requires-clause-guides : goal.put-requires-clause-guides
-put-requires-clause-guides g c = rw c.in_ok-guides.ensures (no_guides (size_at c.in_ok-tiles.tiles.tiles) c.in_ok-links.links.lists band_count)
+pub put-requires-clause-firsts : goal.put-requires-clause-firsts
+put-requires-clause-firsts g c = rw (c.in_ok-links.ensures.lists, c.in_ok-firsts.ensures.lists) (no_firsts (size_at c.in_ok-tiles.tiles.tiles))
+
+pub put-requires-clause-wider : goal.put-requires-clause-wider
+put-requires-clause-wider g c = rw (c.in_ok-links.ensures.extent, c.in_ok-firsts.ensures.extent) (Covers-same _)
