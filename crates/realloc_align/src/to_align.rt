@@ -133,7 +133,16 @@ pub fn aligned<M: Moves, K: Kernel, P: FastPort + Dials>(
     };
     let number = a.ground.as_ref().number();
     let act = Act::Align { align, nb };
-    match align_in_arena(a.ground.as_mut(), align, nb, cache, port, space, t, &mut said) {
+    match align_in_arena(
+        a.ground.as_mut(),
+        align,
+        nb,
+        cache,
+        port,
+        space,
+        t,
+        &mut said,
+    ) {
         Ok(found) => {
             let found = &found;
             a.journal
