@@ -1,2 +1,3 @@
+mod Resettlings
 pub mod Namings
 pub mod Handovers

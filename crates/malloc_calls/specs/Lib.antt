@@ -3,9 +3,10 @@ pub use Rattle.block_names.specs.Names
 pub use Rattle.own_blocks.specs.Own
 pub use Rattle.own_blocks.specs.Calls
 pub use Rattle.own_blocks.specs.Frees
-pub use Rattle.own_blocks.specs.Exits
 pub use Rattle.own_blocks.specs.LeftCalls
-pub use Rattle.realloc_calls.specs.Reallocs
+pub use Rattle.own_blocks.specs.Exits
+pub mod Reallocs
+pub mod Resettling
 pub mod Threads
 pub mod Mallocs
 pub mod Trays

@@ -6,7 +6,11 @@
 #[cfg(test)]
 mod examples;
 mod handing;
+mod in_arena;
+mod in_mapping;
 mod malloc;
+mod realloc;
+mod reallocated;
 mod thread;
 
 pub use block_names::{FarNames, Names};

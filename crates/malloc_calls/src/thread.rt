@@ -15,7 +15,7 @@ ghost use Rattle.malloc_calls.specs.Mallocs.{malloc_call, calloc_call, posix_mem
 ghost use Rattle.arena_core.specs.Replay.{has_lead_in_range};
 ghost use Rattle.own_blocks.specs.Frees.{free_call, HoldsOrLoses};
 ghost use Rattle.own_blocks.specs.Exits.{exit_call};
-ghost use Rattle.realloc_calls.specs.Reallocs.{realloc_call, IfAnswered, has_what_it_needs};
+ghost use Rattle.malloc_calls.specs.Reallocs.{realloc_call, IfAnswered, has_what_it_needs};
 ghost use Rattle.own_blocks.specs.declared.reply.Reply.TheVariants.{Freed, NotYours, Null, Ended};
 ghost use Rattle.own_blocks.specs.declared.reply.To.TheVariants.{Cached, Unmapped};
 ghost use Rattle.own_blocks.specs.declared.cached.CachedFree.TheVariants.{Done};
@@ -39,7 +39,7 @@ use chunk_tags::{Addr, Block, NoMemory, Tunables};
 use own_blocks::exit::exit;
 use own_blocks::free::free;
 use own_blocks::{CachedFree, Own, Reply};
-use realloc_calls::realloc::realloc;
+use crate::realloc::realloc;
 use std::alloc::Global;
 use thread_cache::Cache;
 

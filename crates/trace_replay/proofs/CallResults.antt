@@ -37,7 +37,7 @@ use Rattle.own_blocks.specs.Calls.{opening, Supplied, plain_supply, fresh_supply
 use Rattle.own_blocks.specs.Own.{newest_of_size}
 use Rattle.malloc_calls.specs.Mallocs.{padded_malloc, malloc_call, padded_calloc, calloc_call, is_memalign, aligned_malloc, padded_memalign, posix_memalign_call}
 use Rattle.own_blocks.specs.Frees.{without_name, free_to, free_of_block, free_of_name, free_call}
-use Rattle.realloc_calls.specs.Reallocs.{Resettled, kept_block, got_block, moved_from_arena, moved_from_mapping, after_resize, resize_in_arena, realloc_in_arena, not_remapped, after_remap, realloc_in_mapping, realloc_in, resettled, padded_realloc, realloc_of_block, realloc_of_name, realloc_call}
+use Rattle.malloc_calls.specs.Reallocs.{Resettled, kept_block, got_block, moved_from_arena, moved_from_mapping, after_resize, resize_in_arena, realloc_in_arena, not_remapped, after_remap, realloc_in_mapping, realloc_in, resettled, padded_realloc, realloc_of_block, realloc_of_name, realloc_call}
 use Rattle.own_blocks.specs.Exits.{released_past_cache, released_in_turn, cache_in_turn, exit_call}
 use Rattle.chunk_tags.specs.Sizes.{structure_size}
 use Rattle.trace_replay.specs.Naming.{EmptiesName}

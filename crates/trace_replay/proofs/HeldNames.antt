@@ -11,7 +11,7 @@ use Rattle.block_names.specs.Names.{NameTable, has_place, block_at, with_place}
 use Rattle.block_names.proofs.Tables.{at_placed, place_made}
 use Rattle.own_blocks.specs.Calls.{FitsName}
 use Rattle.malloc_calls.specs.Mallocs.{IsAlignedName}
-use Rattle.realloc_calls.specs.Reallocs.{IfAnswered}
+use Rattle.malloc_calls.specs.Reallocs.{IfAnswered}
 use Rattle.malloc_calls.specs.Threads.{names_of, own_of}
 use Rattle.malloc_calls.specs.declared.thread.Thread.{Thread}
 use Rattle.own_blocks.specs.declared.reply.Reply.{Reply}

@@ -5,7 +5,7 @@ use Rattle.chunk_tags.specs.Sizes.{chunk_size_of}
 use Rattle.chunk_tags.specs.declared.block.Block.{Block}
 use Rattle.block_names.specs.Names.{NameTable, block_at}
 use Rattle.own_blocks.specs.Calls.{FitsName}
-use Rattle.realloc_calls.specs.Reallocs.{IfAnswered}
+use Rattle.malloc_calls.specs.Reallocs.{IfAnswered}
 use Rattle.own_blocks.specs.declared.reply.Reply.{Reply}
 use Rattle.own_blocks.specs.declared.reply.Reply.TheVariants.{Null, Posted, Taken}
 use Rattle.own_blocks.specs.declared.reply.Why.{Why}

@@ -1,6 +1,6 @@
 -- The threads of a trace and what their calls go over: each thread's cache, blocks by name and address space, and the arenas with
 -- their fast bins, the words beside them, the book of arenas and the trays (this project's own). The rules of a call are those of
--- malloc_calls, realloc_calls and own_blocks.
+-- malloc_calls and own_blocks.
 use Rattle.std.specs.Prelude.{ℕ, ◌+◌, List, [], ◌∷◌, Option, Some, None, option_map, slice_get, slice_set}
 use Rattle.std.specs.Option.{option_and_then}
 use Rattle.chunk_tags.specs.declared.tunables.Tunables.{Tunables}
@@ -17,7 +17,7 @@ use Rattle.block_names.specs.Names.{with_place, tidied}
 use Rattle.own_blocks.specs.Own.{new_own}
 use Rattle.arena_holds.specs.Calls.{Call}
 use Rattle.malloc_calls.specs.Mallocs.{malloc_call, calloc_call, posix_memalign_call}
-use Rattle.realloc_calls.specs.Reallocs.{realloc_call}
+use Rattle.malloc_calls.specs.Reallocs.{realloc_call}
 use Rattle.own_blocks.specs.Frees.{free_call}
 use Rattle.own_blocks.specs.Exits.{exit_call}
 use Rattle.malloc_calls.specs.Trays.{post_call, take_call}

@@ -6,7 +6,7 @@ use Rattle.trace_replay.proofs.LeftThere.{no_place, left_there, names_but}
 use Rattle.own_blocks.specs.declared.reply.Reply.TheVariants.{NotYours}
 use Rattle.trace_replay.proofs.Keeping.{served_there}
 use Rattle.malloc_calls.specs.Threads.{own_of, names_of, number_of}
-use Rattle.realloc_calls.specs.Reallocs.{realloc_call}
+use Rattle.malloc_calls.specs.Reallocs.{realloc_call}
 use Rattle.trace_replay.proofs.CallResults.{LeavesName, realloc_keeps}
 use Rattle.trace_replay.proofs.HeldNames.{resizes_name}
 use Rattle.trace_replay.proofs.QuietCalls.{quiet_call}

@@ -1,15 +1,16 @@
-//! realloc of a block of an arena.
+//! realloc of a mapped block.
 
-ghost use Rattle.std.specs.Prelude.{◌≡◌, ◌^◌, ◌≤◌, Some, IfOk, IfErr, OnErr};
+ghost use Rattle.std.specs.Prelude.{◌≡◌, ◌^◌, ◌≤◌, ◌-◌, true, nat_le, None, IfOk, IfErr, OnErr, is_ok};
 ghost use Rattle.chunk_tags.specs.Sizes.{IsRequestSize};
 ghost use Rattle.chunk_tags.specs.Tunables.{IsTuned};
+ghost use Rattle.chunk_tags.specs.declared.block.Block.{Block as Piece};
 ghost use Rattle.consolidate_trim.specs.Outside.{means};
 ghost use Rattle.block_names.specs.Blocks.{IsHeld};
 ghost use Rattle.arena_holds.specs.Calls.{then_call};
 ghost use Rattle.own_blocks.specs.Calls.{plain_supply};
 ghost use Rattle.own_blocks.specs.LeftCalls.{IsLeft};
-ghost use Rattle.realloc_calls.specs.Reallocs.{resize_in_arena, realloc_in_arena, moved_from_arena};
-ghost use Rattle.realloc_calls.specs.Resettling.{Resettles};
+ghost use Rattle.malloc_calls.specs.Reallocs.{realloc_in_mapping, moved_from_mapping, not_remapped, remapped, has_what_it_needs};
+ghost use Rattle.malloc_calls.specs.Resettling.{Resettles};
 ghost use Rattle.arena_holds.specs.Holding.{ResizesShort};
 ghost use Rattle.arena_holds.specs.Places.{setting, IsServed, standing, both_of, in_cache};
 ghost use Rattle.own_blocks.specs.Structure.{StaysOpen};
@@ -17,17 +18,15 @@ ghost use Rattle.own_blocks.specs.Structure.{StaysOpen};
 use crate::reallocated::{Reallocated, got_block, kept_block, refused_block};
 use address_space::{Kernel, Space};
 use arena_core::Who;
-use arena_holds::{HeldResize, Places};
-use chunk_tags::{Block, NoMemory, Size, Tunables};
-use own_blocks::{OwnCache, open_cache, origin, plain_supply, release};
-use realloc_align::Resized;
+use arena_holds::{Places, has_length, has_room, remap_mapped, unmap_mapped};
+use chunk_tags::{Addr, Block, NoMemory, Size, Tunables};
+use own_blocks::{Origin, OwnCache, plain_supply};
 
-/// malloc in the place of a resize that was refused: the block of an arena is released for the one that is got.
-fn move_from_arena<P: Places, K: Kernel>(
+/// malloc in the place of another length that was refused: the block's mapping goes back for the one that is got.
+fn move_from_mapping<P: Places, K: Kernel>(
     cache: &mut OwnCache,
     p: &mut P,
     who: &Who,
-    a: u8,
     block: Block,
     size: u64,
     nb: Size,
@@ -37,7 +36,7 @@ fn move_from_arena<P: Places, K: Kernel>(
     requires bytes { size ≤ 2 ^ 63 }
     requires size { IsRequestSize nb }
     requires held { IsHeld block }
-    requires arena { block.arena ≡ Some a }
+    requires arena { block.arena ≡ None }
     requires tuned { IsTuned t.now }
     requires served { IsServed P.ways t.now (both_of (λ weigh. weigh block) (in_cache cache.old))
         (standing p.old space.old) }
@@ -45,7 +44,7 @@ fn move_from_arena<P: Places, K: Kernel>(
         Resettles (setting P.ways (means P.Hold.fast P.Hold.dials K.port) P.Dial.dials)
         t.now who.now
         (then_call (plain_supply t.now who.now.thread size nb cache.old)
-        (moved_from_arena t.now a block)) nb block
+        (moved_from_mapping block)) nb block
         cache.old (standing p.old space.old) done cache.new (standing p.new space.new)) }
     ensures short { IfErr result (λ back.
         ResizesShort (setting P.ways (means P.Hold.fast P.Hold.dials K.port) P.Dial.dials) block
@@ -53,7 +52,7 @@ fn move_from_arena<P: Places, K: Kernel>(
     ensures left { OnErr result
         (IsLeft (setting P.ways (means P.Hold.fast P.Hold.dials K.port) P.Dial.dials) t.now who.now
         (then_call (plain_supply t.now who.now.thread size nb cache.old)
-        (moved_from_arena t.now a block))
+        (moved_from_mapping block))
         (standing p.old space.old) (standing p.new space.new)) }
     ensures kept { StaysOpen cache.old cache.new }
 {
@@ -63,20 +62,30 @@ fn move_from_arena<P: Places, K: Kernel>(
     };
     match found {
         None => Ok(refused_block(block)),
-        Some(got) => match release(cache, p, who, a, block, space, t) {
-            Ok(_to) => Ok(got_block(got.from, got.block)),
-            Err(_lost) => Err(got.block),
-        },
+        Some(got) => {
+            unmap_mapped(p, block, space);
+            Ok(got_block(got.from, got.block))
+        }
     }
 }
 
-/// A block of an arena gets `nb` bytes under the lock of its arena, or malloc's block in its place. Where memory is short the
-/// block comes back where it is then, or the one that was got for it: as it was, or large enough.
-fn resize_in_arena<P: Places, K: Kernel>(
+/// A block whose mapping has another length, where it was at this address.
+fn remapped(before: Addr, block: Block) -> Reallocated
+    ensures { (b : Piece) → b.addr ≡ before → result ≡ remapped b block }
+{
+    if block.addr == before {
+        kept_block(Origin::Mapped, block)
+    } else {
+        got_block(Origin::Mapped, block)
+    }
+}
+
+/// A mapped block gets `nb` bytes: its mapping has the length already, or is asked for another, or malloc's block is got in
+/// its place. Where memory is short the block comes back.
+pub(crate) fn realloc_in_mapping<P: Places, K: Kernel>(
     cache: &mut OwnCache,
     p: &mut P,
     who: &Who,
-    a: u8,
     block: Block,
     size: u64,
     nb: Size,
@@ -86,38 +95,41 @@ fn resize_in_arena<P: Places, K: Kernel>(
     requires bytes { size ≤ 2 ^ 63 }
     requires size { IsRequestSize nb }
     requires held { IsHeld block }
-    requires arena { block.arena ≡ Some a }
+    requires arena { block.arena ≡ None }
     requires tuned { IsTuned t.now }
     requires served { IsServed P.ways t.now (both_of (λ weigh. weigh block) (in_cache cache.old))
         (standing p.old space.old) }
     ensures resettles { IfOk result (λ done.
         Resettles (setting P.ways (means P.Hold.fast P.Hold.dials K.port) P.Dial.dials)
         t.now who.now
-        (resize_in_arena t.now who.now.thread size nb a block cache.old) nb block
+        (realloc_in_mapping t.now who.now.thread size nb block cache.old) nb block
         cache.old (standing p.old space.old) done cache.new (standing p.new space.new)) }
     ensures short { IfErr result (λ back.
         ResizesShort (setting P.ways (means P.Hold.fast P.Hold.dials K.port) P.Dial.dials) block
         nb cache.old (standing p.old space.old) back cache.new (standing p.new space.new)) }
     ensures left { OnErr result
         (IsLeft (setting P.ways (means P.Hold.fast P.Hold.dials K.port) P.Dial.dials) t.now who.now
-        (resize_in_arena t.now who.now.thread size nb a block cache.old)
+        (realloc_in_mapping t.now who.now.thread size nb block cache.old)
         (standing p.old space.old) (standing p.new space.new)) }
     ensures kept { StaysOpen cache.old cache.new }
+    ensures mapped { has_what_it_needs nb block ≡ true → is_ok result ≡ true }
 {
-    let HeldResize { hold, resized } = cache.resize(p, a, who, block, nb, space, t)?;
-    match resized {
-        Resized::Kept(block) => Ok(kept_block(origin(hold, &block), block)),
-        Resized::Moved(block) => Ok(got_block(origin(hold, &block), block)),
-        Resized::Refused(block) => { move_from_arena(cache, p, who, a, block, size, nb, space, t) }
+    if has_length(&block, nb) {
+        return Ok(kept_block(Origin::Mapped, block));
+    }
+    let addr = block.addr;
+    match remap_mapped(p, block, nb, space) {
+        Ok(changed) => Ok(remapped(addr, changed)),
+        Err(block) => keep_or_move(cache, p, who, block, size, nb, space, t),
     }
 }
 
-/// A block of an arena gets `nb` bytes, and the cache is opened first where it is closed.
-pub(crate) fn realloc_in_arena<P: Places, K: Kernel>(
+/// A mapped block whose other length was refused: it is kept where it has 8 bytes more than `nb`, else malloc's block is got
+/// in its place.
+fn keep_or_move<P: Places, K: Kernel>(
     cache: &mut OwnCache,
     p: &mut P,
     who: &Who,
-    a: u8,
     block: Block,
     size: u64,
     nb: Size,
@@ -127,26 +139,28 @@ pub(crate) fn realloc_in_arena<P: Places, K: Kernel>(
     requires bytes { size ≤ 2 ^ 63 }
     requires size { IsRequestSize nb }
     requires held { IsHeld block }
-    requires arena { block.arena ≡ Some a }
+    requires arena { block.arena ≡ None }
     requires tuned { IsTuned t.now }
     requires served { IsServed P.ways t.now (both_of (λ weigh. weigh block) (in_cache cache.old))
         (standing p.old space.old) }
     ensures resettles { IfOk result (λ done.
         Resettles (setting P.ways (means P.Hold.fast P.Hold.dials K.port) P.Dial.dials)
         t.now who.now
-        (realloc_in_arena t.now who.now.thread size nb a block cache.old) nb block
+        (not_remapped t.now who.now.thread size nb block cache.old) nb block
         cache.old (standing p.old space.old) done cache.new (standing p.new space.new)) }
     ensures short { IfErr result (λ back.
         ResizesShort (setting P.ways (means P.Hold.fast P.Hold.dials K.port) P.Dial.dials) block
         nb cache.old (standing p.old space.old) back cache.new (standing p.new space.new)) }
     ensures left { OnErr result
         (IsLeft (setting P.ways (means P.Hold.fast P.Hold.dials K.port) P.Dial.dials) t.now who.now
-        (realloc_in_arena t.now who.now.thread size nb a block cache.old)
+        (not_remapped t.now who.now.thread size nb block cache.old)
         (standing p.old space.old) (standing p.new space.new)) }
     ensures kept { StaysOpen cache.old cache.new }
+    ensures room { nat_le nb (block.size - 8) ≡ true → is_ok result ≡ true }
 {
-    match open_cache(cache, p, who, space, t) {
-        Ok(()) => resize_in_arena(cache, p, who, a, block, size, nb, space, t),
-        Err(NoMemory) => Err(block),
+    if has_room(&block, nb) {
+        Ok(kept_block(Origin::Mapped, block))
+    } else {
+        move_from_mapping(cache, p, who, block, size, nb, space, t)
     }
 }

@@ -2,8 +2,8 @@ use Rattle.std.proofs.Common.{◌≡◌, false, sym, ◌∙◌, arith}
 use Rattle.std.proofs.lemmas.Bool.Decides.{nat_tests}
 use Rattle.std.specs.Prelude.{nat_eq}
 use Rattle.arena_holds.proofs.Going.{does_here}
-use Rattle.realloc_calls.proofs.Resettlings.{realloc_big, realloc_left, freed_fits, freed_never, freed_others}
-use Rattle.realloc_calls.proofs.realloc.realloc.Goals as goal
+use Rattle.malloc_calls.proofs.Resettlings.{realloc_big, realloc_left, freed_fits, freed_never, freed_others}
+use Rattle.malloc_calls.proofs.realloc.realloc.Goals as goal
 
 pub returns-in_default-clause-does : goal.returns-in_default-clause-does
 returns-in_default-clause-does g c = rw (sym c.in_default.ensures.block) (does_here _ _)

@@ -1,9 +1,9 @@
 use Rattle.std.proofs.Common.{refl, arith}
-use Rattle.realloc_calls.specs.Reallocs.{moved_from_mapping}
+use Rattle.malloc_calls.specs.Reallocs.{moved_from_mapping}
 use Rattle.arena_holds.proofs.Carrying.{served_fewer}
 use Rattle.own_blocks.proofs.LeftCalls.{left_behind}
-use Rattle.realloc_calls.proofs.Resettlings.{nothing_got, moved_out, short_before, served_own, served_got}
-use Rattle.realloc_calls.proofs.in_mapping.move_from_mapping.Goals as goal
+use Rattle.malloc_calls.proofs.Resettlings.{nothing_got, moved_out, short_before, served_own, served_got}
+use Rattle.malloc_calls.proofs.in_mapping.move_from_mapping.Goals as goal
 
 pub unmap_mapped-requires-clause-served : goal.unmap_mapped-requires-clause-served
 unmap_mapped-requires-clause-served g c = λ k l.

@@ -1,6 +1,6 @@
 use Rattle.std.proofs.Common.{refl, sym, ◌∙◌}
-use Rattle.realloc_calls.proofs.Resettlings.{kept_mapped, has_length_fits, remapped_to, remap_refused, served_unremapped, short_unremapped, unremapped_left}
-use Rattle.realloc_calls.proofs.in_mapping.realloc_in_mapping.Goals as goal
+use Rattle.malloc_calls.proofs.Resettlings.{kept_mapped, has_length_fits, remapped_to, remap_refused, served_unremapped, short_unremapped, unremapped_left}
+use Rattle.malloc_calls.proofs.in_mapping.realloc_in_mapping.Goals as goal
 
 pub returns-then-has_length-clause-resettles : goal.returns-then-has_length-clause-resettles
 returns-then-has_length-clause-resettles g c =

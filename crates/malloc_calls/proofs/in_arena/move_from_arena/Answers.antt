@@ -1,8 +1,8 @@
 use Rattle.std.proofs.Common.{refl}
-use Rattle.realloc_calls.specs.Reallocs.{moved_from_arena}
+use Rattle.malloc_calls.specs.Reallocs.{moved_from_arena}
 use Rattle.own_blocks.proofs.LeftCalls.{left_behind}
-use Rattle.realloc_calls.proofs.Resettlings.{nothing_got, moved_away, moved_left, moved_short, short_before, served_got}
-use Rattle.realloc_calls.proofs.in_arena.move_from_arena.Goals as goal
+use Rattle.malloc_calls.proofs.Resettlings.{nothing_got, moved_away, moved_left, moved_short, short_before, served_got}
+use Rattle.malloc_calls.proofs.in_arena.move_from_arena.Goals as goal
 
 pub release-requires-clause-served : goal.release-requires-clause-served
 release-requires-clause-served g c = λ k l.

@@ -1,12 +1,12 @@
 use Rattle.std.proofs.Common.{arith}
 use Rattle.arena_holds.specs.Places.{in_cache}
-use Rattle.realloc_calls.specs.Reallocs.{resize_in_arena}
+use Rattle.malloc_calls.specs.Reallocs.{resize_in_arena}
 use Rattle.own_blocks.proofs.Calling.{carries_hand}
 use Rattle.arena_holds.proofs.Carrying.{served_after, served_fewer}
 use Rattle.arena_holds.proofs.Searches.{err_map}
 use Rattle.own_blocks.proofs.LeftCalls.{left_behind, left_then}
-use Rattle.realloc_calls.proofs.Resettlings.{settles_then, short_then, short_before}
-use Rattle.realloc_calls.proofs.in_arena.realloc_in_arena.Goals as goal
+use Rattle.malloc_calls.proofs.Resettlings.{settles_then, short_then, short_before}
+use Rattle.malloc_calls.proofs.in_arena.realloc_in_arena.Goals as goal
 
 pub open_cache-requires-clause-served : goal.open_cache-requires-clause-served
 open_cache-requires-clause-served g c = λ k l. served_fewer g.met.P.Places.laws.fewer (in_cache c.args.cache.now) (λ w. omega arith) c.requires.served

@@ -1,7 +1,7 @@
 //! What a realloc came to.
 
 ghost use Rattle.std.specs.Prelude.{◌≡◌};
-ghost use Rattle.realloc_calls.specs.Reallocs.{kept_block, got_block, refused_block};
+ghost use Rattle.malloc_calls.specs.Reallocs.{kept_block, got_block, refused_block};
 
 use chunk_tags::Block;
 use own_blocks::{Origin, Reply, Why};

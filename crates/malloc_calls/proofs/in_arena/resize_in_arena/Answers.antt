@@ -1,8 +1,8 @@
 use Rattle.std.proofs.Common.{◌∙◌}
 use Rattle.arena_core.proofs.Opens.{on_err}
-use Rattle.realloc_calls.proofs.Resettlings.{resized_kept, resized_moved, resized_refused, resized_short, unresized_left, resized_left, served_refused}
+use Rattle.malloc_calls.proofs.Resettlings.{resized_kept, resized_moved, resized_refused, resized_short, unresized_left, resized_left, served_refused}
 use Rattle.own_blocks.proofs.Structures.{open_still}
-use Rattle.realloc_calls.proofs.in_arena.resize_in_arena.Goals as goal
+use Rattle.malloc_calls.proofs.in_arena.resize_in_arena.Goals as goal
 
 pub move_from_arena-requires-clause-served : goal.move_from_arena-requires-clause-served
 move_from_arena-requires-clause-served g c = λ k l.

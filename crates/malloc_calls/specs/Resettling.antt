@@ -9,10 +9,10 @@ use Rattle.arena_core.specs.Arenas.{need_of}
 use Rattle.arena_core.specs.declared.journal.Who.{Who}
 use Rattle.block_names.specs.Blocks.{IsHeld}
 use Rattle.arena_holds.specs.Calls.{Call}
-use Rattle.realloc_calls.specs.Reallocs.{Resettled, IfAnswered}
+use Rattle.malloc_calls.specs.Reallocs.{Resettled, IfAnswered}
 use Rattle.arena_holds.specs.Going.{Does}
 use Rattle.arena_holds.specs.Places.{Setting, Standing, Carries, both_of, in_cache}
-use Rattle.realloc_calls.specs.declared.reallocated.Reallocated.{Reallocated}
+use Rattle.malloc_calls.specs.declared.reallocated.Reallocated.{Reallocated}
 use Rattle.own_blocks.specs.declared.reply.Reply.TheVariants.{Null}
 use Rattle.own_blocks.specs.declared.reply.Why.TheVariants.{Refused}
 

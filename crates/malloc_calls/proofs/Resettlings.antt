@@ -16,10 +16,10 @@ use Rattle.arena_holds.specs.Calls.{Call, Done, then_call, hold_of, hold_end, ta
 use Rattle.own_blocks.specs.Calls.{Supplied, origin_of, plain_supply, releasing, FitsName, HoldsStill}
 use Rattle.chunk_tags.specs.Sizes.{padded_request}
 use Rattle.own_blocks.specs.Frees.{IsFreed, HoldsOrLoses}
-use Rattle.realloc_calls.specs.Reallocs.{realloc_call, realloc_in, Resettled, kept_block, got_block, refused_block, moved_from_arena, moved_from_mapping, after_resize, resize_in_arena, remapped, not_remapped, realloc_in_mapping, resettled, IfAnswered}
+use Rattle.malloc_calls.specs.Reallocs.{realloc_call, realloc_in, Resettled, kept_block, got_block, refused_block, moved_from_arena, moved_from_mapping, after_resize, resize_in_arena, remapped, not_remapped, realloc_in_mapping, resettled, IfAnswered}
 use Rattle.arena_holds.specs.Holding.{resized_to, placed_block}
 use Rattle.own_blocks.specs.declared.own.Own.{Own}
-use Rattle.realloc_calls.specs.declared.reallocated.Reallocated.{Reallocated}
+use Rattle.malloc_calls.specs.declared.reallocated.Reallocated.{Reallocated}
 use Rattle.own_blocks.specs.declared.reply.Reply.{Reply}
 use Rattle.own_blocks.specs.declared.reply.Reply.TheVariants as replies
 use Rattle.own_blocks.specs.declared.reply.Reply.TheVariants.{Got, Kept, Null, Freed, NotYours, Posted, Taken, Missed}
@@ -39,7 +39,7 @@ use Rattle.arena_holds.specs.Holding.{Resizes, ResizesShort, UnmapsMapped, Remap
 use Rattle.arena_holds.specs.Places.{PlaceWays, Setting, Standing, Carries, Hands, IsServed, both_of, weight_of, in_cache}
 use Rattle.arena_holds.specs.RunningShort.{RunsShort}
 use Rattle.own_blocks.specs.LeftCalls.{IsLeft}
-use Rattle.realloc_calls.specs.Resettling.{Resettles}
+use Rattle.malloc_calls.specs.Resettling.{Resettles}
 use Rattle.own_blocks.specs.Supplying.{Supplies, Releases, ReleasesShort, block_supplied}
 use Rattle.own_blocks.proofs.Calling.{carries_hand}
 use Rattle.arena_holds.proofs.Carrying.{SameLaw, FewerLaw, carries_here, carries_as, carries_then, carries_beside, carries_fewer, served_after, served_fewer}

@@ -1,7 +1,7 @@
 use Rattle.std.proofs.Common.{refl, sym, ◌∙◌, arith}
 use Rattle.std.proofs.lemmas.Bool.{leb-true}
-use Rattle.realloc_calls.proofs.Resettlings.{kept_mapped}
-use Rattle.realloc_calls.proofs.in_mapping.keep_or_move.Goals as goal
+use Rattle.malloc_calls.proofs.Resettlings.{kept_mapped}
+use Rattle.malloc_calls.proofs.in_mapping.keep_or_move.Goals as goal
 
 pub returns-then-has_room-clause-resettles : goal.returns-then-has_room-clause-resettles
 returns-then-has_room-clause-resettles g c =

@@ -15,7 +15,7 @@ use Rattle.own_blocks.specs.Calls.{origin_of, opening, plain_supply, Supplied, r
 use Rattle.own_blocks.specs.Frees.{free_of_block}
 use Rattle.block_names.specs.Names.{block_at}
 use Rattle.own_blocks.specs.declared.own.Own.{Own}
-use Rattle.realloc_calls.specs.declared.reallocated.Reallocated.{Reallocated}
+use Rattle.malloc_calls.specs.declared.reallocated.Reallocated.{Reallocated}
 use Rattle.own_blocks.specs.declared.reply.Reply.{Reply}
 use Rattle.own_blocks.specs.declared.reply.Reply.TheVariants.{Got, Kept, Null, NotYours}
 use Rattle.own_blocks.specs.declared.reply.Origin.{Origin}

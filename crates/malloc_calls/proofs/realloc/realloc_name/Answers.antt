@@ -2,11 +2,11 @@ use Rattle.std.proofs.Common.{◌≡◌, true, Some, refl, sym, subst, arith}
 use Rattle.block_names.specs.Names.{NameTable, has_place, block_at}
 use Rattle.block_names.proofs.Tables.{place_left}
 use Rattle.arena_holds.specs.Places.{both_of, in_cache}
-use Rattle.realloc_calls.specs.Reallocs.{realloc_in}
+use Rattle.malloc_calls.specs.Reallocs.{realloc_in}
 use Rattle.own_blocks.proofs.Calling.{own_unnamed, carries_renamed}
 use Rattle.arena_holds.proofs.Carrying.{served_fewer}
-use Rattle.realloc_calls.proofs.Resettlings.{settled_does, settled_left, holds_still, settled_fits}
-use Rattle.realloc_calls.proofs.realloc.realloc_name.Goals as goal
+use Rattle.malloc_calls.proofs.Resettlings.{settled_does, settled_left, holds_still, settled_fits}
+use Rattle.malloc_calls.proofs.realloc.realloc_name.Goals as goal
 
 pub realloc_block-requires-clause-served : goal.realloc_block-requires-clause-served
 realloc_block-requires-clause-served g c = λ k l.
