@@ -4,8 +4,8 @@ use Rattle.std.specs.Prelude.{vec_capacity, All, ◌==◌, filter, map, if◌the
 use Rattle.std.specs.Global.{Vec}
 use Rattle.std.specs.List.{flat_map}
 use Rattle.std.proofs.lemmas.Grind.{flat_map-append}
-use Rattle.record_lines.specs.Appends.{LacksRoom}
-use Rattle.record_lines.proofs.Rooms.{lacks_more}
+use Rattle.stats_text.specs.Appends.{LacksRoom}
+use Rattle.stats_text.proofs.Rooms.{lacks_more}
 use Rattle.stats_text.specs.Views.{Arena, lists_of}
 use Rattle.stats_text.specs.Totals.{arena_totals, all_arena_totals, in_list_order}
 use Rattle.stats_text.proofs.ListOrder.{at_first_places, next_place, all_places}

@@ -1,4 +1,7 @@
-pub use Rattle.record_lines.specs.Appends
+pub mod Appends
+pub mod Words
+pub mod Records
+pub mod AnswerCounts
 pub mod Views
 pub mod Report
 pub mod Totals

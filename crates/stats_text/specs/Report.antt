@@ -6,7 +6,7 @@ use Rattle.stats_text.specs.declared.views.Place.TheVariants.{Live, Cache, Struc
 use Rattle.stats_text.specs.declared.views.TileView.{TileView}
 use Rattle.stats_text.specs.declared.views.DialsView.{DialsView}
 use Rattle.stats_text.specs.Views.{Arena, CacheList, Shown}
-use Rattle.record_lines.specs.Words.{address, addresses, block_text}
+use Rattle.stats_text.specs.Words.{address, addresses, block_text}
 
 -- a number, or a dash where there is none
 unfoldable pub number_or_dash : Option ℕ → List ℕ

@@ -1,7 +1,7 @@
 -- The summary of a run: how many lines had which answers, and the totals (this project's own).
 use Rattle.std.specs.Prelude.{ℕ, List, ◌++◌, codes}
-use Rattle.record_lines.specs.declared.answer_counts.Counts.{Counts}
-use Rattle.record_lines.specs.AnswerCounts.{count_lines}
+use Rattle.stats_text.specs.declared.answer_counts.Counts.{Counts}
+use Rattle.stats_text.specs.AnswerCounts.{count_lines}
 use Rattle.stats_text.specs.Views.{Shown}
 use Rattle.stats_text.specs.Totals.{totals_of}
 

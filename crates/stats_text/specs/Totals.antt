@@ -6,7 +6,7 @@ use Rattle.stats_text.specs.declared.views.Place.TheVariants.{Live, Cache, Struc
 use Rattle.stats_text.specs.declared.views.TileView.{TileView}
 use Rattle.stats_text.specs.declared.views.DialsView.{DialsView}
 use Rattle.stats_text.specs.Views.{Arena, Shown}
-use Rattle.record_lines.specs.Words.{in_ten_places}
+use Rattle.stats_text.specs.Words.{in_ten_places}
 
 -- top, fast and binned chunks aren't in use
 abbrev pub is_idle_place : Place → Bool

@@ -3,11 +3,11 @@
 ghost use Rattle.std.specs.Prelude.{◌≡◌, ◌+◌, ◌≤◌, ◌++◌, codes, decimal, drop, length, OnOk, OnErr};
 ghost use Rattle.stats_text.specs.Views.{lists_of};
 ghost use Rattle.stats_text.specs.Report.{address_or_dash, place_text, tile_line, tile_lines, mapped_line, mapped_lines, numbered_list, bin_line, bin_lines, arena_extent, arena_line, arena_section, arena_sections, cache_line, cache_lines};
-ghost use Rattle.record_lines.specs.Appends.{LacksRoom, KeepsText};
+ghost use Rattle.stats_text.specs.Appends.{LacksRoom, KeepsText};
 
 use crate::views::{ArenaView, CacheView, Place, TileView};
 use chunk_tags::{Addr, NoMemory};
-use record_lines::{
+use crate::{
     push_address, push_addresses, push_number, push_numbered, push_text, put_block, put_number,
     put_text,
 };

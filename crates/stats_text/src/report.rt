@@ -2,12 +2,12 @@
 
 ghost use Rattle.std.specs.Prelude.{◌≡◌, ◌++◌, OnOk, OnErr, IfOk};
 ghost use Rattle.stats_text.specs.Report.{number_or_dash, numbers_or_dash, comma_numbers, thread_line, thread_lines, book_line, dials_line, state_lines, places_of};
-ghost use Rattle.record_lines.specs.Appends.{LacksRoom, KeepsText};
+ghost use Rattle.stats_text.specs.Appends.{LacksRoom, KeepsText};
 
 use crate::places::{push_arenas, push_caches, push_mapped_chunks};
 use crate::views::{DialsView, Snapshot};
 use chunk_tags::NoMemory;
-use record_lines::{push_number, push_numbered, push_text};
+use crate::{push_number, push_numbered, push_text};
 use std::alloc::Global;
 
 /// Appends a number, or a dash where there is none.

@@ -1,14 +1,14 @@
 //! The summary of a run, which stands in place of its report.
 
 ghost use Rattle.std.specs.Prelude.{◌≡◌, ◌++◌, OnOk, OnErr};
-ghost use Rattle.record_lines.specs.Appends.{LacksRoom, KeepsText};
+ghost use Rattle.stats_text.specs.Appends.{LacksRoom, KeepsText};
 ghost use Rattle.stats_text.specs.Totals.{HasTotals};
 ghost use Rattle.stats_text.specs.Summary.{summary_of};
 
 use crate::totals::append_totals;
 use crate::views::Snapshot;
 use chunk_tags::NoMemory;
-use record_lines::{Counts, push_counts, push_text};
+use crate::{Counts, push_counts, push_text};
 
 /// Appends a summary: the counts of the answers, and the five last lines of the statistics.
 #[tactic(auto, unfolding(crate::specs::Summary::summary_of))]

@@ -2,11 +2,11 @@
 
 ghost use Rattle.std.specs.Prelude.{◌≡◌, ◌≤◌, ◌<◌, ◌+◌, ◌^◌, ◌++◌, ◌==◌, All, filter, ℕ, IsPermutation, OnOk, OnErr, IfOk};
 ghost use Rattle.stats_text.specs.Totals.{HasTotals, AreWithinSystem, is_idle_place, in_use_of, idle_bytes_of, in_use_bytes_of, tile_bytes_of, system_bytes_of, used_bytes_of, total_line, bytes_lines, arena_totals, all_arena_totals, in_list_order, mapped_maxima, totals_lines, totals_of, statistics_of};
-ghost use Rattle.record_lines.specs.Appends.{LacksRoom, KeepsText};
+ghost use Rattle.stats_text.specs.Appends.{LacksRoom, KeepsText};
 
 use crate::views::{ArenaView, DialsView, Place, Snapshot, TileView};
 use chunk_tags::NoMemory;
-use record_lines::{push_numbered, push_right, push_text};
+use crate::{push_numbered, push_right, push_text};
 use std::alloc::Global;
 
 /// Whether a chunk's bytes aren't in use: top, fast and binned ones.

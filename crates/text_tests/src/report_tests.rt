@@ -6,7 +6,7 @@ ghost use Rattle.stats_text.specs.Totals.{HasTotals, AreWithinSystem, is_idle_pl
 
 use crate::snapshots;
 use chunk_tags::{Addr, NoMemory, Size};
-use record_lines::{Outcome, Record, Sink3, Source3, append_record, count_outcomes, record_line};
+use stats_text::{Outcome, Record, Sink3, Source3, append_record, count_outcomes, record_line};
 use stats_text::{
     ArenaView, Place, Snapshot, TileView, append_places, append_stats, append_summary,
     append_totals, in_use, places_text, stats_text,

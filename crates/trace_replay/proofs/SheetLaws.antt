@@ -2,12 +2,12 @@
 use Rattle.std.proofs.Common.{◌≡◌, ℕ, suc, ◌+◌, ◌^◌, ◌<◌, ◌≤◌, Bool, true, false, List, [], ◌∷◌, ◌++◌, length, refl, sym, ap, ◌∙◌, append_assoc, append-nil, arith}
 use Rattle.std.specs.Prelude.{codes}
 use Rattle.own_blocks.specs.declared.reply.Reply.{Reply}
-use Rattle.record_lines.specs.declared.records.Outcome.{Outcome}
-use Rattle.record_lines.specs.declared.answer_counts.Counts.{Counts}
-use Rattle.record_lines.specs.Appends.{LacksRoom}
-use Rattle.record_lines.specs.Records.{record_text}
-use Rattle.record_lines.specs.AnswerCounts.{gives_block, is_null, is_missed, is_skip, counts_of, count_with, counts_with}
-use Rattle.record_lines.proofs.CountLaws.{counts_push}
+use Rattle.stats_text.specs.declared.records.Outcome.{Outcome}
+use Rattle.stats_text.specs.declared.answer_counts.Counts.{Counts}
+use Rattle.stats_text.specs.Appends.{LacksRoom}
+use Rattle.stats_text.specs.Records.{record_text}
+use Rattle.stats_text.specs.AnswerCounts.{gives_block, is_null, is_missed, is_skip, counts_of, count_with, counts_with}
+use Rattle.stats_text.proofs.CountLaws.{counts_push}
 use Rattle.trace_text.specs.declared.trace.Line.{Line}
 use Rattle.trace_text.specs.Spelling.{spelling_of, texts_of}
 use Rattle.trace_replay.specs.declared.sheet.Records.{Records}

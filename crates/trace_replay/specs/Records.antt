@@ -9,13 +9,13 @@ use Rattle.own_blocks.specs.declared.reply.To.{To}
 use Rattle.own_blocks.specs.declared.reply.To.TheVariants as tos
 use Rattle.own_blocks.specs.declared.reply.Why.{Why}
 use Rattle.own_blocks.specs.declared.reply.Why.TheVariants as whys
-use Rattle.record_lines.specs.declared.records.Outcome.{Outcome}
-use Rattle.record_lines.specs.declared.records.Outcome.TheVariants as outcomes
-use Rattle.record_lines.specs.declared.records.Source3.{Source3}
-use Rattle.record_lines.specs.declared.records.Source3.TheVariants as sources
-use Rattle.record_lines.specs.declared.records.Sink3.{Sink3}
-use Rattle.record_lines.specs.declared.records.Sink3.TheVariants as sinks
-use Rattle.record_lines.specs.Records.{record_text}
+use Rattle.stats_text.specs.declared.records.Outcome.{Outcome}
+use Rattle.stats_text.specs.declared.records.Outcome.TheVariants as outcomes
+use Rattle.stats_text.specs.declared.records.Source3.{Source3}
+use Rattle.stats_text.specs.declared.records.Source3.TheVariants as sources
+use Rattle.stats_text.specs.declared.records.Sink3.{Sink3}
+use Rattle.stats_text.specs.declared.records.Sink3.TheVariants as sinks
+use Rattle.stats_text.specs.Records.{record_text}
 use Rattle.trace_text.specs.declared.trace.Call.{Call}
 use Rattle.trace_text.specs.declared.trace.Call.TheVariants as calls
 use Rattle.trace_text.specs.declared.trace.Line.{Line}

@@ -5,7 +5,7 @@ use Rattle.chunk_tags.specs.declared.tunables.Tunables.{Tunables}
 use Rattle.address_space.specs.Ports.{Port}
 use Rattle.stats_text.specs.Views.{Shown}
 use Rattle.stats_text.specs.Report.{places_of}
-use Rattle.record_lines.specs.AnswerCounts.{counts_of}
+use Rattle.stats_text.specs.AnswerCounts.{counts_of}
 use Rattle.stats_text.specs.Summary.{summary_of}
 use Rattle.stats_text.specs.Totals.{statistics_of}
 use Rattle.trace_text.specs.declared.trace.Line.{Line}

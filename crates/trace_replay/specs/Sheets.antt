@@ -2,9 +2,9 @@
 -- public clause cites this file.
 use Rattle.std.specs.Prelude.{◌≡◌, ℕ, ◌+◌, ◌^◌, ◌<◌, Bool, true, false, List, [], ◌∷◌, ◌++◌, length, codes, Result, Ok}
 use Rattle.own_blocks.specs.declared.reply.Reply.{Reply}
-use Rattle.record_lines.specs.declared.answer_counts.Counts.{Counts}
-use Rattle.record_lines.specs.Appends.{LacksRoom}
-use Rattle.record_lines.specs.AnswerCounts.{HasRoom, counts_of}
+use Rattle.stats_text.specs.declared.answer_counts.Counts.{Counts}
+use Rattle.stats_text.specs.Appends.{LacksRoom}
+use Rattle.stats_text.specs.AnswerCounts.{HasRoom, counts_of}
 use Rattle.stats_text.specs.Summary.{summary_of}
 use Rattle.stats_text.specs.Views.{Shown}
 use Rattle.trace_text.specs.declared.trace.Line.{Line}

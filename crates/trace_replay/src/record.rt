@@ -5,7 +5,7 @@ ghost use Rattle.trace_replay.specs.Records.{source_of, sink_of, null_of, hold_s
 
 use chunk_tags::{Addr, Size};
 use malloc_calls::{Origin, Reply, To, Why};
-use record_lines::{Outcome, Sink3, Source3};
+use stats_text::{Outcome, Sink3, Source3};
 use trace_text::Call;
 
 /// Where a block came from.

@@ -1,8 +1,8 @@
 //! What a run writes, line by line: the records of a report, or the counts of a summary.
 
 ghost use Rattle.std.specs.Prelude.{◌≡◌, ◌<◌, ◌^◌, ◌∷◌, ◌++◌, [], List, false, length, codes, IfOk, OnOk, OnErr};
-ghost use Rattle.record_lines.specs.Appends.{LacksRoom};
-ghost use Rattle.record_lines.specs.Records.{record_text};
+ghost use Rattle.stats_text.specs.Appends.{LacksRoom};
+ghost use Rattle.stats_text.specs.Records.{record_text};
 ghost use Rattle.stats_text.specs.Totals.{HasTotals};
 ghost use Rattle.trace_text.specs.Spelling.{spelling_of, texts_of};
 ghost use Rattle.trace_text.specs.declared.trace.Line.{Line};
@@ -11,7 +11,7 @@ ghost use Rattle.trace_replay.specs.Sheets.{IsTrace, HasNoted, Awaits, CanNote, 
 use crate::record::outcome;
 use chunk_tags::NoMemory;
 use malloc_calls::Reply;
-use record_lines::{Counts, Outcome, append_record};
+use stats_text::{Counts, Outcome, append_record};
 use stats_text::{Snapshot, append_places, append_stats, append_summary};
 use std::alloc::Global;
 use trace_text::{Line, Texts};

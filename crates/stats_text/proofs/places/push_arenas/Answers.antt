@@ -1,5 +1,5 @@
 use Rattle.stats_text.specs.Report.{arena_sections, arena_section}
-use Rattle.record_lines.proofs.Rooms.{when_err, lacks_more, kept_more}
+use Rattle.stats_text.proofs.Rooms.{when_err, lacks_more, kept_more}
 use Rattle.stats_text.proofs.places.push_arenas.Goals as goal
 
 pub returns-in_err-push_arena-clause-full : goal.returns-in_err-push_arena-clause-full

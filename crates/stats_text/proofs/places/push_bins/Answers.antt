@@ -1,5 +1,5 @@
 use Rattle.stats_text.specs.Report.{bin_lines, bin_line}
-use Rattle.record_lines.proofs.Rooms.{when_err, kept_more}
+use Rattle.stats_text.proofs.Rooms.{when_err, kept_more}
 use Rattle.stats_text.proofs.ArenaRooms.{lacks_lists}
 use Rattle.stats_text.proofs.places.push_bins.Goals as goal
 

@@ -1,5 +1,5 @@
 use Rattle.stats_text.specs.Report.{mapped_lines, mapped_line}
-use Rattle.record_lines.proofs.Rooms.{when_err, lacks_more, kept_more}
+use Rattle.stats_text.proofs.Rooms.{when_err, lacks_more, kept_more}
 use Rattle.stats_text.proofs.places.push_mapped_chunks.Goals as goal
 
 pub returns-in_err-push_mapped-clause-full : goal.returns-in_err-push_mapped-clause-full

@@ -1,5 +1,5 @@
 use Rattle.stats_text.specs.Report.{tile_lines, tile_line}
-use Rattle.record_lines.proofs.Rooms.{when_err, lacks_more, kept_more}
+use Rattle.stats_text.proofs.Rooms.{when_err, lacks_more, kept_more}
 use Rattle.stats_text.proofs.places.push_tiles.Goals as goal
 
 pub returns-in_err-push_tile-clause-full : goal.returns-in_err-push_tile-clause-full

@@ -1,7 +1,7 @@
 use Rattle.std.proofs.Common.{◌++◌}
 use Rattle.std.specs.Prelude.{codes, decimal}
 use Rattle.stats_text.specs.Report.{comma_numbers}
-use Rattle.record_lines.proofs.Rooms.{when_err, lacks_more, kept_more}
+use Rattle.stats_text.proofs.Rooms.{when_err, lacks_more, kept_more}
 use Rattle.stats_text.proofs.report.push_comma_numbers.Goals as goal
 
 pub returns-in_err-push_numbered-clause-full : goal.returns-in_err-push_numbered-clause-full

@@ -1,6 +1,6 @@
 use Rattle.std.proofs.Common.{refl}
 use Rattle.stats_text.specs.Report.{thread_lines, thread_line}
-use Rattle.record_lines.proofs.Rooms.{when_err, lacks_more, kept_more}
+use Rattle.stats_text.proofs.Rooms.{when_err, lacks_more, kept_more}
 use Rattle.stats_text.proofs.report.push_threads.Goals as goal
 
 pub returns-in_err-push_thread-clause-full : goal.returns-in_err-push_thread-clause-full

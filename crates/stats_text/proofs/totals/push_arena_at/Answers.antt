@@ -1,7 +1,7 @@
 use Rattle.std.proofs.Common.{◌≡◌, true, arith}
 use Rattle.std.specs.Prelude.{◌==◌}
 use Rattle.std.proofs.lemmas.Bool.Decides.{nat_tests}
-use Rattle.record_lines.proofs.Rooms.{when_err, kept_more}
+use Rattle.stats_text.proofs.Rooms.{when_err, kept_more}
 use Rattle.stats_text.proofs.ArenaRooms.{lacks_those}
 use Rattle.stats_text.proofs.totals.push_arena_at.Goals as goal
 

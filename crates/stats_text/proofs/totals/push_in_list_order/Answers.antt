@@ -2,7 +2,7 @@ use Rattle.std.proofs.Common.{◌+◌, ◌-◌, arith}
 use Rattle.std.proofs.lemmas.Grind.{common_steps}
 use Rattle.stats_text.specs.Totals.{all_arena_totals}
 use Rattle.stats_text.proofs.ListOrder.{no_place, next_place}
-use Rattle.record_lines.proofs.Rooms.{when_err, kept_more}
+use Rattle.stats_text.proofs.Rooms.{when_err, kept_more}
 use Rattle.stats_text.proofs.ArenaRooms.{lacks_first}
 use Rattle.stats_text.proofs.totals.push_in_list_order.Goals as goal
 

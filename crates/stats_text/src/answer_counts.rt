@@ -1,8 +1,8 @@
 //! The counts of answers, and their lines.
 
 ghost use Rattle.std.specs.Prelude.{◌≡◌, ◌++◌, [], OnOk, OnErr};
-ghost use Rattle.record_lines.specs.AnswerCounts.{HasRoom, counts_of, counts_with, count_line, count_lines};
-ghost use Rattle.record_lines.specs.Appends.{LacksRoom, KeepsText};
+ghost use Rattle.stats_text.specs.AnswerCounts.{HasRoom, counts_of, counts_with, count_line, count_lines};
+ghost use Rattle.stats_text.specs.Appends.{LacksRoom, KeepsText};
 
 use crate::records::Outcome;
 use crate::words::{push_numbered, push_text};

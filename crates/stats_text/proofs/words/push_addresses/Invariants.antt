@@ -1,7 +1,7 @@
 use Rattle.std.proofs.Common.{◌≡◌, ◌≤◌, ◌++◌, take}
 use Rattle.std.specs.Prelude.{vec_capacity}
-use Rattle.record_lines.specs.Words.{addresses}
-use Rattle.record_lines.proofs.words.push_addresses.Given as goal
+use Rattle.stats_text.specs.Words.{addresses}
+use Rattle.stats_text.proofs.words.push_addresses.Given as goal
 
 abbrev pub invariant-loop-at : goal.invariant-loop-at
 invariant-loop-at l = record {

@@ -5,7 +5,7 @@ use Rattle.std.specs.Global.{Vec}
 use Rattle.std.specs.List.{flat_map}
 use Rattle.std.proofs.lemmas.List.Folds.{length-flat_map-take}
 use Rattle.std.proofs.lemmas.List.{take-take, take_at}
-use Rattle.record_lines.specs.Appends.{LacksRoom, KeepsText}
+use Rattle.stats_text.specs.Appends.{LacksRoom, KeepsText}
 
 pub when_err : {A E P : Type 0} (r : Result A E) → P → OnErr r P
 when_err (Ok x) p = tt

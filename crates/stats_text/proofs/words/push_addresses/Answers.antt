@@ -1,8 +1,8 @@
 use Rattle.std.proofs.Common.{◌++◌}
 use Rattle.std.specs.Prelude.{codes}
-use Rattle.record_lines.specs.Words.{addresses, address}
-use Rattle.record_lines.proofs.Rooms.{when_err, lacks_more, kept_more}
-use Rattle.record_lines.proofs.words.push_addresses.Goals as goal
+use Rattle.stats_text.specs.Words.{addresses, address}
+use Rattle.stats_text.proofs.Rooms.{when_err, lacks_more, kept_more}
+use Rattle.stats_text.proofs.words.push_addresses.Goals as goal
 
 pub returns-in_err-push_spaced-clause-full : goal.returns-in_err-push_spaced-clause-full
 unfolding addresses

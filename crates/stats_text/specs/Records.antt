@@ -1,12 +1,12 @@
 -- The record lines: a line of the trace, ` -> `, the answer, and a newline (this project's own).
 use Rattle.std.specs.Prelude.{ℕ, zero, suc, Bool, true, false, Option, Some, None, List, [], ◌++◌, codes, decimal, if◌then◌else◌}
-use Rattle.record_lines.specs.declared.records.Outcome.{Outcome}
-use Rattle.record_lines.specs.declared.records.Outcome.TheVariants.{Got, Kept, Moved, Null, Freed, Posted, Taken, Missed, Skip, Ended}
-use Rattle.record_lines.specs.declared.records.Source3.{Source3}
-use Rattle.record_lines.specs.declared.records.Source3.TheVariants as sources
-use Rattle.record_lines.specs.declared.records.Sink3.{Sink3}
-use Rattle.record_lines.specs.declared.records.Sink3.TheVariants as sinks
-use Rattle.record_lines.specs.Words.{block_text}
+use Rattle.stats_text.specs.declared.records.Outcome.{Outcome}
+use Rattle.stats_text.specs.declared.records.Outcome.TheVariants.{Got, Kept, Moved, Null, Freed, Posted, Taken, Missed, Skip, Ended}
+use Rattle.stats_text.specs.declared.records.Source3.{Source3}
+use Rattle.stats_text.specs.declared.records.Source3.TheVariants as sources
+use Rattle.stats_text.specs.declared.records.Sink3.{Sink3}
+use Rattle.stats_text.specs.declared.records.Sink3.TheVariants as sinks
+use Rattle.stats_text.specs.Words.{block_text}
 
 -- where the hold stands in its arena's journal; only a report of threads shows it
 unfoldable pub hold_text : Bool → ℕ → List ℕ

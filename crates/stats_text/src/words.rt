@@ -2,8 +2,8 @@
 
 ghost use Rattle.std.specs.Prelude.{◌≡◌, ◌+◌, ◌-◌, ◌<◌, ◌≤◌, ◌∷◌, ◌++◌, drop, length, codes, OnOk, OnErr, false, decimal};
 ghost use Rattle.std.specs.Fmt.{digit_glyph};
-ghost use Rattle.record_lines.specs.Words.{hex_digits, address, addresses, block_text, blanks, in_ten_places};
-ghost use Rattle.record_lines.specs.Appends.{LacksRoom, KeepsText};
+ghost use Rattle.stats_text.specs.Words.{hex_digits, address, addresses, block_text, blanks, in_ten_places};
+ghost use Rattle.stats_text.specs.Appends.{LacksRoom, KeepsText};
 
 use chunk_tags::{Addr, NoMemory, Size};
 use itoa::{Buffer, write_digits};

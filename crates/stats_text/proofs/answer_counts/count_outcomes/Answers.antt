@@ -1,7 +1,7 @@
 use Rattle.std.proofs.Common.{◌-◌, ◌^◌, ◌<◌, length, take, sym, ◌∙◌, arith}
 use Rattle.std.proofs.lemmas.List.{length-take-le, take_more}
-use Rattle.record_lines.proofs.CountLaws.{counts_push, counts_room}
-use Rattle.record_lines.proofs.answer_counts.count_outcomes.Goals as goal
+use Rattle.stats_text.proofs.CountLaws.{counts_push, counts_room}
+use Rattle.stats_text.proofs.answer_counts.count_outcomes.Goals as goal
 
 pub add-requires : goal.add-requires
 add-requires c =

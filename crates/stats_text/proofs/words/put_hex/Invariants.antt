@@ -1,6 +1,6 @@
 use Rattle.std.proofs.Common.{◌≡◌, ◌+◌, ◌-◌, ◌++◌, drop}
-use Rattle.record_lines.specs.Words.{hex_digits}
-use Rattle.record_lines.proofs.words.put_hex.Given as goal
+use Rattle.stats_text.specs.Words.{hex_digits}
+use Rattle.stats_text.proofs.words.put_hex.Given as goal
 
 abbrev pub invariant-loop-done : goal.invariant-loop-done
 invariant-loop-done l = record {

@@ -3,7 +3,7 @@ use Rattle.std.proofs.Common.{◌≡◌, ℕ, zero, suc, ◌+◌, ◌-◌, ◌*�
 use Rattle.std.specs.Fmt.{digit_glyph, decimal}
 use Rattle.std.proofs.lemmas.Fmt.{length-decimal-le}
 use Rattle.std.proofs.Math.Pow.{field, mod-mod-pow}
-use Rattle.record_lines.specs.Words.{hex_digits}
+use Rattle.stats_text.specs.Words.{hex_digits}
 
 -- one digit more, where the code tests that the count is above 0
 pub one_more : (k n : ℕ) → 0 < k → hex_digits k n ≡ hex_digits (k - 1) (n / 16) ++ digit_glyph false (n % 16) ∷ []

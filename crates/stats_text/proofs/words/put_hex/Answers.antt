@@ -1,6 +1,6 @@
 use Rattle.std.proofs.Common.{arith, sym, ◌∙◌}
-use Rattle.record_lines.proofs.Digits.{next_digit, none_to_come}
-use Rattle.record_lines.proofs.words.put_hex.Goals as goal
+use Rattle.stats_text.proofs.Digits.{next_digit, none_to_come}
+use Rattle.stats_text.proofs.words.put_hex.Goals as goal
 
 pub loop-done-preserved : goal.loop-done-preserved
 loop-done-preserved c = record {

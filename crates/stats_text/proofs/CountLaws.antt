@@ -3,8 +3,8 @@ use Rattle.std.proofs.Common.{◌≡◌, ◌+◌, ◌-◌, ◌^◌, ◌<◌, ℕ
 use Rattle.std.specs.Prelude.{count_by}
 use Rattle.std.proofs.lemmas.List.Sums.{count_by-le-length, fold-append}
 use Rattle.std.proofs.lemmas.List.{length_push}
-use Rattle.record_lines.specs.declared.records.Outcome.{Outcome}
-use Rattle.record_lines.specs.AnswerCounts.{gives_block, is_null, is_missed, is_skip, counts_of, count_with, counts_with, HasRoom}
+use Rattle.stats_text.specs.declared.records.Outcome.{Outcome}
+use Rattle.stats_text.specs.AnswerCounts.{gives_block, is_null, is_missed, is_skip, counts_of, count_with, counts_with, HasRoom}
 
 added : (n : ℕ) (b : Bool) → n + cond b 1 0 ≡ count_with n b
 added n true = refl

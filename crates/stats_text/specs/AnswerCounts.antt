@@ -1,8 +1,8 @@
 -- The counts of answers, and their lines (this project's own).
 use Rattle.std.specs.Prelude.{ℕ, ◌+◌, ◌-◌, ◌^◌, ◌<◌, Bool, true, false, List, ◌++◌, length, count_by, codes, decimal, if◌then◌else◌}
-use Rattle.record_lines.specs.declared.records.Outcome.{Outcome}
-use Rattle.record_lines.specs.declared.records.Outcome.TheVariants.{Got, Kept, Moved, Null, Freed, Posted, Taken, Missed, Skip, Ended}
-use Rattle.record_lines.specs.declared.answer_counts.Counts.{Counts}
+use Rattle.stats_text.specs.declared.records.Outcome.{Outcome}
+use Rattle.stats_text.specs.declared.records.Outcome.TheVariants.{Got, Kept, Moved, Null, Freed, Posted, Taken, Missed, Skip, Ended}
+use Rattle.stats_text.specs.declared.answer_counts.Counts.{Counts}
 
 -- whether malloc, calloc, realloc or posix_memalign was answered by a block, wherever it is
 abbrev pub gives_block : Outcome → Bool

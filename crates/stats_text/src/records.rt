@@ -1,9 +1,9 @@
 //! The record lines: a line of the trace with its answer.
 
 ghost use Rattle.std.specs.Prelude.{◌≡◌, ◌+◌, ◌≤◌, ◌++◌, codes, drop, length, OnOk, OnErr, IfOk};
-ghost use Rattle.record_lines.specs.Words.{block_text};
-ghost use Rattle.record_lines.specs.Records.{hold_text, source_text, sink_text, kept_hold, null_word_of, missed_word_of, freed_text, answer_text, record_text};
-ghost use Rattle.record_lines.specs.Appends.{LacksRoom, KeepsText};
+ghost use Rattle.stats_text.specs.Words.{block_text};
+ghost use Rattle.stats_text.specs.Records.{hold_text, source_text, sink_text, kept_hold, null_word_of, missed_word_of, freed_text, answer_text, record_text};
+ghost use Rattle.stats_text.specs.Appends.{LacksRoom, KeepsText};
 
 use crate::words::{push_text, put_block, put_number, put_text};
 use chunk_tags::{Addr, NoMemory, Size};

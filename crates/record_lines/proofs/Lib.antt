@@ -1,3 +1,0 @@
-pub mod CountLaws
-pub mod Digits
-pub mod Rooms

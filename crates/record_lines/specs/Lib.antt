@@ -1,4 +1,0 @@
-pub mod Appends
-pub mod Words
-pub mod Records
-pub mod AnswerCounts
