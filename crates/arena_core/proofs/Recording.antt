@@ -26,8 +26,8 @@ use Rattle.arena_rules.proofs.Walks.{ends_as_walked, left_as_walked, reaches_beh
 use Rattle.consolidate_trim.specs.Holds.{Chunks, no_chunk, one_chunk, IsBacked, GivesUp, hold}
 use Rattle.consolidate_trim.proofs.HoldSteps.{hand_own}
 use Rattle.consolidate_trim.specs.Outside.{Means, Outside, AreApart, ways}
-use Rattle.search_steps.specs.Ledgers.{stage}
-use Rattle.search_steps.proofs.Lifting.{works_carries}
+use Rattle.arena_growth.specs.Ledgers.{stage}
+use Rattle.arena_growth.proofs.Lifting.{works_carries}
 use Rattle.arena_growth.specs.declared.found.Found.{Found}
 use Rattle.arena_growth.specs.declared.found.Found.TheVariants as finds
 use Rattle.arena_growth.specs.Asking.{Finds, FitsFound, found_of, beside_arena}

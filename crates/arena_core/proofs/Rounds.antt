@@ -25,14 +25,14 @@ use Rattle.arena_rules.proofs.Walks.{short_here}
 use Rattle.consolidate_trim.specs.FastHolds.{fast_hold, fast_ways, Empties, FastAnswers, FastDoes}
 use Rattle.consolidate_trim.specs.Holds.{no_chunk}
 use Rattle.consolidate_trim.specs.Outside.{Means, Outside, AreApart}
-use Rattle.search_steps.specs.declared.step.Step.{Step}
-use Rattle.search_steps.specs.declared.step.Step.TheVariants as steps
-use Rattle.search_steps.specs.Ledgers.{Stage, stage, Works, shelf, Near, near_ledger, fast_ledger, full, NearGoes, NearDoes}
-use Rattle.search_steps.specs.Steps.{Steps, step_of, chunks_taken}
-use Rattle.search_steps.proofs.Balance.{works_ok, works_short, loses_from, balances_here}
-use Rattle.search_steps.proofs.Lifting.{works_put, works_empties, shelf_part, fast_part, near_part}
-use Rattle.search_steps.proofs.Looks.{flag_reaches, flag_balances}
-use Rattle.search_steps.proofs.Parts.{Passes, passes_then, passes_as, passes_behind, works_after, short_behind_works}
+use Rattle.arena_growth.specs.declared.step.Step.{Step}
+use Rattle.arena_growth.specs.declared.step.Step.TheVariants as steps
+use Rattle.arena_growth.specs.Ledgers.{Stage, stage, Works, shelf, Near, near_ledger, fast_ledger, full, NearGoes, NearDoes}
+use Rattle.arena_growth.specs.Steps.{Steps, step_of, chunks_taken}
+use Rattle.arena_growth.proofs.Balance.{works_ok, works_short, loses_from, balances_here}
+use Rattle.arena_growth.proofs.Lifting.{works_put, works_empties, shelf_part, fast_part, near_part}
+use Rattle.arena_growth.proofs.Looks.{flag_reaches, flag_balances}
+use Rattle.arena_growth.proofs.Parts.{Passes, passes_then, passes_as, passes_behind, works_after, short_behind_works}
 use Rattle.arena_growth.specs.declared.found.Found.{Found}
 use Rattle.arena_growth.specs.declared.found.Found.TheVariants as finds
 use Rattle.arena_growth.specs.Asking.{IsReady, AllowsMaps, Finds, beside_arena}

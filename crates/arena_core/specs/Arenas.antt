@@ -12,8 +12,8 @@ use Rattle.arena_rules.specs.Rules.{Stop, block_of}
 use Rattle.arena_rules.specs.Walks.{Reaches, StopsShort}
 use Rattle.consolidate_trim.specs.Holds.{Chunks, no_chunk, one_chunk}
 use Rattle.consolidate_trim.specs.Outside.{Means, Outside, ways}
-use Rattle.search_steps.specs.Ledgers.{stage, Balances, Loses, full}
-use Rattle.search_steps.specs.Steps.{IsEnough}
+use Rattle.arena_growth.specs.Ledgers.{stage, Balances, Loses, full}
+use Rattle.arena_growth.specs.Steps.{IsEnough}
 use Rattle.arena_growth.specs.declared.found.Found.{Found}
 use Rattle.arena_growth.specs.declared.found.Found.TheVariants as finds
 use Rattle.arena_growth.specs.Asking.{found_of, chunks_found, beside_arena}

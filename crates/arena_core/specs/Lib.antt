@@ -1,7 +1,7 @@
 pub use Rattle.arena_rules.specs.PlainArena
 pub use Rattle.arena_rules.specs.Rules
 pub use Rattle.arena_rules.specs.Search
-pub use Rattle.search_steps.specs.Ledgers
+pub use Rattle.arena_growth.specs.Ledgers
 pub use Rattle.arena_growth.specs.Asking
 pub use Rattle.arena_growth.specs.FirstHeap
 pub mod Journal

@@ -10,7 +10,7 @@ ghost use Rattle.arena_rules.specs.PlainArena.{Plain};
 ghost use Rattle.arena_rules.specs.Rules.{windows_of};
 ghost use Rattle.consolidate_trim.specs.Holds.{IsBacked, no_chunk, one_chunk};
 ghost use Rattle.consolidate_trim.specs.Outside.{AreApart, means};
-ghost use Rattle.search_steps.specs.Ledgers.{stage};
+ghost use Rattle.arena_growth.specs.Ledgers.{stage};
 ghost use Rattle.arena_growth.specs.Asking.{IsSearchable, IsReady, AllowsMaps, beside_arena, found_of};
 ghost use Rattle.arena_growth.specs.FirstHeap.{closed_arena};
 ghost use Rattle.arena_growth.specs.declared.found.Found.TheVariants as finds;

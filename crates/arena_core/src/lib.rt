@@ -1,7 +1,7 @@
 //! The search for a chunk in an arena, what is given back to it, and the journal of its holds: `Arena::take` and
-//! `give`. A search goes through `searched` of arena_rules: `begin`, then in rounds `look` (of search_steps), and where
-//! these find nothing `ask_system` (of arena_growth).
-//! All of it stands on any `Moves`; the program's is `Ground` of arena_ground.
+//! `give`. A search goes through `searched` of arena_rules: `begin`, then in rounds `look`, and where
+//! these find nothing `ask_system`, all of arena_growth. The one promise: each hold adds one entry with exactly its answers,
+//! and the arena is what the replay of its journal gives (`replay`). All of it stands on any `Moves`; the program's is `Ground` of arena_ground.
 #![tactic(auto)]
 
 mod answers;

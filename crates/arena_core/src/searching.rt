@@ -6,7 +6,7 @@ ghost use Rattle.address_space.specs.Ports.{Rose};
 ghost use Rattle.address_space.specs.Spaces.{space_refusals};
 ghost use Rattle.arena_rules.specs.Search.{rounds, searched};
 ghost use Rattle.consolidate_trim.specs.Outside.{AreApart, means};
-ghost use Rattle.search_steps.specs.Ledgers.{stage};
+ghost use Rattle.arena_growth.specs.Ledgers.{stage};
 ghost use Rattle.arena_growth.specs.Asking.{IsSearchable, IsReady, AllowsMaps, Finds, FitsFound, beside_arena};
 ghost use Rattle.arena_growth.specs.Lacks.{Lacks, word_room};
 
@@ -17,7 +17,7 @@ use chunk_tags::{NoMemory, Size, Tunables};
 use consolidate_trim::consolidate;
 use fast_bins::FastPort;
 use mapped_chunks::Dials;
-use search_steps::{Step, ask_flag, begin, look};
+use arena_growth::{Step, ask_flag, begin, look};
 use thread_cache::Cache;
 
 /// How often the arena is consolidated where top doesn't suffice (this project's own).

@@ -22,13 +22,13 @@ use Rattle.arena_rules.specs.Walks.{Reaches}
 use Rattle.arena_rules.proofs.Walks.{reaches_here}
 use Rattle.consolidate_trim.specs.Holds.{no_chunk}
 use Rattle.consolidate_trim.specs.Outside.{Means, Outside}
-use Rattle.search_steps.specs.declared.step.Step.{Step}
-use Rattle.search_steps.specs.declared.step.Step.TheVariants as steps
-use Rattle.search_steps.proofs.BinnedLaws.{topped_balances}
-use Rattle.search_steps.specs.Ledgers.{Ledger, Stage, stage, Balances, full}
-use Rattle.search_steps.specs.Steps.{step_of, chunks_taken, topped}
-use Rattle.search_steps.proofs.Balance.{balances_here, balances_then, balances_as, works_ok}
-use Rattle.search_steps.proofs.Parts.{Passes, passes_then, passes_as, passes_behind, works_after, short_behind_works, passes_closed}
+use Rattle.arena_growth.specs.declared.step.Step.{Step}
+use Rattle.arena_growth.specs.declared.step.Step.TheVariants as steps
+use Rattle.arena_growth.proofs.BinnedLaws.{topped_balances}
+use Rattle.arena_growth.specs.Ledgers.{Ledger, Stage, stage, Balances, full}
+use Rattle.arena_growth.specs.Steps.{step_of, chunks_taken, topped}
+use Rattle.arena_growth.proofs.Balance.{balances_here, balances_then, balances_as, works_ok}
+use Rattle.arena_growth.proofs.Parts.{Passes, passes_then, passes_as, passes_behind, works_after, short_behind_works, passes_closed}
 use Rattle.arena_growth.specs.declared.found.Found.{Found}
 use Rattle.arena_growth.specs.declared.found.Found.TheVariants as finds
 use Rattle.arena_growth.specs.Asking.{IsMainReady, IsSearchable, AsksFor, Closes, Grows, Finds, took, chunks_found, beside_arena}

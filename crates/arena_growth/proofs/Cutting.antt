@@ -20,13 +20,13 @@ use Rattle.arena_rules.proofs.Walks.{reaches_here}
 use Rattle.consolidate_trim.specs.Holds.{no_chunk}
 use Rattle.consolidate_trim.specs.Outside.{Means, Outside}
 use Rattle.thread_cache.specs.Caches.{CacheValue}
-use Rattle.search_steps.specs.declared.step.Step.{Step}
-use Rattle.search_steps.specs.declared.step.Step.TheVariants as steps
-use Rattle.search_steps.specs.Ledgers.{Stage, stage, Balances, full, shelf}
-use Rattle.search_steps.specs.Steps.{step_of, chunks_taken, topped}
-use Rattle.search_steps.proofs.Balance.{works_ok}
-use Rattle.search_steps.proofs.BinnedLaws.{topped_balances}
-use Rattle.search_steps.proofs.Parts.{Passes, passes_behind, works_after, short_behind_works}
+use Rattle.arena_growth.specs.declared.step.Step.{Step}
+use Rattle.arena_growth.specs.declared.step.Step.TheVariants as steps
+use Rattle.arena_growth.specs.Ledgers.{Stage, stage, Balances, full, shelf}
+use Rattle.arena_growth.specs.Steps.{step_of, chunks_taken, topped}
+use Rattle.arena_growth.proofs.Balance.{works_ok}
+use Rattle.arena_growth.proofs.BinnedLaws.{topped_balances}
+use Rattle.arena_growth.proofs.Parts.{Passes, passes_behind, works_after, short_behind_works}
 use Rattle.arena_growth.specs.declared.found.Found.{Found}
 use Rattle.arena_growth.specs.declared.found.Found.TheVariants as finds
 use Rattle.arena_growth.specs.Asking.{IsReady, Grows, GrowsHeaps, CutsFromGrown, Finds, took, chunks_found, grown_of}

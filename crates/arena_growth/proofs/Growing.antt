@@ -23,9 +23,9 @@ use Rattle.arena_rules.specs.Walks.{Walks, here, idled, done, told as walked, Re
 use Rattle.arena_rules.proofs.Walks.{reaches_told, short_here}
 use Rattle.consolidate_trim.specs.Holds.{Chunks, no_chunk}
 use Rattle.consolidate_trim.specs.Outside.{Means, Outside, AnswerGoes, DeedGoes, ways}
-use Rattle.search_steps.specs.Ledgers.{Stage, stage, Works, full}
-use Rattle.search_steps.proofs.Balance.{balances_here, loses_from, works_short}
-use Rattle.search_steps.proofs.Parts.{Passes}
+use Rattle.arena_growth.specs.Ledgers.{Stage, stage, Works, full}
+use Rattle.arena_growth.proofs.Balance.{balances_here, loses_from, works_short}
+use Rattle.arena_growth.proofs.Parts.{Passes}
 use Rattle.arena_growth.specs.Asking.{IsSearchable, AsksFor, granted_answer, beside_arena}
 
 -- ---- the windows stay

@@ -26,9 +26,9 @@ use Rattle.arena_rules.proofs.Beside.{beside_sized, beside_moved_top}
 use Rattle.arena_rules.proofs.Walks.{reaches_here}
 use Rattle.consolidate_trim.specs.Holds.{no_chunk, IsBacked}
 use Rattle.consolidate_trim.specs.Outside.{Means, Outside}
-use Rattle.search_steps.specs.Ledgers.{Ledger, Stage, stage, Balances, Works, full}
-use Rattle.search_steps.proofs.Balance.{works_ok}
-use Rattle.search_steps.proofs.Parts.{Passes, passes_then, passes_as, passes_closed, works_after, short_behind_works, backed_balances}
+use Rattle.arena_growth.specs.Ledgers.{Ledger, Stage, stage, Balances, Works, full}
+use Rattle.arena_growth.proofs.Balance.{works_ok}
+use Rattle.arena_growth.proofs.Parts.{Passes, passes_then, passes_as, passes_closed, works_after, short_behind_works, backed_balances}
 use Rattle.arena_growth.specs.Asking.{IsReady, IsSearchable, AllowsMaps, AsksFor, Closes, GrowsHeaps, beside_arena, chunks_in, granted_answer, grown_of}
 use Rattle.arena_growth.proofs.Growing.{asked_passes, asked_short}
 

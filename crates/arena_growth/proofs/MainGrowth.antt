@@ -26,10 +26,10 @@ use Rattle.arena_rules.proofs.MainPlaces.{IsGrowth, break_grown, piece_grown as 
 use Rattle.arena_rules.proofs.Walks.{reaches_here}
 use Rattle.consolidate_trim.specs.Holds.{no_chunk, one_chunk, IsBacked, GivesUp, hold}
 use Rattle.consolidate_trim.specs.Outside.{Means, Outside}
-use Rattle.search_steps.specs.Ledgers.{Stage, stage, Balances, full}
-use Rattle.search_steps.proofs.Balance.{balances_here, works_ok}
-use Rattle.search_steps.proofs.Lifting.{works_carries}
-use Rattle.search_steps.proofs.Parts.{Passes, passes_then, passes_as, works_after, backed_balances}
+use Rattle.arena_growth.specs.Ledgers.{Stage, stage, Balances, full}
+use Rattle.arena_growth.proofs.Balance.{balances_here, works_ok}
+use Rattle.arena_growth.proofs.Lifting.{works_carries}
+use Rattle.arena_growth.proofs.Parts.{Passes, passes_then, passes_as, works_after, backed_balances}
 use Rattle.arena_growth.specs.Asking.{IsReady, IsMainReady, IsSearchable, AsksFor, Closes, Grows, beside_arena, chunks_in}
 use Rattle.arena_growth.proofs.Growing.{walks_windows, asked_passes, asked_short, IsGrowing, piece_is}
 

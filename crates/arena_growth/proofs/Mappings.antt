@@ -26,10 +26,10 @@ use Rattle.arena_rules.specs.Walks.{Reaches}
 use Rattle.arena_rules.proofs.Walks.{reaches_then, reaches_told, reaches_done, short_here, short_then}
 use Rattle.consolidate_trim.specs.Holds.{no_chunk}
 use Rattle.consolidate_trim.specs.Outside.{Means, AreApart}
-use Rattle.search_steps.specs.Ledgers.{stage, full, word_ledger}
-use Rattle.search_steps.proofs.Balance.{balances_here, loses_from, works_ok, works_short}
-use Rattle.search_steps.proofs.Lifting.{IsPart}
-use Rattle.search_steps.proofs.Parts.{Passes, passes_then}
+use Rattle.arena_growth.specs.Ledgers.{stage, full, word_ledger}
+use Rattle.arena_growth.proofs.Balance.{balances_here, loses_from, works_ok, works_short}
+use Rattle.arena_growth.proofs.Lifting.{IsPart}
+use Rattle.arena_growth.proofs.Parts.{Passes, passes_then}
 use Rattle.arena_growth.specs.Asking.{AsksMapping, AsksWhether, IsEnoughMapped, beside_arena}
 
 -- whole pages from a page on

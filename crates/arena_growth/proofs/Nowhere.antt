@@ -32,7 +32,7 @@ use Rattle.arena_rules.proofs.ChunkMoves.{own_from}
 use Rattle.arena_rules.proofs.MainPlaces.{IsGrowth, break_grown}
 use Rattle.arena_rules.proofs.Tops.{top_found}
 use Rattle.consolidate_trim.specs.Outside.{Means, Outside, AnswerGoes, ways}
-use Rattle.search_steps.specs.Ledgers.{Stage}
+use Rattle.arena_growth.specs.Ledgers.{Stage}
 use Rattle.arena_growth.specs.Asking.{IsReady, IsSearchable, found_of}
 use Rattle.arena_growth.specs.Asking as asked
 use Rattle.chunk_tags.specs.declared.refusals.NoMemory.{NoMemory}

@@ -14,10 +14,10 @@ use Rattle.arena_rules.specs.Growth.{mapping, maps_first, maps_else, grown, syst
 use Rattle.arena_rules.specs.Rules.{Rules, Stop}
 use Rattle.consolidate_trim.specs.Holds.{no_chunk}
 use Rattle.consolidate_trim.specs.Outside.{Means, Outside}
-use Rattle.search_steps.specs.Ledgers.{Stage, stage, full}
-use Rattle.search_steps.proofs.Balance.{works_ok}
-use Rattle.search_steps.proofs.Lifting.{works_put}
-use Rattle.search_steps.proofs.Parts.{Passes, passes_behind, works_after, short_behind_works}
+use Rattle.arena_growth.specs.Ledgers.{Stage, stage, full}
+use Rattle.arena_growth.proofs.Balance.{works_ok}
+use Rattle.arena_growth.proofs.Lifting.{works_put}
+use Rattle.arena_growth.proofs.Parts.{Passes, passes_behind, works_after, short_behind_works}
 use Rattle.arena_growth.specs.declared.found.Found.{Found}
 use Rattle.arena_growth.specs.declared.found.Found.TheVariants as finds
 use Rattle.arena_growth.specs.Asking.{IsReady, AsksMapping, AsksWhether, Finds, AllowsMaps, beside_arena}

@@ -24,8 +24,8 @@ use Rattle.arena_rules.specs.Growth as growth
 use Rattle.arena_rules.specs.Growth.{mapping, maps_first, closing}
 use Rattle.consolidate_trim.specs.Holds.{Chunks, no_chunk, IsBacked}
 use Rattle.consolidate_trim.specs.Outside.{Means, Outside}
-use Rattle.search_steps.specs.Ledgers.{Stage, stage, Works, full, word_ledger}
-use Rattle.search_steps.specs.Steps.{IsEnough}
+use Rattle.arena_growth.specs.Ledgers.{Stage, stage, Works, full, word_ledger}
+use Rattle.arena_growth.specs.Steps.{IsEnough}
 use Rattle.arena_growth.specs.declared.found.Found.{Found}
 use Rattle.arena_growth.specs.declared.found.Found.TheVariants.{InArena, InMapping, Nowhere}
 

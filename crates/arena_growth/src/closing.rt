@@ -6,7 +6,7 @@ ghost use Rattle.arena_rules.specs.PlainArena.{IsSound};
 ghost use Rattle.consolidate_trim.specs.Holds.{IsBacked};
 ghost use Rattle.consolidate_trim.specs.Outside.{AreApart, means};
 ghost use Rattle.consolidate_trim.specs.Lacks.{LacksRoom};
-ghost use Rattle.search_steps.specs.Ledgers.{stage};
+ghost use Rattle.arena_growth.specs.Ledgers.{stage};
 ghost use Rattle.arena_growth.specs.Asking.{Closes, CutsFromGrown, FitsFound, beside_arena, chunks_in};
 
 use crate::found::Found;
@@ -16,7 +16,7 @@ use chunk_tags::{Chunk, NoMemory, Size, Tunables};
 use consolidate_trim::release;
 use fast_bins::FastPort;
 use mapped_chunks::Dials;
-use search_steps::{Step, take_top};
+use crate::{Step, take_top};
 use thread_cache::Cache;
 
 /// Releases what is left of a closed top.

@@ -4,7 +4,7 @@ ghost use Rattle.std.specs.Prelude.{◌≡◌, false, IfOk, OnErr};
 ghost use Rattle.chunk_tags.specs.Sizes.{IsRequestSize};
 ghost use Rattle.arena_rules.specs.Growth.{has_top_for, piece_grown, main_grown, grown};
 ghost use Rattle.consolidate_trim.specs.Outside.{AreApart, means};
-ghost use Rattle.search_steps.specs.Ledgers.{stage};
+ghost use Rattle.arena_growth.specs.Ledgers.{stage};
 ghost use Rattle.arena_growth.specs.Asking.{IsSearchable, IsReady, IsMainReady, AllowsMaps, Grows, Finds, FitsFound, beside_arena};
 ghost use Rattle.arena_growth.specs.Lacks.{Lacks, word_room};
 
@@ -17,7 +17,7 @@ use arena_rules::{Moves, Said};
 use chunk_tags::{NoMemory, Size, Tunables};
 use fast_bins::FastPort;
 use mapped_chunks::Dials;
-use search_steps::has_top_for;
+use crate::has_top_for;
 use thread_cache::Cache;
 
 /// Where the break is refused, a piece is asked for, which becomes top.

@@ -5,7 +5,7 @@ ghost use Rattle.chunk_tags.specs.Sizes.{IsRequestSize};
 ghost use Rattle.arena_rules.specs.PlainArena.{is_main};
 ghost use Rattle.arena_rules.specs.Growth.{has_top_for, grown_again, maps_else, other_grown};
 ghost use Rattle.consolidate_trim.specs.Outside.{AreApart, means};
-ghost use Rattle.search_steps.specs.Ledgers.{stage};
+ghost use Rattle.arena_growth.specs.Ledgers.{stage};
 ghost use Rattle.arena_growth.specs.Asking.{IsSearchable, IsReady, AllowsMaps, GrowsHeaps, Finds, FitsFound, beside_arena};
 ghost use Rattle.arena_growth.specs.Lacks.{Lacks, word_room};
 

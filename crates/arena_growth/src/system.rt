@@ -6,7 +6,7 @@ ghost use Rattle.address_space.specs.Ports.{Rose};
 ghost use Rattle.address_space.specs.Spaces.{space_refusals};
 ghost use Rattle.arena_rules.specs.Growth.{has_top_for, grown, maps_else, system_asked};
 ghost use Rattle.consolidate_trim.specs.Outside.{AreApart, means};
-ghost use Rattle.search_steps.specs.Ledgers.{stage};
+ghost use Rattle.arena_growth.specs.Ledgers.{stage};
 ghost use Rattle.arena_growth.specs.Asking.{IsSearchable, IsReady, AllowsMaps, Finds, FitsFound, beside_arena};
 ghost use Rattle.arena_growth.specs.Lacks.{Lacks, word_room};
 

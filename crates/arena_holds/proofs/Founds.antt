@@ -39,7 +39,7 @@ use Rattle.arena_rules.proofs.Walks.{short_behind}
 use Rattle.consolidate_trim.specs.Holds.{Chunks, no_chunk, one_chunk}
 use Rattle.consolidate_trim.specs.Outside.{Means, Outside, ways}
 use Rattle.consolidate_trim.proofs.HoldSteps.{block_is, block_other}
-use Rattle.search_steps.specs.Ledgers.{Ledger, Stage, Loses, stage, full}
+use Rattle.arena_growth.specs.Ledgers.{Ledger, Stage, Loses, stage, full}
 use Rattle.arena_growth.specs.Asking.{beside_arena, found_of}
 use Rattle.arena_growth.specs.declared.found.Found.{Found}
 use Rattle.arena_growth.specs.declared.found.Found.TheVariants as finds

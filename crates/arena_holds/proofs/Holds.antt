@@ -22,7 +22,7 @@ use Rattle.mapped_chunks.specs.DialPorts.{Dialled}
 use Rattle.consolidate_trim.specs.Holds.{Chunks, no_chunk, one_chunk, IsBacked, times_cached}
 use Rattle.consolidate_trim.specs.Outside.{Means, Outside, ways}
 use Rattle.consolidate_trim.proofs.HoldSteps.{block_is, block_other}
-use Rattle.search_steps.specs.Ledgers.{stage}
+use Rattle.arena_growth.specs.Ledgers.{stage}
 use Rattle.arena_growth.specs.Asking.{IsReady, IsSearchable, AllowsMaps, beside_arena}
 use Rattle.arena_growth.specs.declared.found.Found.TheVariants as finds
 use Rattle.arena_core.specs.Arenas.{Held, held, Records, RecordsShort, FailsShort, GivesShort}

@@ -12,7 +12,7 @@ use Rattle.thread_cache.specs.Caches.{CacheValue}
 use Rattle.arena_rules.specs.MainPlaces.{covers}
 use Rattle.arena_rules.specs.Align.{aligned_block, size_with_lead}
 use Rattle.arena_rules.proofs.Covered.{covers_adds}
-use Rattle.search_steps.specs.Steps.{IsEnough}
+use Rattle.arena_growth.specs.Steps.{IsEnough}
 use Rattle.arena_growth.specs.Asking.{IsEnoughMapped}
 use Rattle.arena_core.specs.Arenas.{need_of}
 use Rattle.arena_core.specs.Replay.{chunk_at}

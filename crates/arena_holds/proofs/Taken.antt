@@ -18,7 +18,7 @@ use Rattle.realloc_align.specs.Calls as resizes
 use Rattle.realloc_align.specs.declared.to_size.Resized.{Resized}
 use Rattle.realloc_align.specs.declared.to_size.Resized.TheVariants as sizes
 use Rattle.realloc_align.specs.Resizes.{Spares}
-use Rattle.search_steps.specs.Ledgers.{stage, full}
+use Rattle.arena_growth.specs.Ledgers.{stage, full}
 use Rattle.arena_rules.specs.declared.said.Said.{Said}
 use Rattle.consolidate_trim.specs.Holds.{Chunks, no_chunk, one_chunk}
 use Rattle.consolidate_trim.specs.Outside.{Means, ways}
@@ -46,7 +46,7 @@ use Rattle.arena_holds.specs.Holding as holdings
 use Rattle.arena_holds.specs.Holding.{SearchesArena, SearchesHeld, block_mapped, Gives, Resizes, ResizesShort, block_in, block_behind}
 use Rattle.arena_holds.specs.Holding.{block_found as found_for}
 use Rattle.arena_holds.specs.Searching.{IsSearch, IsAligned, size_wanted}
-use Rattle.search_steps.specs.Steps.{IsEnough}
+use Rattle.arena_growth.specs.Steps.{IsEnough}
 use Rattle.block_names.specs.Blocks.{IsHeld}
 use Rattle.arena_holds.specs.Holding.{resized_to}
 use Rattle.arena_holds.specs.Places.{KeptArena, with_journal, PlaceWays, PlaceLaws, IsLent, IsServed, Carries, Setting, Standing, standing, Hands, both_of, weight_of, in_cache, as_chunk_of, as_mapped_byte}

@@ -13,7 +13,7 @@ use Rattle.arena_rules.specs.PlainArena.{Plain}
 use Rattle.arena_rules.specs.Rules.{block_of}
 use Rattle.consolidate_trim.specs.Holds.{no_chunk, one_chunk}
 use Rattle.consolidate_trim.specs.Outside.{Means}
-use Rattle.search_steps.specs.Steps.{IsEnough}
+use Rattle.arena_growth.specs.Steps.{IsEnough}
 use Rattle.arena_growth.specs.declared.found.Found.{Found}
 use Rattle.arena_growth.specs.declared.found.Found.TheVariants as finds
 use Rattle.arena_core.specs.Arenas.{Held, Records, RecordsShort, held, mapped_block, need_of}

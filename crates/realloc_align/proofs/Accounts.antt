@@ -16,9 +16,9 @@ use Rattle.arena_rules.proofs.Moved.{Moved, nothing}
 use Rattle.arena_rules.proofs.Walks.{reaches_here, reaches_then, reaches_behind, short_then, short_behind}
 use Rattle.consolidate_trim.specs.Holds.{Chunks, IsBacked, times_cached}
 use Rattle.consolidate_trim.specs.Outside.{Means, Outside}
-use Rattle.search_steps.specs.Ledgers.{Ledger, Stage, stage, Balances, Loses, Works, elsewhere, full}
-use Rattle.search_steps.proofs.Balance.{balances_then, balances_as, loses_then, works_short}
-use Rattle.search_steps.proofs.Parts.{renumbered, renumbered_short}
+use Rattle.arena_growth.specs.Ledgers.{Ledger, Stage, stage, Balances, Loses, Works, elsewhere, full}
+use Rattle.arena_growth.proofs.Balance.{balances_then, balances_as, loses_then, works_short}
+use Rattle.arena_growth.proofs.Parts.{renumbered, renumbered_short}
 use Rattle.arena_growth.specs.Asking.{Closes}
 use Rattle.realloc_align.specs.Resizes.{Comes, Spares}
 

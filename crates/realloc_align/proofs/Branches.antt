@@ -22,8 +22,8 @@ use Rattle.arena_rules.proofs.Bins.{once_self}
 use Rattle.arena_rules.proofs.Walks.{short_behind}
 use Rattle.consolidate_trim.specs.Holds.{no_chunk, one_chunk, IsBacked}
 use Rattle.consolidate_trim.specs.Outside.{Means, Outside}
-use Rattle.search_steps.specs.Ledgers.{Stage, stage, Balances, full}
-use Rattle.search_steps.proofs.Balance.{balances_then, balances_as}
+use Rattle.arena_growth.specs.Ledgers.{Stage, stage, Balances, full}
+use Rattle.arena_growth.proofs.Balance.{balances_then, balances_as}
 use Rattle.arena_growth.specs.declared.found.Found.{Found}
 use Rattle.arena_growth.specs.declared.found.Found.TheVariants.{InArena, InMapping, Nowhere}
 use Rattle.arena_growth.specs.Asking.{Finds, took, chunks_found}

@@ -15,9 +15,9 @@ use Rattle.arena_rules.proofs.ChunkMoves.{own_count, own_from, joined_behind_mov
 use Rattle.arena_rules.proofs.Own.{own_tile}
 use Rattle.arena_rules.proofs.Resizes.{cut_at, IsCutAt, joined_with_moved, joined_with_own, free_behind_fits}
 use Rattle.consolidate_trim.specs.Holds.{one_chunk}
-use Rattle.search_steps.specs.Ledgers.{Ledger, Stage, stage, Balances}
-use Rattle.search_steps.specs.Steps.{IsEnough}
-use Rattle.search_steps.proofs.Balance.{balances_then, balances_as}
+use Rattle.arena_growth.specs.Ledgers.{Ledger, Stage, stage, Balances}
+use Rattle.arena_growth.specs.Steps.{IsEnough}
+use Rattle.arena_growth.proofs.Balance.{balances_then, balances_as}
 use Rattle.arena_growth.specs.declared.found.Found.TheVariants.{InArena}
 use Rattle.arena_growth.specs.Asking.{took, FitsFound}
 use Rattle.realloc_align.specs.declared.cutting.Reshaped.{Reshaped}

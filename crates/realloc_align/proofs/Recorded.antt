@@ -11,8 +11,8 @@ use Rattle.arena_rules.specs.Align.{align_of}
 use Rattle.arena_rules.specs.PlainArena.{Plain}
 use Rattle.consolidate_trim.specs.Holds.{no_chunk, one_chunk}
 use Rattle.consolidate_trim.specs.Outside.{Means}
-use Rattle.search_steps.specs.Ledgers.{stage}
-use Rattle.search_steps.proofs.Balance.{balances_as}
+use Rattle.arena_growth.specs.Ledgers.{stage}
+use Rattle.arena_growth.proofs.Balance.{balances_as}
 use Rattle.arena_growth.specs.declared.found.Found.{Found}
 use Rattle.arena_growth.specs.declared.found.Found.TheVariants as finds
 use Rattle.arena_growth.specs.Asking.{Finds, beside_arena, found_of}

@@ -12,9 +12,9 @@ use Rattle.arena_rules.specs.Rules.{Rules, Stop}
 use Rattle.arena_rules.proofs.Walks.{left_as_walked, reaches_then, reaches_behind, short_then, short_behind}
 use Rattle.consolidate_trim.specs.Holds.{no_chunk, one_chunk, IsBacked}
 use Rattle.consolidate_trim.specs.Outside.{Means, Outside, ways}
-use Rattle.search_steps.specs.Ledgers.{Stage, full}
-use Rattle.search_steps.proofs.Balance.{balances_then, balances_as}
-use Rattle.search_steps.proofs.Parts.{renumbered, renumbered_short}
+use Rattle.arena_growth.specs.Ledgers.{Stage, full}
+use Rattle.arena_growth.proofs.Balance.{balances_then, balances_as}
+use Rattle.arena_growth.proofs.Parts.{renumbered, renumbered_short}
 use Rattle.arena_growth.specs.declared.found.Found.{Found}
 use Rattle.arena_growth.specs.declared.found.Found.TheVariants.{InArena, InMapping, Nowhere}
 use Rattle.arena_growth.specs.Asking.{Closes, took, chunks_in}

@@ -25,10 +25,10 @@ use Rattle.fast_bins.specs.FastPorts.{Fast}
 use Rattle.consolidate_trim.specs.Holds.{no_chunk, one_chunk, IsBacked}
 use Rattle.consolidate_trim.specs.Outside.{Means, Outside}
 use Rattle.consolidate_trim.proofs.HoldSteps.{hand_own}
-use Rattle.search_steps.specs.Ledgers.{Stage, stage, Balances, Works, full}
-use Rattle.search_steps.specs.Steps.{IsEnough}
-use Rattle.search_steps.proofs.Balance.{works_ok, balances_as}
-use Rattle.search_steps.proofs.Parts.{short_behind_works}
+use Rattle.arena_growth.specs.Ledgers.{Stage, stage, Balances, Works, full}
+use Rattle.arena_growth.specs.Steps.{IsEnough}
+use Rattle.arena_growth.proofs.Balance.{works_ok, balances_as}
+use Rattle.arena_growth.proofs.Parts.{short_behind_works}
 use Rattle.arena_growth.specs.declared.found.Found.{Found}
 use Rattle.arena_growth.specs.declared.found.Found.TheVariants.{InArena, InMapping}
 use Rattle.arena_growth.specs.Asking.{Closes, Finds, IsEnoughMapped, took, chunks_found}

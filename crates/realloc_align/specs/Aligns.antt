@@ -10,8 +10,8 @@ use Rattle.arena_rules.specs.Moves.{parted}
 use Rattle.arena_rules.specs.Rules.{Rules}
 use Rattle.consolidate_trim.specs.Holds.{one_chunk}
 use Rattle.consolidate_trim.specs.Outside.{Means, Outside}
-use Rattle.search_steps.specs.Ledgers.{Stage, stage, Works, full}
-use Rattle.search_steps.specs.Steps.{IsEnough}
+use Rattle.arena_growth.specs.Ledgers.{Stage, stage, Works, full}
+use Rattle.arena_growth.specs.Steps.{IsEnough}
 use Rattle.arena_growth.specs.declared.found.Found.{Found}
 use Rattle.arena_growth.specs.declared.found.Found.TheVariants.{InArena, InMapping, Nowhere}
 use Rattle.arena_growth.specs.Asking.{Closes}

@@ -10,8 +10,8 @@ use Rattle.arena_rules.specs.Rules.{block_of}
 use Rattle.arena_rules.specs.Walks.{StopsShort}
 use Rattle.consolidate_trim.specs.Holds.{no_chunk, one_chunk}
 use Rattle.consolidate_trim.specs.Outside.{Means, ways}
-use Rattle.search_steps.specs.Ledgers.{stage, full}
-use Rattle.search_steps.specs.Steps.{IsEnough}
+use Rattle.arena_growth.specs.Ledgers.{stage, full}
+use Rattle.arena_growth.specs.Steps.{IsEnough}
 use Rattle.arena_growth.specs.declared.found.Found.{Found}
 use Rattle.arena_growth.specs.declared.found.Found.TheVariants as finds
 use Rattle.arena_growth.specs.Asking.{found_of}

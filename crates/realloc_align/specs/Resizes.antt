@@ -16,7 +16,7 @@ use Rattle.arena_rules.specs.Resize.{front_of, back_of, is_next_to, joined_with,
 use Rattle.arena_rules.specs.Walks.{Reaches, StopsShort, Performs}
 use Rattle.consolidate_trim.specs.Holds.{Chunks, one_chunk, KeepsOthers}
 use Rattle.consolidate_trim.specs.Outside.{Means, Outside, ways}
-use Rattle.search_steps.specs.Ledgers.{Ledger, Stage, Balances, KeepsCached, elsewhere, full}
+use Rattle.arena_growth.specs.Ledgers.{Ledger, Stage, Balances, KeepsCached, elsewhere, full}
 use Rattle.arena_growth.specs.declared.found.Found.{Found}
 use Rattle.arena_growth.specs.declared.found.Found.TheVariants.{InArena, InMapping, Nowhere}
 use Rattle.arena_growth.specs.Asking.{took}

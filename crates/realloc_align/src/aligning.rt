@@ -10,8 +10,8 @@ ghost use Rattle.arena_rules.specs.Align.{IsAlignment, bytes_past, align_of, ali
 ghost use Rattle.consolidate_trim.specs.Holds.{IsBacked, one_chunk};
 ghost use Rattle.consolidate_trim.specs.Outside.{AreApart, means};
 ghost use Rattle.consolidate_trim.specs.Lacks.{LacksRoom};
-ghost use Rattle.search_steps.specs.Ledgers.{stage};
-ghost use Rattle.search_steps.specs.Steps.{IsEnough};
+ghost use Rattle.arena_growth.specs.Ledgers.{stage};
+ghost use Rattle.arena_growth.specs.Steps.{IsEnough};
 ghost use Rattle.arena_growth.specs.Asking.{IsSearchable, IsReady, AllowsMaps, Finds, beside_arena};
 ghost use Rattle.arena_growth.specs.Lacks.{Lacks, word_room};
 ghost use Rattle.realloc_align.specs.Aligns.{AlignsChunk, CutsLead, FitsAt, FitsAligned};

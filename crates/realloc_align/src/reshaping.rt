@@ -8,7 +8,7 @@ ghost use Rattle.arena_rules.specs.PlainArena.{IsSound, is_own};
 ghost use Rattle.arena_rules.specs.Resize.{fits_with_top, fits_with_free, is_next_to};
 ghost use Rattle.consolidate_trim.specs.Holds.{IsBacked, one_chunk};
 ghost use Rattle.consolidate_trim.specs.Outside.{AreApart, means};
-ghost use Rattle.search_steps.specs.Ledgers.{stage};
+ghost use Rattle.arena_growth.specs.Ledgers.{stage};
 ghost use Rattle.arena_growth.specs.Asking.{IsSearchable, IsReady, AllowsMaps, FitsFound, beside_arena};
 ghost use Rattle.arena_growth.specs.Lacks.{Lacks, word_room};
 ghost use Rattle.realloc_align.specs.Resizes.{Reshapes, placed_of, arena_placed};

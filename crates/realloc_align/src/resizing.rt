@@ -7,7 +7,7 @@ ghost use Rattle.address_space.specs.Spaces.{space_refusals};
 ghost use Rattle.consolidate_trim.specs.Holds.{IsBacked, one_chunk};
 ghost use Rattle.consolidate_trim.specs.Outside.{AreApart, means};
 ghost use Rattle.consolidate_trim.specs.Lacks.{LacksRoom};
-ghost use Rattle.search_steps.specs.Ledgers.{stage};
+ghost use Rattle.arena_growth.specs.Ledgers.{stage};
 ghost use Rattle.arena_growth.specs.Asking.{IsSearchable, IsReady, AllowsMaps, Closes, FitsFound, beside_arena, chunks_in};
 ghost use Rattle.arena_growth.specs.Lacks.{Lacks, word_room};
 ghost use Rattle.realloc_align.specs.Resizes.{Resizes};

@@ -7,7 +7,7 @@ ghost use Rattle.address_space.specs.Spaces.{space_refusals};
 ghost use Rattle.arena_rules.specs.PlainArena.{Plain};
 ghost use Rattle.consolidate_trim.specs.Holds.{IsBacked, one_chunk};
 ghost use Rattle.consolidate_trim.specs.Outside.{AreApart, means};
-ghost use Rattle.search_steps.specs.Ledgers.{stage};
+ghost use Rattle.arena_growth.specs.Ledgers.{stage};
 ghost use Rattle.arena_growth.specs.Asking.{IsSearchable, IsReady, AllowsMaps, beside_arena};
 ghost use Rattle.arena_core.specs.Arenas.{held};
 ghost use Rattle.arena_core.specs.Replay.{IsReplay, chunk_at};

@@ -1,4 +1,4 @@
-use Rattle.search_steps.specs.declared.step.Step.TheVariants.{Taken, Onward}
+use Rattle.arena_growth.specs.declared.step.Step.TheVariants.{Taken, Onward}
 use Rattle.arena_growth.proofs.Cutting.{cuts}
 use Rattle.arena_growth.proofs.closing.cut_from_grown.Goals as goal
 

@@ -1,4 +1,4 @@
-use Rattle.search_steps.proofs.Balance.{works_ok}
+use Rattle.arena_growth.proofs.Balance.{works_ok}
 use Rattle.arena_growth.specs.declared.found.Found.TheVariants.{InArena, InMapping, Nowhere}
 use Rattle.realloc_align.proofs.Accounts.{works_comes}
 use Rattle.realloc_align.proofs.Tails.{aligned_found, aligned_short, found_comes, search_short, found_hand, mapped_fits}
