@@ -7,13 +7,13 @@ use Rattle.chunk_tags.specs.declared.tunables.Tunables.{Tunables}
 use Rattle.address_space.specs.Ports.{Port}
 use Rattle.address_space.specs.declared.space.Space.{Space}
 use Rattle.arena_rules.specs.declared.said.Said.{Said}
-use Rattle.arena_rules.specs.PlainArena.{Plain}
+use Rattle.arena_rules.specs.PlainArena.{Plain, IsSound}
 use Rattle.arena_rules.specs.Growth.{Took, opened}
 use Rattle.arena_rules.specs.Rules.{Rules, Stop, Misfit, Asks, end_of_rules}
 use Rattle.arena_rules.specs.Walks as walks
 use Rattle.arena_rules.specs.Walks.{Walks, Reaches}
 use Rattle.arena_rules.proofs.Walks.{short_here, walks_behind, walks_end}
-use Rattle.arena_growth.specs.FirstHeap.{asked_ways, closed_arena, Opens}
+use Rattle.arena_growth.specs.FirstHeap.{asked_ways, closed_arena, Opens, HasFirstHeap}
 use Rattle.arena_core.specs.declared.journal.Act.TheVariants.{Open}
 use Rattle.arena_core.specs.declared.journal.Ended.TheVariants.{Done}
 use Rattle.arena_core.specs.declared.journal.Who.{Who}
@@ -47,9 +47,17 @@ opened_replay port t who number bytes b s z said other most reaches =
     let possible : is_possible t (recorded who (Open bytes) said Done) a ≡ true = ap (λ (x : Bool). x && tells_others a begins (rules_of t (Open bytes) a) said) may ∙ tells in
     record { gives = ap (λ (x : Bool). cond x (arena_ended (Open bytes) Done (end_of_rules t (rules_of t (Open bytes) a) said)) None) possible ∙ ap (arena_ended (Open bytes) Done) ends }
 
-pub opens_as : {M K : Type 0} (plain : M → Plain) (port : Port K) (t : Tunables) (who : Who) (number bytes : ℕ) (g : M) (journal : List Recorded) (s z : Space K) (said : List Said) → Opens plain port t number bytes s [] (Ok (Some g)) z said → journal ≡ recorded who (Open bytes) said Done ∷ [] →
-    OpensAs plain port t who number bytes s g journal z
-opens_as plain port t who number bytes g journal s z said o is = record { said = said; walks = o.walks; sound = o.sound; first = o.first; windows = o.windows; journal_is = is }
+-- by what the arena is, however it is kept
+pub opens_as : {M N K : Type 0} (plain : M → Plain) (kept : N → Plain) (port : Port K) (t : Tunables) (who : Who) (number bytes : ℕ) (g : M) (n : N) (journal : List Recorded) (s z : Space K) (said : List Said) → kept n ≡ plain g →
+    Opens kept port t number bytes s [] (Ok (Some n)) z said → journal ≡ recorded who (Open bytes) said Done ∷ [] → OpensAs plain port t who number bytes s g journal z
+opens_as plain kept port t who number bytes g n journal s z said same o is = record {
+  said = said;
+  walks = subst (λ (a : Plain). Reaches t (asked_ways port) (opened t bytes (closed_arena t number)) s [] (Stop (Some a)) said z) same o.walks;
+  sound = subst IsSound same o.sound;
+  first = subst (HasFirstHeap t number) same o.first;
+  windows = o.windows;
+  journal_is = is;
+}
 
 pub opens_none : {M K : Type 0} (plain : M → Plain) (port : Port K) (t : Tunables) (number bytes : ℕ) (s z : Space K) (said : List Said) → let none : Option M = None in
     Opens plain port t number bytes s [] (Ok none) z said → RefusesOpening port t number bytes s z
