@@ -11,13 +11,12 @@ ghost use Rattle.arena_growth.specs.Asking.{IsSearchable, IsReady, AllowsMaps, F
 ghost use Rattle.arena_growth.specs.Lacks.{Lacks, word_room};
 
 use address_space::{Kernel, Space};
-use arena_growth::{Found, ask_system};
+use arena_growth::{Found, Step, ask_flag, ask_system, begin, look};
 use arena_rules::{Moves, Said};
 use chunk_tags::{NoMemory, Size, Tunables};
 use consolidate_trim::consolidate;
 use fast_bins::FastPort;
 use mapped_chunks::Dials;
-use arena_growth::{Step, ask_flag, begin, look};
 use thread_cache::Cache;
 
 /// How often the arena is consolidated where top doesn't suffice (this project's own).

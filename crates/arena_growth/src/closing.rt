@@ -10,13 +10,13 @@ ghost use Rattle.arena_growth.specs.Ledgers.{stage};
 ghost use Rattle.arena_growth.specs.Asking.{Closes, CutsFromGrown, FitsFound, beside_arena, chunks_in};
 
 use crate::found::Found;
+use crate::{Step, take_top};
 use address_space::{Kernel, Space};
 use arena_rules::{Moves, Said};
 use chunk_tags::{Chunk, NoMemory, Size, Tunables};
 use consolidate_trim::release;
 use fast_bins::FastPort;
 use mapped_chunks::Dials;
-use crate::{Step, take_top};
 use thread_cache::Cache;
 
 /// Releases what is left of a closed top.

@@ -12,12 +12,12 @@ use crate::closing::{close, cut_from_grown};
 use crate::found::Found;
 use crate::grow_heaps::grow_other;
 use crate::growth::{ask_break, ask_piece, growth_for, piece_for};
+use crate::has_top_for;
 use address_space::{Kernel, Space};
 use arena_rules::{Moves, Said};
 use chunk_tags::{NoMemory, Size, Tunables};
 use fast_bins::FastPort;
 use mapped_chunks::Dials;
-use crate::has_top_for;
 use thread_cache::Cache;
 
 /// Where the break is refused, a piece is asked for, which becomes top.

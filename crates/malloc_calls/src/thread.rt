@@ -31,6 +31,7 @@ ghost use Rattle.own_blocks.specs.Own.{cached_for, cached_malloc_of, cached_end,
 ghost use Rattle.malloc_calls.specs.Threads.{new_thread, number_of, who_of, own_of, with_own, with_names, names_of, space_of, IsSpaceOf};
 
 use crate::malloc::{calloc, malloc, posix_memalign};
+use crate::realloc::realloc;
 use address_space::{Kernel, Space};
 use arena_core::Who;
 use arena_holds::Places;
@@ -39,7 +40,6 @@ use chunk_tags::{Addr, Block, NoMemory, Tunables};
 use own_blocks::exit::exit;
 use own_blocks::free::free;
 use own_blocks::{CachedFree, Own, Reply};
-use crate::realloc::realloc;
 use std::alloc::Global;
 use thread_cache::Cache;
 

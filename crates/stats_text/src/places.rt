@@ -6,11 +6,11 @@ ghost use Rattle.stats_text.specs.Report.{address_or_dash, place_text, tile_line
 ghost use Rattle.stats_text.specs.Appends.{LacksRoom, KeepsText};
 
 use crate::views::{ArenaView, CacheView, Place, TileView};
-use chunk_tags::{Addr, NoMemory};
 use crate::{
     push_address, push_addresses, push_number, push_numbered, push_text, put_block, put_number,
     put_text,
 };
+use chunk_tags::{Addr, NoMemory};
 
 /// Appends a chunk's user address, or a dash where there is none.
 #[tactic(auto, unfolding(crate::specs::Report::address_or_dash))]

@@ -6,8 +6,8 @@ ghost use Rattle.stats_text.specs.Appends.{LacksRoom, KeepsText};
 
 use crate::places::{push_arenas, push_caches, push_mapped_chunks};
 use crate::views::{DialsView, Snapshot};
-use chunk_tags::NoMemory;
 use crate::{push_number, push_numbered, push_text};
+use chunk_tags::NoMemory;
 use std::alloc::Global;
 
 /// Appends a number, or a dash where there is none.

@@ -7,8 +7,8 @@ ghost use Rattle.stats_text.specs.Summary.{summary_of};
 
 use crate::totals::append_totals;
 use crate::views::Snapshot;
-use chunk_tags::NoMemory;
 use crate::{Counts, push_counts, push_text};
+use chunk_tags::NoMemory;
 
 /// Appends a summary: the counts of the answers, and the five last lines of the statistics.
 #[tactic(auto, unfolding(crate::specs::Summary::summary_of))]

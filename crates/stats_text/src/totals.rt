@@ -5,8 +5,8 @@ ghost use Rattle.stats_text.specs.Totals.{HasTotals, AreWithinSystem, is_idle_pl
 ghost use Rattle.stats_text.specs.Appends.{LacksRoom, KeepsText};
 
 use crate::views::{ArenaView, DialsView, Place, Snapshot, TileView};
-use chunk_tags::NoMemory;
 use crate::{push_numbered, push_right, push_text};
+use chunk_tags::NoMemory;
 use std::alloc::Global;
 
 /// Whether a chunk's bytes aren't in use: top, fast and binned ones.

@@ -6,10 +6,10 @@ ghost use Rattle.stats_text.specs.Totals.{HasTotals, AreWithinSystem, is_idle_pl
 
 use crate::snapshots;
 use chunk_tags::{Addr, NoMemory, Size};
-use stats_text::{Outcome, Record, Sink3, Source3, append_record, count_outcomes, record_line};
 use stats_text::{
-    ArenaView, Place, Snapshot, TileView, append_places, append_stats, append_summary,
-    append_totals, in_use, places_text, stats_text,
+    ArenaView, Outcome, Place, Record, Sink3, Snapshot, Source3, TileView, append_places,
+    append_record, append_stats, append_summary, append_totals, count_outcomes, in_use,
+    places_text, record_line, stats_text,
 };
 use std::alloc::Global;
 use std::process::Abort;

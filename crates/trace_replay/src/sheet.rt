@@ -11,8 +11,9 @@ ghost use Rattle.trace_replay.specs.Sheets.{IsTrace, HasNoted, Awaits, CanNote, 
 use crate::record::outcome;
 use chunk_tags::NoMemory;
 use malloc_calls::Reply;
-use stats_text::{Counts, Outcome, append_record};
-use stats_text::{Snapshot, append_places, append_stats, append_summary};
+use stats_text::{
+    Counts, Outcome, Snapshot, append_places, append_record, append_stats, append_summary,
+};
 use std::alloc::Global;
 use trace_text::{Line, Texts};
 

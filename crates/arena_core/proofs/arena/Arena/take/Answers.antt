@@ -24,8 +24,8 @@ returns-in-Err-clause-replay g c = λ start old.
     let found = rw c.in_ok-said.ensures.empty at c.in-Err.ensures.finds in
     let added = rw c.in_ok-said.ensures.items at c.append-in-Err.ensures in
     let short = subst (λ m. RecordsShort (means g.P.FastPort.fast g.P.Dials.dials g.K.Kernel.port) c.args.t.now c.args.who (Take c.args.nb) (held (g.M.Moves.plain m) c.args.port.now c.args.cache.now c.args.space.now c.args.self.now.journal.items) no_chunk (held (g.M.Moves.plain c.search.new.g) c.search.new.port c.search.new.cache c.search.new.space c.append-in-Err.new.self.items))
-        c.as_mut.ensures.value
-        (takes_short _ c.args.t.now c.args.who c.args.nb _ _ _ _ _ _ _ _ _ _ _ c.in-Err.field-0 found added) in
+    c.as_mut.ensures.value
+    (takes_short _ c.args.t.now c.args.who c.args.nb _ _ _ _ _ _ _ _ _ _ _ c.in-Err.field-0 found added) in
     short_replay start (can_take _ c.args.nb _ (rw c.as_ref.ensures at c.top_law.ensures) c.requires.size c.requires.apart c.requires.ready.backed) (inr short) old
 
 pub returns-in-Ok-clause-fits : goal.returns-in-Ok-clause-fits
