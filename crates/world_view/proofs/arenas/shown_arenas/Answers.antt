@@ -13,4 +13,5 @@ loop-index-preserved c =
     let within : c.loop-index.index < length c.args.arenas.now = omega arith in
     one_more (found_by_address c.args.found.now) c.args.list.now (map (λ v. v.items) c.args.lists.now) (plains_of c.args.arenas.now) c.loop-index.index
     _ _ _ _ _ _ c.loop-index.invariant (first_left c.args.arenas.now c.loop-index.index c.index-arenas-index.result within c.index-arenas-index.is)
-    c.in_ok-push.ensures.items c.in_ok-arena_view.ensures.shown c.in_ok-arena_view.ensures.idle c.in_ok-arena_view.ensures.fits
+    c.in_ok-push.ensures.items (rw c.as_ref.ensures at c.in_ok-arena_view.ensures.shown) c.in_ok-arena_view.ensures.idle
+    c.in_ok-arena_view.ensures.fits
