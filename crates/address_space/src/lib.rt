@@ -1,5 +1,6 @@
 //! The modelled address space: what a kernel is asked, ports that stand for kernels, and the windows
-//! that a thread's asks must not pass. All of it is this project's own.
+//! that a thread's asks must not pass. All of it is this project's own. The one promise: an ask is put to the port exactly
+//! where it passes no window, and the answer is the port's.
 #![tactic(auto)]
 
 mod asks;

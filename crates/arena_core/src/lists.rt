@@ -10,7 +10,7 @@ use crate::reading::Entries;
 use address_space::{Answer, Ask};
 use arena_rules::Said;
 use chunk_tags::NoMemory;
-use list_room::make_room_for;
+use list_laws::make_room_for;
 use std::alloc::Global;
 use std::marker::Model;
 use std::mem;

@@ -13,8 +13,8 @@ use Rattle.chunk_tags.specs.declared.tiles.Tile.{Tile}
 use Rattle.chunk_tags.specs.declared.tiles.TileKind.TheVariants.{Free}
 use Rattle.part_words.specs.Extents.{Extent, IsOpen}
 use Rattle.chunk_image.specs.Rows.{IsRoom}
-use Rattle.bin_links.specs.Lists.{times_in as times_at, times_listed as times_linked, without as apart_from, last_of, list_at}
-use Rattle.bin_links.proofs.ListLaws.{times_in-cons, times_listed-cons, in_here, in_more}
+use Rattle.ordinary_bins.specs.Lists.{times_in as times_at, times_listed as times_linked, without as apart_from, last_of, list_at}
+use Rattle.ordinary_bins.proofs.ListLaws.{times_in-cons, times_listed-cons, in_here, in_more}
 use Rattle.large_bins.specs.SeenChunks.{size_in, size_at}
 use Rattle.arena_rules.specs.PlainArena.{Plain, IsSound, times_listed}
 use Rattle.arena_rules.specs.Moves.{tile_of, is_free_tile}

@@ -6,8 +6,8 @@ use Rattle.chunk_tags.specs.declared.tiles.Chunk.{Chunk}
 use Rattle.chunk_tags.specs.declared.tiles.Tile.{Tile}
 use Rattle.part_words.specs.Extents.{Extent, extended, IsWider}
 use Rattle.part_words.proofs.Opening.{Covers-extended, Covers-more, Covers-same}
-use Rattle.bin_links.specs.Lists.{Linked, empty_lists, list_at, times_in as times_at}
-use Rattle.bin_links.proofs.ListLaws.{in_here, in_more}
+use Rattle.ordinary_bins.specs.Lists.{Linked, empty_lists, list_at, times_in as times_at}
+use Rattle.ordinary_bins.proofs.ListLaws.{in_here, in_more}
 use Rattle.chunk_image.specs.Rows.{TileRow}
 use Rattle.large_bins.specs.FirstChunks.{AreFalling, AreFirsts}
 use Rattle.large_bins.specs.SeenChunks.{size_at}

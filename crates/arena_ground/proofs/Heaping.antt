@@ -4,7 +4,7 @@ use Rattle.std.specs.Prelude.{OnOk, vec_capacity, if◌then◌else◌}
 use Rattle.address_space.specs.Spaces.{main_start, piece_start}
 use Rattle.chunk_tags.specs.declared.tiles.Chunk.{Chunk}
 use Rattle.chunk_tags.specs.declared.tiles.Tile.{Tile}
-use Rattle.bin_links.specs.Lists.{Linked, empty_lists, times_listed as times_linked}
+use Rattle.ordinary_bins.specs.Lists.{Linked, empty_lists, times_listed as times_linked}
 use Rattle.part_words.specs.Extents.{Extent, AreOpen, IsWider, IsWithinPart, extended}
 use Rattle.part_words.proofs.Opening.{AreOpen-range, Covers-same, IsWithinPart-part}
 use Rattle.chunk_image.specs.Rows.{TileRow, no_tiles}

@@ -6,8 +6,8 @@ use Rattle.chunk_tags.specs.declared.tiles.Chunk.{Chunk}
 use Rattle.chunk_tags.specs.Tiles.{is_free, is_top, is_edge, fused, tile_at, tile_before, tile_behind}
 use Rattle.chunk_tags.specs.declared.tiles.Tile.{Tile}
 use Rattle.chunk_tags.specs.declared.tiles.TileKind.TheVariants.{Used}
-use Rattle.bin_links.specs.Lists.{Linked, times_listed as times_linked, without as apart_from}
-use Rattle.bin_links.proofs.ListLaws.{unlinked_itself, unlinked_other}
+use Rattle.ordinary_bins.specs.Lists.{Linked, times_listed as times_linked, without as apart_from}
+use Rattle.ordinary_bins.proofs.ListLaws.{unlinked_itself, unlinked_other}
 use Rattle.chunk_image.specs.Rows.{TileRow, where_free, free_before_of}
 use Rattle.large_bins.specs.SeenChunks.{size_in}
 use Rattle.arena_rules.specs.PlainArena.{Plain, times_listed, is_own, unlinked}

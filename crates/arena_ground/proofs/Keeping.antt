@@ -6,7 +6,7 @@ use Rattle.chunk_tags.specs.declared.tiles.Chunk.{Chunk}
 use Rattle.chunk_tags.specs.Tiles.{is_top, end_of, Row, swapped, fused, tile_at, tile_behind, top_of}
 use Rattle.chunk_tags.specs.declared.tiles.Tile.{Tile}
 use Rattle.part_words.specs.Extents.{IsWider}
-use Rattle.bin_links.specs.Lists.{Linked}
+use Rattle.ordinary_bins.specs.Lists.{Linked}
 use Rattle.chunk_image.specs.Rows.{TileRow}
 use Rattle.address_space.specs.Spaces.{main_start}
 use Rattle.arena_rules.specs.PlainArena.{Plain, HeapWindows, IsSound, beside, is_main}

@@ -6,7 +6,7 @@ use Rattle.chunk_tags.specs.Sizes.{IsChunkSize}
 use Rattle.chunk_tags.specs.Tiles.{swapped, tile_at}
 use Rattle.chunk_tags.specs.declared.tiles.Tile.{Tile}
 use Rattle.chunk_tags.specs.declared.tiles.TileKind.TheVariants.{Used, Free}
-use Rattle.bin_links.specs.Lists.{Linked, put_front, list_at, times_listed as times_linked, without as apart_from}
+use Rattle.ordinary_bins.specs.Lists.{Linked, put_front, list_at, times_listed as times_linked, without as apart_from}
 use Rattle.chunk_image.specs.Rows.{TileRow}
 use Rattle.large_bins.specs.SeenChunks.{size_in, size_at}
 use Rattle.arena_rules.specs.PlainArena.{Plain, times_listed, is_own}

@@ -4,7 +4,7 @@ use Rattle.std.specs.Prelude.{OnOk, OnErr}
 use Rattle.chunk_tags.specs.declared.tiles.Tile.{Tile}
 use Rattle.part_words.specs.Extents.{Extent, extended, AreOpen, IsWithinPart, IsWider}
 use Rattle.part_words.proofs.Opening.{AreOpen-covers, AreOpen-range, Covers-extended, Covers-more, Covers-same, IsWithinPart-covers, extended-open}
-use Rattle.bin_links.specs.Lists.{Linked, empty_lists}
+use Rattle.ordinary_bins.specs.Lists.{Linked, empty_lists}
 use Rattle.chunk_image.specs.Rows.{TileRow}
 use Rattle.arena_rules.specs.PlainArena.{Plain, empty_bins}
 use Rattle.arena_rules.specs.Heaps.{heap_start, last_heap}

@@ -2,7 +2,7 @@
 use Rattle.std.proofs.Common.{◌≡◌, ℕ, List, [], ◌∷◌, ◌++◌, map, Option, Some, refl, sym, ap, ◌∙◌, append_assoc}
 use Rattle.chunk_tags.specs.declared.tiles.Chunk.{Chunk}
 use Rattle.chunk_tags.specs.declared.tiles.Tile.{Tile}
-use Rattle.bin_links.specs.Lists.{first_of}
+use Rattle.ordinary_bins.specs.Lists.{first_of}
 use Rattle.arena_ground.specs.Grounds.{chunks_at}
 
 -- what was read so far, and the next address

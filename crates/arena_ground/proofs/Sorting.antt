@@ -11,8 +11,8 @@ use Rattle.chunk_tags.specs.Sizes.{is_small_size, small_index_of, large_index_of
 use Rattle.chunk_tags.specs.Tiles.{tile_at}
 use Rattle.chunk_tags.specs.declared.tiles.Tile.{Tile}
 use Rattle.chunk_tags.specs.declared.tiles.TileKind.TheVariants.{Free}
-use Rattle.bin_links.specs.Lists.{Linked, list_at, put_front, times_listed as times_linked, without as apart_from, bin_count, has_chunk, first_filled}
-use Rattle.bin_links.proofs.ListLaws.{unlinked_itself, unlinked_other}
+use Rattle.ordinary_bins.specs.Lists.{Linked, list_at, put_front, times_listed as times_linked, without as apart_from, bin_count, has_chunk, first_filled}
+use Rattle.ordinary_bins.proofs.ListLaws.{unlinked_itself, unlinked_other}
 use Rattle.chunk_image.specs.Rows.{TileRow}
 use Rattle.large_bins.specs.SeenChunks.{large_chunks, put_large, HaveTiles}
 use Rattle.arena_rules.specs.PlainArena.{Plain, bin_at, times_listed, unlinked, unsorted_of, with_bin, with_front}

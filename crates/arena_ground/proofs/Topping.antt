@@ -8,7 +8,7 @@ use Rattle.chunk_tags.specs.Tiles.{tile_before, tile_behind, top_of}
 use Rattle.chunk_tags.specs.declared.tiles.Tile.{Tile}
 use Rattle.chunk_tags.specs.declared.tiles.TileKind.TheVariants.{Used, Top}
 use Rattle.chunk_tags.specs.Tunables.{main_limit}
-use Rattle.bin_links.specs.Lists.{Linked}
+use Rattle.ordinary_bins.specs.Lists.{Linked}
 use Rattle.part_words.specs.Extents.{IsWider}
 use Rattle.chunk_image.specs.Rows.{TileRow}
 use Rattle.address_space.specs.Spaces.{main_start, piece_start}

@@ -5,7 +5,7 @@ use Rattle.chunk_tags.specs.declared.tiles.Chunk.{Chunk}
 use Rattle.chunk_tags.specs.declared.tiles.Tile.{Tile}
 use Rattle.chunk_tags.specs.Sizes.{is_small_size, small_index_of}
 use Rattle.part_words.specs.Extents.{Extent, IsWider}
-use Rattle.bin_links.specs.Lists.{Linked, put_front, without}
+use Rattle.ordinary_bins.specs.Lists.{Linked, put_front, without}
 use Rattle.chunk_image.specs.Rows.{TileRow}
 use Rattle.large_bins.specs.FirstChunks.{AreFirsts}
 use Rattle.large_bins.specs.SeenChunks.{size_at, put_large}

@@ -4,7 +4,7 @@ ghost use Rattle.std.specs.Prelude.{◌≡◌, ℕ, ◌≤◌, ◌+◌, map, ◌
 ghost use Rattle.chunk_tags.specs.Tunables.{main_limit};
 ghost use Rattle.address_space.specs.Spaces.{main_start, piece_start};
 ghost use Rattle.part_words.specs.Extents.{AreOpen, IsWithinPart};
-ghost use Rattle.bin_links.specs.Lists.{bin_count};
+ghost use Rattle.ordinary_bins.specs.Lists.{bin_count};
 ghost use Rattle.arena_rules.specs.PlainArena.{bin_at, empty_main, is_main};
 ghost use Rattle.chunk_tags.specs.declared.tiles.Chunk.{Chunk as Piece};
 ghost use Rattle.arena_rules.specs.MainPlaces.{IsPlaced};
@@ -18,7 +18,7 @@ use crate::steps::{
 };
 use address_space::{MAIN_START, PIECE_START};
 use arena_rules::{HeapEnd, Moves};
-use bin_links::LinkWords;
+use ordinary_bins::LinkWords;
 use chunk_image::TileWords;
 use chunk_tags::{Addr, Chunk, NoMemory, Size, Tile, TileKind, small_index};
 use heap_top::Regions;

@@ -7,7 +7,7 @@ ghost use Rattle.chunk_tags.specs.declared.tiles.Tile.{Tile as Square};
 ghost use Rattle.chunk_tags.specs.Sizes.{IsChunkSize, bin_of as bin_index};
 ghost use Rattle.chunk_tags.specs.Tiles.{Row, is_edge, is_free as is_free_tile, is_top as is_top_tile, fused, swapped, tile_at, tile_behind};
 ghost use Rattle.part_words.specs.Extents.{IsWider};
-ghost use Rattle.bin_links.specs.Lists.{bin_count, list_at, put_front, times_in, times_listed, without};
+ghost use Rattle.ordinary_bins.specs.Lists.{bin_count, list_at, put_front, times_in, times_listed, without};
 ghost use Rattle.large_bins.specs.FirstChunks.{AreFalling};
 ghost use Rattle.large_bins.specs.SeenChunks.{large_chunks, HaveTiles};
 ghost use Rattle.arena_rules.specs.Moves.{tile_of};
@@ -16,7 +16,7 @@ ghost use Rattle.arena_ground.specs.Grounds.{bins_at, tile_chunk, chunks_at, sor
 ghost use Rattle.arena_rules.specs.Search.{first_oldest};
 
 use arena_rules::HeapEnd;
-use bin_links::LinkWords;
+use ordinary_bins::LinkWords;
 use chunk_image::TileWords;
 use chunk_tags::{Addr, Chunk, NoMemory, Size, Tile, TileKind, is_small, large_index, small_index};
 use large_bins::forget;

@@ -6,10 +6,10 @@ ghost use Rattle.arena_rules.specs.PlainArena.{IsSound};
 ghost use Rattle.arena_rules.specs.Growth.{has_top_for};
 ghost use Rattle.arena_growth.specs.Steps.{FitsStep, step_of, chosen, topped, taken_behind_scan};
 
-use crate::carve::{MIN_CHUNK, carve};
+use crate::carve::carve;
 use crate::step::Step;
 use arena_rules::Moves;
-use chunk_tags::{Chunk, Size, is_small};
+use chunk_tags::{Chunk, MIN_CHUNK, Size, is_small};
 
 /// Whether `nb` bytes leave a smallest chunk of a size.
 fn leaves_chunk(size: Size, nb: Size) -> bool

@@ -7,10 +7,7 @@ ghost use Rattle.arena_rules.specs.Search.{carved, carved_chunk, with_remainder}
 ghost use Rattle.arena_growth.specs.Steps.{IsEnough};
 
 use arena_rules::Moves;
-use chunk_tags::{Chunk, Size, is_small};
-
-/// The smallest chunk, in bytes (glibc's `MINSIZE`).
-pub const MIN_CHUNK: u64 = 32;
+use chunk_tags::{Chunk, MIN_CHUNK, Size, is_small};
 
 /// What a size has beyond `nb` bytes.
 fn beyond(size: Size, nb: Size) -> u64

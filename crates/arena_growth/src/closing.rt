@@ -19,7 +19,7 @@ use fast_bins::FastPort;
 use mapped_chunks::Dials;
 use thread_cache::Cache;
 
-/// Releases what is left of a closed top.
+/// Releases what is left of a closed top, or what a resize parted off or left behind, where there is something.
 pub fn close<M: Moves, K: Kernel, P: FastPort + Dials>(
     g: &mut M,
     rest: Option<Chunk>,

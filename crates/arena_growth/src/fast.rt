@@ -10,11 +10,11 @@ ghost use Rattle.consolidate_trim.specs.Lacks.{IsFull};
 ghost use Rattle.arena_growth.specs.Ledgers.{near_ledger, near, stage};
 ghost use Rattle.arena_growth.specs.Steps.{Steps, StashesFast, FitsStep};
 
-use crate::room::{ask_room, stash};
+use crate::room::ask_room;
 use crate::step::Step;
 use arena_rules::{Moves, Said};
 use chunk_tags::{Addr, Chunk, NoMemory, Size, Tunables, fast_index};
-use consolidate_trim::{make_room, tell};
+use consolidate_trim::{make_room, stash, tell};
 use fast_bins::FastPort;
 use thread_cache::Cache;
 
@@ -51,7 +51,7 @@ fn stash_fast<M: Moves, P: FastPort>(
 {
     'stashing: while ask_room(cache, nb, said)? {
         match pop(port, fast_index(nb), said)? {
-            Some(at) => stash(g, &Chunk { at, size: nb }, cache),
+            Some(at) => stash(g.number(), Chunk { at, size: nb }, cache),
             None => return Ok(()),
         }
     }

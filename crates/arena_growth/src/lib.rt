@@ -27,6 +27,7 @@ mod system;
 
 pub use beginning::{ask_flag, begin};
 pub use binned::{has_top_for, take_top};
+pub use closing::close;
 pub use found::Found;
 pub use looking::look;
 pub use opening::open_ground;

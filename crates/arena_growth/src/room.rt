@@ -10,8 +10,8 @@ ghost use Rattle.arena_rules.specs.Rules.{block_of};
 ghost use Rattle.consolidate_trim.specs.Lacks.{IsFull};
 
 use arena_rules::{Moves, Said};
-use chunk_tags::{Block, Chunk, NoMemory, Size};
-use consolidate_trim::{make_room, tell};
+use chunk_tags::{Chunk, NoMemory, Size};
+use consolidate_trim::{make_room, stash, tell};
 use thread_cache::Cache;
 
 /// Asks the cache whether it has room for one more chunk of this size, and keeps the answer. Where there is no memory for
@@ -29,20 +29,6 @@ pub fn ask_room(cache: &Cache, size: Size, said: &mut Vec<Said>) -> Result<bool,
     Ok(room)
 }
 
-/// Puts a used chunk of the arena into the cache, which has room for it.
-pub fn stash<M: Moves>(g: &M, c: &Chunk, cache: &mut Cache)
-    requires room { IsTrue (has_room cache.old c.now.size) }
-    requires chunk { IsChunkSize c.now.size }
-    ensures { cache.new ≡ with_newest cache.old (block_of (M.plain g.now).number c.now) }
-{
-    let _ = cache.put(Block {
-        addr: c.at,
-        size: c.size,
-        lead: 0,
-        arena: Some(g.number()),
-    });
-}
-
 /// Takes a free chunk, which goes to the cache, where that has room for it.
 pub fn stash_free<M: Moves>(g: &mut M, c: &Chunk, cache: &mut Cache)
     requires sound { IsSound (M.plain g.old) }
@@ -53,5 +39,5 @@ pub fn stash_free<M: Moves>(g: &mut M, c: &Chunk, cache: &mut Cache)
     ensures cache { cache.new ≡ with_newest cache.old (block_of (M.plain g.old).number c.now) }
 {
     g.claim(*c);
-    stash(g, c, cache);
+    stash(g.number(), *c, cache);
 }

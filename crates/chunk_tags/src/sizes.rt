@@ -34,6 +34,9 @@ impl Model for Size {
     ghost inverse = { λ n. record { 0 = n } };
 }
 
+/// The smallest chunk, in bytes (glibc's `MINSIZE`).
+pub const MIN_CHUNK: u64 = 32;
+
 /// The largest request in bytes, glibc's `PTRDIFF_MAX`.
 pub const MAX_REQUEST: u64 = 0x7fff_ffff_ffff_ffff;
 

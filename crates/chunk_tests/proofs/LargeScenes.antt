@@ -6,7 +6,7 @@ use Rattle.chunk_tags.specs.Sizes.{large_index_of}
 use Rattle.chunk_tags.specs.Tiles.{tile_at}
 use Rattle.chunk_tags.specs.BinOrder.{IsFalling}
 use Rattle.chunk_tags.specs.declared.tiles.Tile.{Tile}
-use Rattle.bin_links.specs.Lists.{bin_count, list_at, times_listed}
+use Rattle.ordinary_bins.specs.Lists.{bin_count, list_at, times_listed}
 use Rattle.large_bins.specs.SeenChunks.{size_at, chunks_by, put_large, HaveTiles}
 use Rattle.large_bins.proofs.LargeLaws.{put_large_listed, put_large_falls, put_large_tiles}
 

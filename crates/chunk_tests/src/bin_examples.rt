@@ -2,7 +2,7 @@
 
 ghost use Rattle.std.specs.Prelude.{◌≡◌, ◌^◌, [], ◌∷◌, Some, None};
 ghost use Rattle.chunk_tags.specs.Sizes.{bin_of};
-ghost use Rattle.bin_links.specs.Lists.{list_at, last_of, put_front, first_filled};
+ghost use Rattle.ordinary_bins.specs.Lists.{list_at, last_of, put_front, first_filled};
 
 /// The oldest chunk of a bin is its last, and the search skips empty bins.
 fn chunks_in_bins()

@@ -3,13 +3,13 @@
 ghost use Rattle.std.specs.Prelude.{◌≡◌, ℕ, ◌+◌, ◌<◌, ◌≤◌, [], ◌∷◌, None, IsSome, IfOk, nat_eq, if◌then◌else◌};
 ghost use Rattle.chunk_tags.specs.BinOrder.{IsFalling};
 ghost use Rattle.chunk_tags.specs.Tiles.{entered, tile_at};
-ghost use Rattle.bin_links.specs.Extents.{IsOpen, IsWider};
+ghost use Rattle.ordinary_bins.specs.Extents.{IsOpen, IsWider};
 ghost use Rattle.chunk_image.specs.Rows.{IsRoom, IsWordSize};
-ghost use Rattle.bin_links.specs.Lists.{bin_count, empty_lists, list_at, times_listed};
+ghost use Rattle.ordinary_bins.specs.Lists.{bin_count, empty_lists, list_at, times_listed};
 ghost use Rattle.large_bins.specs.FirstChunks.{AreFirsts};
 ghost use Rattle.large_bins.specs.SeenChunks.{size_at, chunks_by, bins_by, HaveTiles};
 
-use bin_links::LinkWords;
+use ordinary_bins::LinkWords;
 use chunk_image::TileWords;
 use chunk_tags::{Addr, NoMemory, Size, Tile, TileKind};
 use large_bins::{best, insert};

@@ -1,7 +1,7 @@
 //! Worked examples: a bin as a list, stated on the definitions alone. Nothing runs; the check computes them.
 
 ghost use Rattle.std.specs.Prelude.{◌≡◌, ℕ, [], ◌∷◌, Some, None, map};
-ghost use Rattle.bin_links.specs.Lists.{first_of, last_of, put_front, put_behind, without, times_listed};
+ghost use Rattle.ordinary_bins.specs.Lists.{first_of, last_of, put_front, put_behind, without, times_listed};
 
 /// A bin gives its oldest chunk at its back, and a chunk that is unlinked is in no list.
 fn a_bin_of_three_chunks()

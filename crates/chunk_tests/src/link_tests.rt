@@ -1,6 +1,6 @@
 //! Linked lists of two chunks.
 
-use bin_links::LinkWords;
+use ordinary_bins::LinkWords;
 use chunk_tags::Addr;
 use std::test::Fail;
 

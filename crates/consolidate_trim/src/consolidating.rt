@@ -12,10 +12,7 @@ use crate::answers::{make_room, tell};
 use crate::merging::merge;
 use arena_rules::{Moves, Said};
 use chunk_tags::{Addr, Chunk, NoMemory, Size};
-use fast_bins::FastPort;
-
-/// How many fast bins there are (glibc's `NFASTBINS`).
-const FAST_BINS: u8 = 10;
+use fast_bins::{FAST_BINS, FastPort};
 
 /// The chunk of a fast bin that begins at this address.
 fn fast_chunk_at(bin: u8, at: Addr) -> Chunk

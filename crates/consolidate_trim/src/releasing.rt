@@ -162,7 +162,7 @@ pub fn release<M: Moves, K: Kernel, P: FastPort + Dials>(
 }
 
 /// Puts a chunk of an arena into a cache that has room for it.
-fn stash(number: u8, c: Chunk, cache: &mut Cache)
+pub fn stash(number: u8, c: Chunk, cache: &mut Cache)
     requires chunk { IsChunkSize c.size }
     requires room { IsTrue (has_room cache.old c.size) }
     ensures { cache.new ≡ with_newest cache.old (block_of number c) }

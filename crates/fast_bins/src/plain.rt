@@ -4,14 +4,11 @@ ghost use Rattle.std.specs.Prelude.{◌≡◌, [], length, map, replicate, IfOk,
 ghost use Rattle.fast_bins.specs.FastPorts.{fast_bin_count};
 ghost use Rattle.fast_bins.specs.PlainBins.{empty_bin, empty_state, state_of, listed, plain_fast, ten_bins, Roomier, HaveRoom};
 
-use crate::port::FastPort;
+use crate::port::{FAST_BINS, FastPort};
 use crate::stack::BinStack;
 use chunk_tags::{Addr, NoMemory};
 use std::alloc::Global;
 use std::marker::Model;
-
-/// How many fast bins an arena has.
-const BINS: usize = 10;
 
 /// Ten fast bins for one order of calls, of which each keeps its chunks itself. They are made where room is made first.
 #[derive(Drop)]
@@ -37,8 +34,8 @@ impl Model for PlainFast {
 fn empty_bins(alloc: Global) -> Result<Vec<BinStack>, NoMemory>
     ensures { IfOk result (λ v. map (λ b. b.bin) v.items ≡ replicate fast_bin_count empty_bin) }
 {
-    let mut bins = Vec::with_capacity(alloc, BINS)?;
-    for _ in 0..BINS {
+    let mut bins = Vec::with_capacity(alloc, usize::from(FAST_BINS))?;
+    for _ in 0..FAST_BINS {
         bins.push(BinStack::new(alloc))?;
     }
     Ok(bins)

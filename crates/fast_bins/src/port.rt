@@ -5,6 +5,9 @@ ghost use Rattle.fast_bins.specs.FastPorts.{Fast, Flags, Clears, Pushes, Pops, G
 
 use chunk_tags::{Addr, NoMemory};
 
+/// How many fast bins an arena has (glibc's `NFASTBINS`).
+pub const FAST_BINS: u8 = 10;
+
 /// The fast bins of an arena (glibc's `fastbinsY`), in the hands of who holds its lock. Bin `b` has chunks of
 /// `32 + 16 * b` bytes, in a chain, which others may push to as well, and behind it in a list of the holder's own. A
 /// port's stock are the chunks that it may still give.

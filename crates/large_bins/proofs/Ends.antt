@@ -3,8 +3,8 @@ use Rattle.std.proofs.Common.{◌≡◌, ℕ, ◌+◌, ◌≤◌, List, [], ◌�
 use Rattle.std.proofs.lemmas.Bool.Decides.{eqb_tells}
 use Rattle.std.proofs.lemmas.List.{append_assoc}
 use Rattle.std.proofs.lemmas.List.Sums.{sum_by-append}
-use Rattle.bin_links.specs.Lists.{first_of, last_of, list_at, times_in, times_listed}
-use Rattle.bin_links.proofs.ListLaws.{times_in-cons, in_here, listed_in}
+use Rattle.ordinary_bins.specs.Lists.{first_of, last_of, list_at, times_in, times_listed}
+use Rattle.ordinary_bins.proofs.ListLaws.{times_in-cons, in_here, listed_in}
 
 -- a list that has a last chunk
 pub record EndsIn (xs : List ℕ) (n : ℕ) : Type 0 where

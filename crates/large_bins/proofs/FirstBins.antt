@@ -7,8 +7,8 @@ use Rattle.std.proofs.lemmas.List.{get_or-replicate, get_or-set_same, get_or-set
 use Rattle.chunk_tags.specs.BinOrder.{IsFalling}
 use Rattle.chunk_tags.specs.declared.tiles.Chunk.{Chunk}
 use Rattle.chunk_tags.specs.declared.tiles.Tile.{Tile}
-use Rattle.bin_links.specs.Lists.{bin_count, empty_lists, list_at, put_front, times_in, times_listed, without}
-use Rattle.bin_links.proofs.ListLaws.{times_in-cons, in_here, within, bin_of_listed, elsewhere, unlinked_at, without_none}
+use Rattle.ordinary_bins.specs.Lists.{bin_count, empty_lists, list_at, put_front, times_in, times_listed, without}
+use Rattle.ordinary_bins.proofs.ListLaws.{times_in-cons, in_here, within, bin_of_listed, elsewhere, unlinked_at, without_none}
 use Rattle.large_bins.specs.FirstChunks.{firsts_of, firsts_in, AreFalling, AreFirsts}
 use Rattle.large_bins.specs.Places.{first_of_size, leads, leads_behind, AllAbove}
 use Rattle.large_bins.specs.SeenChunks.{chunks_by, bins_by, HaveTiles}

@@ -4,8 +4,8 @@ use Rattle.std.proofs.lemmas.Bool.{eq-eqb, ne_eqb}
 use Rattle.std.proofs.lemmas.Bool.Decides.{eqb_tells}
 use Rattle.std.proofs.lemmas.List.{append-nil}
 use Rattle.chunk_tags.specs.BinOrder.{IsFalling}
-use Rattle.bin_links.specs.Lists.{first_of, times_in, without}
-use Rattle.bin_links.proofs.ListLaws.{times_in-cons, in_more, not_first}
+use Rattle.ordinary_bins.specs.Lists.{first_of, times_in, without}
+use Rattle.ordinary_bins.proofs.ListLaws.{times_in-cons, in_more, not_first}
 use Rattle.large_bins.specs.SeenChunks.{chunks_by}
 use Rattle.large_bins.specs.Places.{first_of_size, leads, leads_behind, AllAbove, AllBelow}
 

@@ -5,7 +5,7 @@ use Rattle.std.proofs.lemmas.Bool.{le-leb, lt-leb, eq-eqb, ne_eqb}
 use Rattle.std.proofs.lemmas.Bool.Decides.{eqb_tells}
 use Rattle.std.proofs.lemmas.List.{append-nil, append_assoc}
 use Rattle.chunk_tags.specs.declared.tiles.Chunk.{Chunk}
-use Rattle.bin_links.specs.Lists.{last_of}
+use Rattle.ordinary_bins.specs.Lists.{last_of}
 use Rattle.chunk_tags.specs.BinOrder.{smallest_fit, lesser, of_size, second_of, best_of, second_of_size}
 use Rattle.large_bins.specs.SeenChunks.{chunks_by}
 use Rattle.large_bins.specs.Places.{first_of_size, leads_behind, AllAbove, AllBelow, EndsBelow, FitsLast}

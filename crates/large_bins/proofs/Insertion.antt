@@ -6,7 +6,7 @@ use Rattle.chunk_tags.specs.declared.tiles.Tile.{Tile}
 use Rattle.chunk_tags.specs.Sizes.{large_index_of}
 use Rattle.chunk_tags.specs.BinOrder.{IsFalling, inserted}
 use Rattle.chunk_tags.proofs.Falling.{compares, below, equal, above}
-use Rattle.bin_links.specs.Lists.{list_at, first_of, last_of}
+use Rattle.ordinary_bins.specs.Lists.{list_at, first_of, last_of}
 use Rattle.large_bins.specs.SeenChunks.{size_at, chunks_by, put_large}
 use Rattle.large_bins.specs.Places.{put_by, leads, leads_behind, AllAbove, Passes, StopsAt}
 use Rattle.large_bins.proofs.Ends.{begins_with, no_first}

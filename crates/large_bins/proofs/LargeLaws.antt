@@ -9,8 +9,8 @@ use Rattle.chunk_tags.specs.declared.tiles.Tile.{Tile}
 use Rattle.chunk_tags.specs.Sizes.{large_index_of}
 use Rattle.chunk_tags.specs.Tiles.{tile_at}
 use Rattle.chunk_tags.specs.declared.tiles.Chunk.{Chunk}
-use Rattle.bin_links.specs.Lists.{empty_lists, list_at, times_in, times_listed}
-use Rattle.bin_links.proofs.ListLaws.{times_in-cons, in_here, in_more, in_later, none_listed}
+use Rattle.ordinary_bins.specs.Lists.{empty_lists, list_at, times_in, times_listed}
+use Rattle.ordinary_bins.proofs.ListLaws.{times_in-cons, in_here, in_more, in_later, none_listed}
 use Rattle.chunk_tags.specs.BinOrder.{IsFalling, inserted, smallest_fit, lesser, second_of, second_of_size, best_of}
 use Rattle.large_bins.specs.SeenChunks.{size_at, chunks_by, large_chunks, put_large, HaveTiles}
 use Rattle.large_bins.specs.Places.{put_by}

@@ -4,8 +4,8 @@ use Rattle.std.proofs.lemmas.Bool.Decides.{eqb_tells, nat_tests}
 use Rattle.std.proofs.lemmas.List.{append_assoc}
 use Rattle.std.proofs.lemmas.List.Sums.{sum_by-append}
 use Rattle.chunk_tags.specs.Sizes.{large_index_of}
-use Rattle.bin_links.specs.Lists.{bin_count, times_in, times_listed, list_at, first_of, last_of}
-use Rattle.bin_links.proofs.ListLaws.{in_here, in_more, within}
+use Rattle.ordinary_bins.specs.Lists.{bin_count, times_in, times_listed, list_at, first_of, last_of}
+use Rattle.ordinary_bins.proofs.ListLaws.{in_here, in_more, within}
 use Rattle.large_bins.proofs.Ends.{ends_in, begins_with}
 
 -- how many chunks stand before the first place of an address

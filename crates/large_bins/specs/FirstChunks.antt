@@ -3,7 +3,7 @@
 use Rattle.std.specs.Prelude.{◌≡◌, ℕ, ◌≤◌, nat_eq, nat_lt, List, [], ◌∷◌, if◌then◌else◌, slice_index_or}
 use Rattle.chunk_tags.specs.BinOrder.{IsFalling}
 use Rattle.chunk_tags.specs.declared.tiles.Chunk.{Chunk}
-use Rattle.bin_links.specs.Lists.{list_at}
+use Rattle.ordinary_bins.specs.Lists.{list_at}
 
 -- those of chunks that stand behind one of a size, by address
 abbrev pub firsts_behind : ℕ → List Chunk → List ℕ

@@ -1,7 +1,7 @@
 -- Where a chunk goes in a large bin, and which chunks fit, by addresses with a function that tells sizes (this
 -- project's own). No public clause cites this file.
 use Rattle.std.specs.Prelude.{◌≡◌, ℕ, ◌<◌, ◌≤◌, nat_eq, nat_lt, List, [], ◌∷◌, ◌++◌, Option, Some, None, if◌then◌else◌}
-use Rattle.bin_links.specs.Lists.{first_of, last_of}
+use Rattle.ordinary_bins.specs.Lists.{first_of, last_of}
 use Rattle.large_bins.specs.FirstChunks.{firsts_behind, firsts_of}
 use Rattle.large_bins.specs.SeenChunks.{chunks_by}
 

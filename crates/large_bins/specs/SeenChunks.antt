@@ -4,7 +4,7 @@ use Rattle.chunk_tags.specs.declared.tiles.Tile.{Tile}
 use Rattle.chunk_tags.specs.Sizes.{large_index_of}
 use Rattle.chunk_tags.specs.Tiles.{tile_at}
 use Rattle.chunk_tags.specs.declared.tiles.Chunk.{Chunk}
-use Rattle.bin_links.specs.Lists.{list_at, times_listed}
+use Rattle.ordinary_bins.specs.Lists.{list_at, times_listed}
 use Rattle.chunk_tags.specs.BinOrder.{inserted}
 
 abbrev pub size_in : Option Tile → ℕ

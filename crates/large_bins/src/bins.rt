@@ -3,7 +3,7 @@
 ghost use Rattle.std.specs.Prelude.{◌≡◌, ℕ, ◌<◌, ◌≤◌, List, ◌∷◌, ◌++◌, IsSome, IfSome, IfNone, map};
 ghost use Rattle.std.specs.Option.{option_map};
 ghost use Rattle.part_words.specs.Extents.{IsOpen, IsWider};
-ghost use Rattle.bin_links.specs.Lists.{bin_count, list_at, times_listed, without};
+ghost use Rattle.ordinary_bins.specs.Lists.{bin_count, list_at, times_listed, without};
 ghost use Rattle.chunk_tags.specs.Sizes.{large_index_of};
 ghost use Rattle.chunk_tags.specs.Tiles.{tile_at};
 ghost use Rattle.chunk_tags.specs.BinOrder.{IsFalling, inserted, best_of};
@@ -12,7 +12,7 @@ ghost use Rattle.large_bins.specs.SeenChunks.{size_at, chunks_by, bins_by, large
 ghost use Rattle.large_bins.specs.Places.{first_of_size, AllAbove, AllBelow, FitsLast, StopsAt};
 
 use crate::splices::{insert_before, push_back, replace};
-use bin_links::LinkWords;
+use ordinary_bins::LinkWords;
 use chunk_image::TileWords;
 use chunk_tags::{Addr, Size, large_index};
 

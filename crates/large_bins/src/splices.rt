@@ -2,9 +2,9 @@
 
 ghost use Rattle.std.specs.Prelude.{◌≡◌, ℕ, ◌<◌, ◌≤◌, List, [], ◌∷◌, ◌++◌, slice_set};
 ghost use Rattle.part_words.specs.Extents.{IsOpen};
-ghost use Rattle.bin_links.specs.Lists.{bin_count, list_at, times_listed};
+ghost use Rattle.ordinary_bins.specs.Lists.{bin_count, list_at, times_listed};
 
-use bin_links::LinkWords;
+use ordinary_bins::LinkWords;
 use chunk_tags::Addr;
 
 /// Puts a chunk at the end of a bin.

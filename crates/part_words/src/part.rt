@@ -7,7 +7,7 @@ ghost use Rattle.part_words.specs.Slots.{word_in, Widens};
 
 use crate::slots::Slots;
 use crate::word::Word;
-use list_room::make_room_for;
+use list_laws::make_room_for;
 use std::alloc::{AllocError, Global};
 use std::marker::Model;
 

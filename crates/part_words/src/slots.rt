@@ -4,7 +4,7 @@ ghost use Rattle.std.specs.Prelude.{◌≡◌, ℕ, ◌<◌, ◌≤◌, ◌^◌,
 ghost use Rattle.part_words.specs.Slots.{times, word_in, Sets, Takes, Gives, Widens};
 
 use crate::word::Word;
-use list_room::make_room_for;
+use list_laws::make_room_for;
 use std::alloc::{AllocError, Global};
 use std::marker::Model;
 

@@ -16,12 +16,12 @@ ghost use Rattle.arena_growth.specs.Asking.{IsSearchable, IsReady, AllowsMaps, F
 ghost use Rattle.arena_growth.specs.Lacks.{Lacks, word_room};
 ghost use Rattle.realloc_align.specs.Aligns.{AlignsChunk, CutsLead, FitsAt, FitsAligned};
 
-use crate::cutting::{MIN_CHUNK, front_of};
+use crate::cutting::front_of;
 use address_space::{Kernel, Space};
 use arena_core::search;
 use arena_growth::Found;
 use arena_rules::{Moves, Said};
-use chunk_tags::{Addr, Chunk, NoMemory, Size, Tunables, request_size};
+use chunk_tags::{Addr, Chunk, MIN_CHUNK, NoMemory, Size, Tunables, request_size};
 use consolidate_trim::release;
 use fast_bins::FastPort;
 use mapped_chunks::Dials;

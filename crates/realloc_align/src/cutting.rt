@@ -8,10 +8,7 @@ ghost use Rattle.realloc_align.specs.Resizes.{cut_of, arena_cut};
 
 use arena_growth::Found;
 use arena_rules::Moves;
-use chunk_tags::{Chunk, Size};
-
-/// The smallest chunk, in bytes (glibc's `MINSIZE`).
-pub const MIN_CHUNK: u64 = 32;
+use chunk_tags::{Chunk, MIN_CHUNK, Size};
 
 /// What the arena of a resize came to before its release (this project's own).
 #[derive(Clone, Copy, Debug, PartialEq, Eq)]

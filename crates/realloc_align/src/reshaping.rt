@@ -13,12 +13,12 @@ ghost use Rattle.arena_growth.specs.Asking.{IsSearchable, IsReady, AllowsMaps, F
 ghost use Rattle.arena_growth.specs.Lacks.{Lacks, word_room};
 ghost use Rattle.realloc_align.specs.Resizes.{Reshapes, placed_of, arena_placed};
 
-use crate::cutting::{MIN_CHUNK, Reshaped, cut, front_of};
+use crate::cutting::{Reshaped, cut, front_of};
 use address_space::{Kernel, Space};
 use arena_core::search;
 use arena_growth::Found;
 use arena_rules::{Moves, Said};
-use chunk_tags::{Chunk, NoMemory, Size, TileKind, Tunables};
+use chunk_tags::{Chunk, MIN_CHUNK, NoMemory, Size, TileKind, Tunables};
 use fast_bins::FastPort;
 use mapped_chunks::Dials;
 use thread_cache::Cache;

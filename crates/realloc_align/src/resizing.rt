@@ -14,10 +14,9 @@ ghost use Rattle.realloc_align.specs.Resizes.{Resizes};
 
 use crate::reshaping::reshape;
 use address_space::{Kernel, Space};
-use arena_growth::Found;
+use arena_growth::{Found, close};
 use arena_rules::{Moves, Said};
 use chunk_tags::{Chunk, NoMemory, Size, Tunables};
-use consolidate_trim::release;
 use fast_bins::FastPort;
 use mapped_chunks::Dials;
 use thread_cache::Cache;
@@ -27,30 +26,6 @@ use thread_cache::Cache;
 pub struct Stranded {
     /// Where the block is then; nothing where it is as it was.
     pub found: Found,
-}
-
-/// Releases what was parted off or left behind, where there is something.
-fn release_rest<M: Moves, K: Kernel, P: FastPort + Dials>(
-    g: &mut M,
-    rest: Option<Chunk>,
-    cache: &mut Cache,
-    port: &mut P,
-    space: &mut Space<K>,
-    t: &Tunables,
-    said: &mut Vec<Said>,
-) -> Result<(), NoMemory>
-    requires backed { IsBacked P.fast (M.plain g.old) port.old (chunks_in rest) }
-    requires apart { AreApart P.fast P.dials }
-    requires fast { t.now.max_fast ≤ 160 }
-    ensures closes { Closes (means P.fast P.dials K.port) t.now rest
-        (stage (M.plain g.old) (beside_arena port.old cache.old space.old) said.old.items)
-        result (stage (M.plain g.new) (beside_arena port.new cache.new space.new) said.new.items) }
-    ensures lacks { OnErr result (LacksRoom P.fast port.new said.new) }
-{
-    match rest {
-        Some(c) => release(g, c, cache, port, space, t, said),
-        None => Ok(()),
-    }
 }
 
 /// Gives a used chunk `nb` bytes, or finds another for its block, and releases what is left of the old one (glibc's
@@ -88,7 +63,7 @@ pub fn resize_in<M: Moves, K: Kernel, P: FastPort + Dials>(
         });
     };
     let found = reshaped.found;
-    match release_rest(g, reshaped.rest, cache, port, space, t, said) {
+    match close(g, reshaped.rest, cache, port, space, t, said) {
         Ok(()) => Ok(found),
         Err(NoMemory) => Err(Stranded { found }),
     }

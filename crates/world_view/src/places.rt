@@ -10,12 +10,11 @@ use crate::finds::tile;
 use crate::table::{PlaceList, PlaceTable};
 use arena_ground::Ground;
 use chunk_tags::{Addr, NoMemory, Tile, TileKind};
+use fast_bins::FAST_BINS;
 use stats_text::{Place, TileView};
 use std::alloc::Global;
 
-/// How many fast bins an arena has, and how many other bins, with the one that isn't used.
-const FAST_BINS: usize = 10;
-
+/// How many bins an arena has beside the fast bins, with the one that isn't used.
 const BINS: u8 = 127;
 
 /// The list at an index; behind the last one an empty one.
@@ -39,8 +38,8 @@ pub fn fast_bins(
     ensures { IfOk result (λ v. lists_of v.items ≡ fast_at (map (λ l. l.items) lists.now) index) }
 {
     let mut bins = Vec::new(alloc);
-    for number in 0..FAST_BINS as u8 {
-        let list = list(alloc, lists, FAST_BINS * index + usize::from(number))?;
+    for number in 0..FAST_BINS {
+        let list = list(alloc, lists, usize::from(FAST_BINS) * index + usize::from(number))?;
         bins.push((number, list))?;
     }
     Ok(bins)

@@ -1,5 +1,5 @@
 use Rattle.std.proofs.Common.{◌-◌, length}
-use Rattle.bin_links.specs.Lists.{list_at}
+use Rattle.ordinary_bins.specs.Lists.{list_at}
 use Rattle.arena_ground.proofs.Reading.{IsRead}
 use Rattle.arena_ground.proofs.steps.addresses.Given as goal
 

@@ -1,6 +1,6 @@
 use Rattle.std.proofs.Common.{None, Some, sym, ap, ◌∙◌}
 use Rattle.chunk_tags.specs.BinOrder.{oldest_of}
-use Rattle.bin_links.specs.Lists.{list_at}
+use Rattle.ordinary_bins.specs.Lists.{list_at}
 use Rattle.arena_ground.specs.Grounds.{chunks_at}
 use Rattle.arena_ground.proofs.Sorting.{first_at, first_below}
 use Rattle.arena_ground.proofs.steps.first_oldest_from.Goals as goal

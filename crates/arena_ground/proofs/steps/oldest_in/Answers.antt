@@ -1,7 +1,7 @@
 use Rattle.std.proofs.Common.{Some, None, sym, ap, ◌∙◌}
 use Rattle.chunk_tags.specs.declared.tiles.Chunk.{Chunk}
-use Rattle.bin_links.specs.Lists.{list_at}
-use Rattle.bin_links.proofs.ListLaws.{last_listed}
+use Rattle.ordinary_bins.specs.Lists.{list_at}
+use Rattle.ordinary_bins.proofs.ListLaws.{last_listed}
 use Rattle.arena_ground.specs.Grounds.{tile_chunk}
 use Rattle.arena_ground.proofs.Bridges.{oldest_at}
 use Rattle.arena_ground.proofs.steps.oldest_in.Goals as goal

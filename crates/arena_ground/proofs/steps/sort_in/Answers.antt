@@ -1,8 +1,8 @@
 use Rattle.std.proofs.Common.{◌≡◌, ◌<◌, ◌≤◌, ap, sym, ◌∙◌, subst, arith, ltb-true, map}
 use Rattle.part_words.proofs.Opening.{IsOpen-covers}
 use Rattle.part_words.specs.Extents.{IsOpen}
-use Rattle.bin_links.specs.Lists.{list_at, times_in, times_listed, without}
-use Rattle.bin_links.proofs.ListLaws.{unlinked_itself, within}
+use Rattle.ordinary_bins.specs.Lists.{list_at, times_in, times_listed, without}
+use Rattle.ordinary_bins.proofs.ListLaws.{unlinked_itself, within}
 use Rattle.large_bins.specs.FirstChunks.{AreFirsts}
 use Rattle.large_bins.specs.SeenChunks.{size_at}
 use Rattle.large_bins.proofs.FirstBins.{firsts_fronted, firsts_unsorted}

@@ -38,5 +38,5 @@ pub stashing-preserved : goal.stashing-preserved
 stashing-preserved g c =
     let room : c.in_ok-ask_room.field-0 ≡ true = search rules in
     let did = rw (c.fast_index.ensures, c.in-Some.is) at c.in_ok-at.ensures.popped in
-    rw (c.stash.ensures, c.in_ok-at.ensures.told, c.in-Some.is, c.in_ok-ask_room.ensures.told, room)
+    rw (c.stash.ensures, c.number.ensures, c.in_ok-at.ensures.told, c.in-Some.is, c.in_ok-ask_room.ensures.told, room)
     (stashing_more g.P.FastPort.fast c.args.nb c.in-Some.at _ _ _ _ _ _ c.requires.chunk c.stashing.invariant c.in_ok-ask_room.ensures.sound (sym room ∙ c.in_ok-ask_room.ensures.room) did)

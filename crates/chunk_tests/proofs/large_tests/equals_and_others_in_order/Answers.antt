@@ -1,7 +1,7 @@
 use Rattle.std.proofs.Common.{◌≡◌, arith}
 use Rattle.part_words.proofs.Opening.{Covers-same}
-use Rattle.bin_links.specs.Lists.{empty_lists, times_listed}
-use Rattle.bin_links.proofs.ListLaws.{none_listed}
+use Rattle.ordinary_bins.specs.Lists.{empty_lists, times_listed}
+use Rattle.ordinary_bins.proofs.ListLaws.{none_listed}
 use Rattle.large_bins.specs.SeenChunks.{size_at}
 use Rattle.large_bins.proofs.FirstBins.{no_firsts}
 use Rattle.large_bins.proofs.LargeLaws.{no_tiles_needed}

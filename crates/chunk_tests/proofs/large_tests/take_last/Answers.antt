@@ -1,5 +1,5 @@
 use Rattle.std.proofs.Common.{sym, ◌∙◌}
-use Rattle.bin_links.proofs.ListLaws.{last_listed}
+use Rattle.ordinary_bins.proofs.ListLaws.{last_listed}
 use Rattle.chunk_tests.proofs.large_tests.take_last.Goals as goal
 
 pub unlink-requires : goal.unlink-requires

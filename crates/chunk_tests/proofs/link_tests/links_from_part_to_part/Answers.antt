@@ -1,8 +1,8 @@
 use Rattle.std.proofs.Common.{◌≡◌, ℕ, ◌<◌, ◌≤◌, Bool, cond, eqb, List, ◌∷◌, length, refl, ap, ◌∙◌, arith}
 use Rattle.std.proofs.lemmas.Bool.{eq-eqb}
 use Rattle.std.proofs.lemmas.List.{length-set}
-use Rattle.bin_links.specs.Lists.{times_listed, list_at, put_front, empty_lists}
-use Rattle.bin_links.proofs.ListLaws.{fronted, length-empty_lists}
+use Rattle.ordinary_bins.specs.Lists.{times_listed, list_at, put_front, empty_lists}
+use Rattle.ordinary_bins.proofs.ListLaws.{fronted, length-empty_lists}
 use Rattle.chunk_tests.proofs.link_tests.links_from_part_to_part.Goals as goal
 
 itself : (n : ℕ) → cond {A = ℕ} (eqb n n) 1 0 ≡ 1

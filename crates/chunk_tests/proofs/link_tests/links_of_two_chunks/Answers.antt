@@ -1,4 +1,4 @@
-use Rattle.bin_links.proofs.ListLaws.{unlinked_itself}
+use Rattle.ordinary_bins.proofs.ListLaws.{unlinked_itself}
 use Rattle.chunk_tests.proofs.link_tests.links_of_two_chunks.Goals as goal
 
 pub insert_behind-requires-clause-unlisted : goal.insert_behind-requires-clause-unlisted

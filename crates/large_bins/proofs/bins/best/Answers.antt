@@ -3,8 +3,8 @@ use Rattle.std.specs.Option.{option_map, unwrap_or}
 use Rattle.chunk_tags.specs.BinOrder.{best_of}
 use Rattle.chunk_tags.specs.Sizes.{large_index_of}
 use Rattle.chunk_tags.specs.declared.tiles.Chunk.{Chunk}
-use Rattle.bin_links.specs.Lists.{list_at}
-use Rattle.bin_links.proofs.ListLaws.{listed_in}
+use Rattle.ordinary_bins.specs.Lists.{list_at}
+use Rattle.ordinary_bins.proofs.ListLaws.{listed_in}
 use Rattle.large_bins.specs.Places.{AllBelow, FitsLast}
 use Rattle.large_bins.specs.SeenChunks.{size_at, chunks_by}
 use Rattle.large_bins.proofs.FirstBins.{firsts_listed, firsts_tiles, large_firsts}

@@ -1,6 +1,6 @@
 use Rattle.std.proofs.Common.{sym, ap, ◌∙◌, arith}
-use Rattle.bin_links.specs.Lists.{list_at}
-use Rattle.bin_links.proofs.ListLaws.{bin_of_listed}
+use Rattle.ordinary_bins.specs.Lists.{list_at}
+use Rattle.ordinary_bins.proofs.ListLaws.{bin_of_listed}
 use Rattle.large_bins.specs.Places.{first_of_size}
 use Rattle.large_bins.specs.SeenChunks.{size_at}
 use Rattle.large_bins.proofs.Ends.{begins_with, next_listed, no_first, stands_at}

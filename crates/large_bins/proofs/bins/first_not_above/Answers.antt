@@ -1,6 +1,6 @@
 use Rattle.std.proofs.Common.{◌<◌, ◌≤◌, [], Some, refl, subst, sym, ◌∙◌, arith}
-use Rattle.bin_links.specs.Lists.{list_at, times_listed}
-use Rattle.bin_links.proofs.ListLaws.{listed_in, last_listed}
+use Rattle.ordinary_bins.specs.Lists.{list_at, times_listed}
+use Rattle.ordinary_bins.proofs.ListLaws.{listed_in, last_listed}
 use Rattle.large_bins.specs.SeenChunks.{size_at}
 use Rattle.large_bins.specs.Places.{AllAbove, Passes}
 use Rattle.large_bins.proofs.Ends.{no_last}

@@ -1,7 +1,7 @@
 use Rattle.std.proofs.Common.{◌≡◌, Some, refl, sym, ◌∙◌, arith}
 use Rattle.std.proofs.lemmas.Bool.{eqb-true, eqb-false}
 use Rattle.part_words.proofs.Opening.{IsOpen-covers}
-use Rattle.bin_links.specs.Lists.{times_listed}
+use Rattle.ordinary_bins.specs.Lists.{times_listed}
 use Rattle.large_bins.specs.Places.{first_of_size}
 use Rattle.large_bins.specs.SeenChunks.{size_at}
 use Rattle.large_bins.proofs.FirstBins.{firsts_are, firsts_left, firsts_next, firsts_without, is_first, next_stands, next_unlisted, IsFirst}

@@ -1,7 +1,7 @@
 use Rattle.std.proofs.Common.{◌≡◌, ◌<◌, [], ◌∷◌, ◌++◌, refl, sym, ◌∙◌, arith}
 use Rattle.chunk_tags.proofs.Falling.{falling_inserted}
-use Rattle.bin_links.specs.Lists.{list_at}
-use Rattle.bin_links.proofs.ListLaws.{listed_in}
+use Rattle.ordinary_bins.specs.Lists.{list_at}
+use Rattle.ordinary_bins.proofs.ListLaws.{listed_in}
 use Rattle.large_bins.specs.Places.{leads, AllAbove, StopsAt}
 use Rattle.large_bins.specs.SeenChunks.{size_at}
 use Rattle.large_bins.proofs.FirstBins.{firsts_are, firsts_set, firsts_stay, large_firsts, unlisted_firsts}

@@ -1,6 +1,6 @@
 use Rattle.std.proofs.Common.{◌<◌, ◌≤◌, Some, subst, sym, arith}
-use Rattle.bin_links.specs.Lists.{list_at, times_listed}
-use Rattle.bin_links.proofs.ListLaws.{listed_in}
+use Rattle.ordinary_bins.specs.Lists.{list_at, times_listed}
+use Rattle.ordinary_bins.proofs.ListLaws.{listed_in}
 use Rattle.large_bins.specs.SeenChunks.{size_at}
 use Rattle.large_bins.specs.Places.{EndsBelow}
 use Rattle.large_bins.proofs.Fitting.{back_at, back_on, back_fits, back_none}

@@ -1,4 +1,4 @@
-use Rattle.bin_links.specs.Lists.{list_at}
+use Rattle.ordinary_bins.specs.Lists.{list_at}
 use Rattle.large_bins.specs.Places.{EndsBelow}
 use Rattle.large_bins.specs.SeenChunks.{size_at}
 use Rattle.large_bins.proofs.Turns.{turns_back}

@@ -1,7 +1,7 @@
 use Rattle.std.proofs.Common.{◌≡◌, ℕ, [], ◌∷◌, ◌++◌, List, set, sym, ap, ◌∙◌, arith}
 use Rattle.std.proofs.lemmas.List.{append_assoc}
-use Rattle.bin_links.specs.Lists.{list_at}
-use Rattle.bin_links.proofs.ListLaws.{bin_of_listed, listed_in}
+use Rattle.ordinary_bins.specs.Lists.{list_at}
+use Rattle.ordinary_bins.proofs.ListLaws.{bin_of_listed, listed_in}
 use Rattle.large_bins.proofs.Ends.{ends_in, no_last, stands_at}
 use Rattle.large_bins.proofs.splices.insert_before.Goals as goal
 

@@ -1,7 +1,7 @@
 use Rattle.std.proofs.Common.{[], ◌∷◌, ◌++◌, List, ℕ, set, sym, ap, ◌∙◌, subst, arith}
 use Rattle.std.proofs.lemmas.List.{append_assoc}
-use Rattle.bin_links.specs.Lists.{list_at}
-use Rattle.bin_links.proofs.ListLaws.{last_listed}
+use Rattle.ordinary_bins.specs.Lists.{list_at}
+use Rattle.ordinary_bins.proofs.ListLaws.{last_listed}
 use Rattle.large_bins.proofs.Ends.{ends_in, no_last}
 use Rattle.large_bins.proofs.splices.push_back.Goals as goal
 

@@ -1,7 +1,7 @@
 use Rattle.std.proofs.Common.{◌≡◌, ◌≤◌, ◌<◌, ℕ, [], ◌∷◌, ◌++◌, List, set, map, length, sym, ap, ◌∙◌, subst, arith}
 use Rattle.std.proofs.lemmas.List.{get_or-set_same, length-set, set-set}
-use Rattle.bin_links.specs.Lists.{list_at, times_listed, without}
-use Rattle.bin_links.proofs.ListLaws.{bin_of_listed, listed_in, unlinked_at}
+use Rattle.ordinary_bins.specs.Lists.{list_at, times_listed, without}
+use Rattle.ordinary_bins.proofs.ListLaws.{bin_of_listed, listed_in, unlinked_at}
 use Rattle.large_bins.proofs.Ends.{stands_at}
 use Rattle.large_bins.proofs.splices.replace.Goals as goal
 

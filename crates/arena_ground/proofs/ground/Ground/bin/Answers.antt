@@ -1,6 +1,6 @@
 use Rattle.std.proofs.Common.{◌≡◌, IfOk, map, sym, ap, ◌∙◌, subst}
 use Rattle.chunk_tags.specs.declared.tiles.Chunk.{Chunk}
-use Rattle.bin_links.specs.Lists.{list_at}
+use Rattle.ordinary_bins.specs.Lists.{list_at}
 use Rattle.arena_rules.specs.PlainArena.{bin_at}
 use Rattle.arena_ground.specs.Grounds.{GroundView}
 use Rattle.arena_ground.proofs.Bridges.{bin_is}

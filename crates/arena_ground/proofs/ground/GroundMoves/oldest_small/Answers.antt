@@ -1,7 +1,7 @@
 use Rattle.std.proofs.Common.{sym, ap, ◌∙◌}
 use Rattle.chunk_tags.specs.BinOrder.{oldest_of}
 use Rattle.chunk_tags.specs.Sizes.{small_index_of}
-use Rattle.bin_links.specs.Lists.{list_at}
+use Rattle.ordinary_bins.specs.Lists.{list_at}
 use Rattle.arena_rules.specs.PlainArena.{bin_at}
 use Rattle.arena_ground.specs.Grounds.{GroundView, chunks_at}
 use Rattle.arena_ground.proofs.Bridges.{bin_is}

@@ -1,6 +1,0 @@
-use Rattle.bin_links.proofs.Reading.{first_read}
-use Rattle.bin_links.proofs.Steps.{spells}
-use Rattle.bin_links.proofs.links.LinkWords.first.Goals as goal
-
-pub returns : goal.returns
-returns c = let r = first_read (spells {nodes = c.self.inside.nodes} {v = c.args.self.now} (record { linked = c.self.invariant; view = c.self.view_is })) c.args.bin c.requires in cc

@@ -1,8 +1,0 @@
-use Rattle.bin_links.proofs.Search.{first_is}
-use Rattle.bin_links.proofs.Steps.{spells}
-use Rattle.bin_links.proofs.links.LinkWords.first_filled.Goals as goal
-
-pub returns : goal.returns
-returns c =
-    first_is (spells {nodes = c.self.inside.nodes} {v = c.args.self.now} (record { linked = c.self.invariant; view = c.self.view_is }))
-    c.args.bin c.requires c.first_filled.result c.first_filled.ensures.filled c.first_filled.ensures.before c.first_filled.ensures.none

@@ -1,6 +1,0 @@
-use Rattle.bin_links.proofs.Reading.{none_read}
-use Rattle.bin_links.proofs.Steps.{spells}
-use Rattle.bin_links.proofs.links.LinkWords.is_empty.Goals as goal
-
-pub returns : goal.returns
-returns c = let r = none_read (spells {nodes = c.self.inside.nodes} {v = c.args.self.now} (record { linked = c.self.invariant; view = c.self.view_is })) c.args.bin c.requires in cc
