@@ -230,8 +230,10 @@ static struct slot *slot_for(const char *name, const char *file) {
         return NULL;
     if (shared->follow)
         return new_slot();
-    if (!*shared->only && process != shared->main_process)
+    if (!*shared->only && process != shared->main_process) {
+        atomic_fetch_add(&shared->others, 1);
         return NULL;
+    }
     if (atomic_compare_exchange_strong(&first->process, &none, process)) {
         atomic_store(&shared->used, 1);
         return first;
@@ -249,8 +251,10 @@ static void before_fork(void) {
 }
 
 static void after_fork(void) {
-    if (inside == 2)
-        finish(errno);
+    if (inside != 2)
+        return;
+    mine->children += !shared->follow;
+    finish(errno);
 }
 
 /* The child has a copy of the heap, so its trace begins with what was recorded so far. */

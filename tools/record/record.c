@@ -40,7 +40,7 @@ __attribute__((format(printf, 2, 3), noreturn)) static void fail(int status, con
 /* ---- words */
 
 static const char usage[] =
-    "usage: record [-o FILE] [--lines N] [--only NAME] [--v2] [--follow] [--cross owner] [--places FILE] -- PROGRAM ARGS..";
+    "usage: record [-o FILE] [--lines N] [--only NAME] [--follow] [--v1] [--cross owner] [--places FILE] -- PROGRAM ARGS..";
 
 static void take_path(char *to, const char *word) {
     char folder[PATH_ROOM];
@@ -83,7 +83,7 @@ static void take_option(const char *option, const char *value) {
 
 /* The words from the program's name on. */
 static char **read_words(char **words) {
-    control->version = 1;
+    control->version = 2;
     control->max_lines = UINT64_MAX;
     for (words++; *words && **words == '-'; words++) {
         if (!strcmp(*words, "--")) {
@@ -94,8 +94,8 @@ static char **read_words(char **words) {
             puts(usage);
             exit(0);
         }
-        if (!strcmp(*words, "--v2"))
-            control->version = 2;
+        if (!strcmp(*words, "--v1") || !strcmp(*words, "--v2"))
+            control->version = (*words)[3] - '0';
         else if (!strcmp(*words, "--follow"))
             control->follow = 1;
         else if (words[1]) {
@@ -287,7 +287,7 @@ static uint64_t now(void) {
 static const char *reason(const struct slot *slot) {
     switch (atomic_load(&slot->why)) {
     case NO_THREAD: return "a 65th thread";
-    case NO_NAME: return control->version == 2 ? "more than 4,294,967,295 names" : "a name past 65,535 (--v2 has more)";
+    case NO_NAME: return control->version == 2 ? "more than 4,294,967,295 names" : "a name past 65,535 (a trace of version 2 has more)";
     case NO_TRAY: return "a tray past 65,535 (--cross owner needs fewer)";
     case NO_BYTES: return "more than 67,108,864 bytes";
     case NO_FILE: return strerror(slot->error);
@@ -356,6 +356,11 @@ static void tell_summary(const struct slot *slot) {
     tell_count(slot->nested, "left out: out of a signal's handler");
     tell_count(slot->unknown, "left out: of blocks that weren't recorded");
     tell_count(slot->tuned, "left out: mallopt or malloc_trim");
+    tell_count(slot->children, "left out: children by fork (--follow records them)");
+    tell_count(atomic_load(&control->others), "left out: programs in children (--follow records them)");
+    tell_count(slot->replaced, "left out: lines before an exec (--follow keeps them)");
+    if (lines == slot->loose_lines)
+        fputs("; it has a malloc of its own, or calls none", stderr);
     if (atomic_load(&slot->why) != RUNS)
         fprintf(stderr, "; ended early: %s", reason(slot));
     fputc('\n', stderr);

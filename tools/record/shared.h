@@ -43,6 +43,8 @@ struct slot {
     uint64_t unknown;          /* frees and reallocs of blocks that weren't recorded */
     uint64_t tuned;            /* mallopt and malloc_trim */
     uint64_t late;             /* ends of threads that are written later than they were */
+    uint64_t children;         /* that a fork made, and that aren't recorded */
+    uint64_t replaced;         /* lines of what this program was before its last exec; they are gone */
     uint64_t began, ended;     /* nanoseconds */
 };
 
@@ -54,6 +56,7 @@ struct control {
     char output[PATH_ROOM];    /* absolute; with %e and %p */
     char places[PATH_ROOM];    /* the same, or empty */
     _Atomic uint32_t used;     /* slots that were given, with those that weren't there any more */
+    _Atomic uint32_t others;   /* programs that children became, and that aren't recorded */
     struct slot slots[SLOTS];
 };
 

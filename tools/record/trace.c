@@ -85,10 +85,10 @@ static void put_line(struct unit *unit, int thread, enum kind kind, int fields, 
     unit->line_count++;
 }
 
-static uint64_t all_lines(void) {
+static uint64_t all_lines(const struct slot *of) {
     uint64_t sum = 0;
     for (int k = 0; k < KINDS; k++)
-        sum += mine->lines[k];
+        sum += of->lines[k];
     return sum;
 }
 
@@ -97,7 +97,7 @@ static void unit_write(struct unit *unit) {
     if (!running)
         return;
     uint64_t length = (uint64_t)(unit->end - unit->text);
-    uint64_t lines = all_lines() - mine->loose_lines + unit->loose_lines + unit->line_count;
+    uint64_t lines = all_lines(mine) - mine->loose_lines + unit->loose_lines + unit->line_count;
     uint64_t bytes = trace.length - mine->loose_bytes + unit->loose_bytes + length;
     if (lines > shared->max_lines)
         trace_end(AS_ASKED, 0);
@@ -421,6 +421,7 @@ bool trace_begin(struct slot *slot, const char *program, uintptr_t heap_start) {
     mine = slot;
     places.start = heap_start;
     strncpy(slot->program, program, NAME_ROOM - 1);
+    slot->replaced = all_lines(&left) - left.loose_lines + left.replaced;
     slot->began = trace_clock();
     next_thread = 1;
     running = true;
