@@ -9,7 +9,7 @@ PREFIX ?= /usr/local
 DESTDIR ?=
 OUT ?= out
 CRATES = ptmreplay kernel_calls
-TOOLS = heapmap whatif record
+TOOLS = heapmap whatif record heap_of
 # The day of the last change, as a version, and its name.
 VERSION := $(shell git log -1 --format=0.%cd.%h --date=format:%Y%m%d 2>/dev/null || echo 0)
 MAINTAINER ?= nobody <nobody@localhost>
@@ -46,6 +46,7 @@ install: programs record
 	done
 	install -m 644 tools/heapmap/heap_*.py tools/heapmap/*.js tools/heapmap/*.css "$(own)/tools/heapmap"
 	install -m 644 tools/whatif/whatif_*.py "$(own)/tools/whatif"
+	install -m 644 tools/heap_of/*_*.py "$(own)/tools/heap_of"
 	install -m 755 tools/record/record.so "$(own)/tools/record"
 	strip "$(own)/tools/record/record" "$(own)/tools/record/record.so"
 	install -m 644 docs/ptmreplay.1 "$(man)"

@@ -123,7 +123,7 @@ def facts(report, story, rows):
     stuck = total['fast'] + total['bins']
     shown = (('from the system', total['system']), ('live', total['live'] + total['trays']),
              ('in caches', total['cached']), ('stuck: free, not top', stuck), ('top', total['top']))
-    if not report.threads_form:
+    if story.buckets and not report.threads_form:
         shown += (('most live bytes', story.peak[0]),)
     out = []
     for words, value in shown:

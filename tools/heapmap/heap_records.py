@@ -85,6 +85,10 @@ def answer_of(words):
 def follow(report):
     """The story of the records; raises Fault where they don't lead to the chunks of the report."""
     story = Story(not report.threads_form)
+    if report.of_process:
+        if report.records:
+            raise Fault('line 2: the places of a process have no records')
+        return story
     width = max(1, -(-len(report.records) // BUCKETS))
     before = bucket = None
     for at, record in enumerate(report.records):
@@ -132,6 +136,8 @@ def trace_of(report, lines):
     """The first lines of the trace that the report is of, as bytes."""
     if report.threads_form:
         raise Fault("this is a report of threads, whose records don't stand in the order of the trace")
+    if report.of_process:
+        raise Fault('this is the heap of a process, which has no lines of a trace')
     calls = [record.partition(' -> ')[0] for record in report.records[:lines - 1]]
     wide = any(int(f[2]) > 65535 for f in (c.split(' ') for c in calls) if f[1] in 'mcraftp')
     return ('\n'.join(['ptmtrace %d' % (2 if wide else 1)] + calls) + '\n').encode('ascii')

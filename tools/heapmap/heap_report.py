@@ -14,6 +14,7 @@ PLACES = {'live': (LIVE, 2), 'cache': (CACHE, 1), 'structure': (STRUCTURE, 1), '
           'fast': (FAST, 1), 'bin': (BIN, 1), 'top': (TOP, 0), 'fence': (FENCE, 0)}
 MAPPED_PLACES = ('live', 'structure', 'tray')
 
+FIRST_LINES = ('ptmreport 1 serial', 'ptmreport 1 threads', 'ptmreport 1 places')
 RECORD = re.compile(r'[0-9]+ [a-z](?: -?[0-9]+)* -> [^ ].*\Z')
 ARENA = re.compile(r'arena ([0-9]+) system ([0-9]+) max ([0-9]+) list ([0-9]+) last (-|0x[0-9a-f]{12})\Z')
 LIST = re.compile(r'(fast|bin|links|cache) ([0-9]+(?: [0-9]+)?):((?: 0x[0-9a-f]{12})+)\Z')
@@ -69,10 +70,19 @@ class Report:
     and `total` the pair of all."""
 
     def __init__(self):
-        self.threads_form = False
+        self.form = 'serial'
         self.records, self.arenas, self.mapped, self.caches, self.threads = [], [], [], [], []
         self.book = self.dials = self.total = self.most_mapped = None
         self.statistics = []
+
+    @property
+    def threads_form(self):
+        return self.form == 'threads'
+
+    @property
+    def of_process(self):
+        """Whether it is the heap of a process at one moment, as heap_of writes it: no records, and real headers."""
+        return self.form == 'places'
 
 
 class Lines:
@@ -116,7 +126,7 @@ def read_report(data):
     while lines.peek().startswith('journal ') or lines.peek()[:1].isdigit():
         lines.next('the arenas')
     while lines.peek().startswith('arena '):
-        report.arenas.append(read_arena(lines, len(report.arenas)))
+        report.arenas.append(read_arena(lines, report))
     if not report.arenas:
         lines.next('the arenas')
         raise lines.fault('no line of an arena')
@@ -140,9 +150,9 @@ def read_first(lines, report):
         raise lines.fault('this is a trace, not a report; ./ptmreplay < TRACE gives one')
     if first.startswith('ptmsummary '):
         raise lines.fault('this is a summary, which has no heap')
-    if first not in ('ptmreport 1 serial', 'ptmreport 1 threads'):
+    if first not in FIRST_LINES:
         raise lines.fault("no report begins so; its first line is 'ptmreport 1 serial' or 'ptmreport 1 threads'")
-    report.threads_form = first.endswith('threads')
+    report.form = first.split(' ')[2]
 
 
 def number(lines, word):
@@ -172,14 +182,15 @@ def read_chunk(lines, line, places, with_lead):
     return Chunk(user, size, kind, thread, name, lead)
 
 
-def read_arena(lines, wanted):
+def read_arena(lines, report):
+    wanted = len(report.arenas)
     found = ARENA.match(lines.next('an arena'))
     if not found or int(found.group(1)) != wanted:
         raise lines.fault('the line of arena %d is wanted here' % wanted)
     arena = Arena(*(int(word) for word in found.groups()[:4]), last=found.group(5))
     began = lines.at
     while lines.peek().startswith('0x'):
-        add_chunk(lines, arena, read_chunk(lines, lines.next('a chunk'), PLACES, False))
+        add_chunk(lines, report, arena, read_chunk(lines, lines.next('a chunk'), PLACES, False))
     covered = sum(r.length for r in arena.regions)
     if covered != arena.system:
         raise Fault('line %d: the chunks of arena %d and its headers are %d bytes, its system bytes %d'
@@ -194,7 +205,7 @@ def read_arena(lines, wanted):
             arena.lists.append((kind, number(lines, index), [int(w, 16) for w in addresses.split()], lines.at))
 
 
-def add_chunk(lines, arena, chunk):
+def add_chunk(lines, report, arena, chunk):
     """Puts the chunk behind the others: in their region, or in a new one where there is a gap, or where a fence of a
     piece ended one."""
     at = chunk.user - 16
@@ -207,7 +218,7 @@ def add_chunk(lines, arena, chunk):
         if at > end or closed:
             region = None
     if region is None:
-        region = new_region(lines, arena, at)
+        region = new_region(lines, report, arena, at)
         arena.regions.append(region)
     arena.chunks.append(chunk)
     arena.sums[chunk.kind] += chunk.size
@@ -215,10 +226,10 @@ def add_chunk(lines, arena, chunk):
     region.length += chunk.size
 
 
-def new_region(lines, arena, at):
-    header = at % PAGE
-    wanted = (0,) if arena.number == 0 else (HEADERS[0],) if not arena.regions else (HEADERS[1],)
-    if header not in wanted:
+def new_region(lines, report, arena, at):
+    header = 0 if report.of_process and arena.number == 0 else at % PAGE
+    wanted = 0 if arena.number == 0 else HEADERS[bool(arena.regions)]
+    if header != wanted and not report.of_process:
         raise lines.fault('no region of arena %d begins so; a chunk before it is missing' % arena.number)
     count = len(arena.regions)
     if arena.number:
