@@ -67,6 +67,7 @@ class Page(HTMLParser):
     def __init__(self, text):
         super().__init__()
         self.tables, self.figures, self.outside, self.title = {}, [], [], ''
+        self.folded, self.links, self.sections, self.small = None, [], [], []
         self.table = self.row = None
         self.within = ''
         self.raw = ''
@@ -80,11 +81,15 @@ class Page(HTMLParser):
             self.table = self.tables.setdefault(given['id'], {})
         elif tag == 'tr' and 'data-row' in given:
             self.row = self.table.setdefault(given['data-row'], {})
+            self.small += [given['data-row']] if 'data-small' in given else []
         elif tag == 'td' and 'data-of' in given:
             self.row.setdefault(given['data-of'], []).append(given['data-value'])
+        elif tag == 'details' and given.get('class') == 'small':
+            self.folded = len(self.figures)
         elif tag == 'figure':
             self.figures.append((given['data-arena'], int(given['data-bytes'])))
-        self.within = 'data' if given.get('id') == 'data' else 'title' if tag == 'title' else ''
+        self.links += [int(given['data-go'])] if 'data-go' in given else []
+        self.within = 'data' if given.get('id') == 'data' else tag if tag in ('title', 'h2') else ''
         self.outside += [v for k, v in attributes if k in ('src', 'href', 'action') and v != 'data:,']
 
     def handle_endtag(self, tag):
@@ -95,6 +100,8 @@ class Page(HTMLParser):
             self.raw += data
         elif self.within == 'title':
             self.title += data
+        elif self.within == 'h2':
+            self.sections.append(data)
 
     def value(self, row, key):
         return int(self.tables['arenas'][row][key][0])
@@ -227,14 +234,42 @@ class Tests(unittest.TestCase):
                 self.assertTrue(all(entries.index(e) == 0 for e in entries if e[2] == 'header'))
                 chunks += [e for e in entries if e[2] != 'header']
         self.assertEqual(len(strips), len(page.figures))
+        self.check_order(page, told)
+        self.check_holes(page, strips)
         as_told = [('0x%012x' % (a + 16), str(n), p) for a, n, p in chunks]
-        self.assertEqual(as_told, told['chunks'])
+        self.assertEqual(sorted(as_told), sorted(told['chunks']))
         self.assertEqual([('0x%012x' % (a + 16), str(n), p) for a, n, p in mapped],
                          [(a, n, p) for a, n, _, p in told['mapped']])
         counted = sum(int(row['all'][0]) for row in page.tables.get('calls', {}).values())
         self.assertEqual(counted, told['records'])
         if page.data['buckets']:
             self.assertLessEqual(len(page.data['buckets']), 600)
+
+    def check_order(self, page, told):
+        """The largest arena is first, in strips and table; only small ones are folded; many strips follow the table."""
+        sizes = {number: int(system) for number, system, _, _ in told['arenas']}
+        sizes['mapped'] = told['dials']
+        shown = [sizes[arena] for arena, _ in page.figures]
+        self.assertEqual(shown, sorted(shown, reverse=True))
+        rows = list(page.tables['arenas'])
+        self.assertEqual(rows[-2:], ['mapped', 'all'])
+        inside = [page.value(row, 'system') for row in rows[:-2]]
+        self.assertEqual(inside, sorted(inside, reverse=True))
+        for size in shown[page.folded:] if page.folded is not None else []:
+            self.assertLess(size, sum(shown) / 50)
+        for row in page.small:
+            self.assertLess(page.value(row, 'system'), told['total'][0] / 50)
+        where = page.sections.index('Where the bytes are')
+        self.assertEqual(where > page.sections.index('Bytes of each arena'), len(page.figures) >= 3)
+
+    def check_holes(self, page, strips):
+        """Each link leads to the largest hole of its row, and the first of all to the largest."""
+        entries = [e for strip in strips for e in unpacked(strip)]
+        holes = [n for _, n, place in entries if place.startswith(('bin', 'fast'))]
+        self.assertEqual(page.value('all', 'hole'), max(holes or [0]))
+        linked = [entries[i][1] for i in page.links]
+        rows = [page.value(row, 'hole') for row in page.tables['arenas'] if page.value(row, 'hole')]
+        self.assertEqual(linked, [max(holes)] + rows if holes else [])
 
     def check_picture(self, told):
         tree = ElementTree.parse(self.svg)
@@ -266,6 +301,39 @@ class Tests(unittest.TestCase):
         self.assertEqual([(name, ['0x%012x' % (entries[i][0] + 16) for i in ids])
                           for owner, name, ids in page.data['lists'] if owner == 'main'],
                          [('%s %s' % (kind, index), users.split(' ')) for kind, index, users in lists])
+
+    def test_a_title(self):
+        self.assertEqual(self.run_inside('-o', self.page, '--title', 'sed <1>, --mxfast 0', SMALL + '.report'), (0, ''))
+        self.assertEqual(Page(self.read(self.page)).title, 'sed <1>, --mxfast 0')
+
+    def test_small_arenas_are_folded(self):
+        """Thirty arenas that are each a hundredth of main."""
+        lines = ['ptmreport 1 serial', 'arena 0 system 13516800 max 13516800 list 0 last -',
+                 '0x555555559010 13516800 top']
+        for arena in range(1, 31):
+            lines += ['arena %d system 135168 max 135168 list %d last -' % (arena, 31 - arena),
+                      '0x7f%02x000008d0 132928 top' % (arena - 1)]
+        lines += ['mapped', 'book free - next - limit 0', 'dials threshold 131072 trim 131072 mapped 0 bytes 0']
+        for place, (system, used) in enumerate([(13516800, 0)] + [(135168, 2240)] * 30):
+            lines += ['Arena %d:' % place, 'system bytes     = %10d' % system, 'in use bytes     = %10d' % used]
+        lines += ['Total (incl. mmap):', 'system bytes     =   17571840', 'in use bytes     =      67200',
+                  'max mmap regions =          0', 'max mmap bytes   =          0']
+        self.assertEqual(self.run_inside('-o', self.page, self.write('many', '\n'.join(lines) + '\n')), (0, ''))
+        page = Page(self.read(self.page))
+        self.assertEqual((page.folded, len(page.figures), len(page.small)), (4, 31, 27))
+
+    def test_the_heap_of_a_process(self):
+        """No records, other headers, and no thread of a block: only the first line says that this is right."""
+        whole = self.read(SMALL + '.report')
+        places = whole[:whole.index('0 m 1')] + whole[whole.index('arena 0 system'):]
+        self.refused(self.run_inside('-o', self.page, self.write('cut', places)), 'the threads of the records')
+        process = places.replace('serial', 'places').replace('0x5555555', '0x55aa555')
+        self.assertEqual(self.run_inside('-o', self.page, self.write('process', process)), (0, ''))
+        page = Page(self.read(self.page))
+        self.assertEqual((page.value('main', 'live'), page.data['buckets']), (80, []))
+        self.refused(self.run_inside('-o', self.page, self.write('both', whole.replace('serial', 'places'))),
+                     'have no records')
+        self.refused(self.run_inside('-o', self.page, '--at', '1', self.write('process', process)), 'no lines of a trace')
 
     # ---- faulty reports
 
@@ -402,7 +470,8 @@ class Tests(unittest.TestCase):
 
         self.assertEqual(at(3, good), (0, ''))
         page = Page(self.read(self.page))
-        self.assertEqual((page.title, page.value('main', 'live')), ('Heap of more.report behind line 3', 80))
+        self.assertEqual((page.title, page.value('main', 'live')),
+                         ('Heap of more.report behind line 3, with --mxfast 0', 80))
         self.assertEqual(at(3, good, self.write('a.trace', longer)), (0, ''))
         os.unlink(self.page)
         self.refused(at(5, good), '--at 5: the trace has 4 lines')

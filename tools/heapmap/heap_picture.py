@@ -55,8 +55,9 @@ class Strip:
 
 
 def strips_of(report):
+    """The strips, those of the largest arena first; the mapped chunks count as an arena."""
     strips = []
-    for arena in report.arenas:
+    for arena in by_size(report.arenas):
         for region in arena.regions:
             entries = [(region.start, region.header, HEADER, 0, 0)] if region.header else []
             entries += [(c.user - 16, c.size, c.kind, c.thread, c.number)
@@ -68,8 +69,25 @@ def strips_of(report):
             if c.lead:
                 entries.append((c.user - 16 - c.lead, c.lead, LEAD, 0, 0))
             entries.append((c.user - 16, c.size, c.kind, c.thread, c.number))
-        strips.append(Strip('mapped chunks', None, entries[0][0], entries))
+        mapped = Strip('mapped chunks', None, entries[0][0], entries)
+        before = next((i for i, strip in enumerate(strips) if strip.arena is not None
+                       and report.arenas[strip.arena].system < mapped.length), len(strips))
+        strips.insert(before, mapped)
     return strips
+
+
+def by_size(arenas):
+    return sorted(arenas, key=lambda arena: (-arena.system, arena.number))
+
+
+FEW, SMALL = 4, 0.02
+
+
+def first_small(sizes):
+    """Of sizes that fall, from which on they are small beside all, and at least two; their count where none are."""
+    whole = sum(sizes)
+    first = next((i for i, size in enumerate(sizes) if i >= FEW and size < SMALL * whole), len(sizes))
+    return first if len(sizes) - first > 1 else len(sizes)
 
 
 def colour_of(kind, thread):
@@ -92,6 +110,14 @@ def columns_of(strip, width):
     return columns
 
 
+def heights(shares, high, least):
+    """How high each share of a column is drawn: by its bytes, but none so low that nobody sees it."""
+    total, few = sum(shares) or 1, min(least, high / len(shares))
+    rest = sum(share for share in shares if share / total * high >= few)
+    left = high - few * sum(share / total * high < few for share in shares)
+    return [few if share / total * high < few else share / rest * left for share in shares]
+
+
 def strip_shapes(strip, x, y, width, height, colours):
     """The strip as one path for each colour. A column in which several have a share is divided by height."""
     paths = {}
@@ -103,9 +129,8 @@ def strip_shapes(strip, x, y, width, height, colours):
         if len(shares) == 1:
             while upto < width and columns[upto].keys() == shares.keys():
                 upto += 1
-        low, total = 0.0, sum(shares.values()) or 1
-        for colour in sorted(shares):
-            part = height * shares[colour] / total
+        low, names = 0.0, sorted(shares)
+        for colour, part in zip(names, heights([shares[name] for name in names], height, 2)):
             paths.setdefault(colour, []).append('M%d %sh%dv%sh%dz' % (
                 x + at, short(y + low), upto - at, short(part), at - upto))
             low += part

@@ -2,7 +2,7 @@
 
 const data = JSON.parse(document.getElementById('data').textContent);
 const [LIVE, CACHE, STRUCTURE, TRAY, FAST, BIN, TOP] = data.kinds.keys();
-const BAR = 40, AXIS = 18, SHOWN = 25, LISTED = 60;
+const TICKS = 7, BAR = 40, AXIS = 18, LEAST = 3, SHOWN = 25, LISTED = 60;
 const darkness = matchMedia('(prefers-color-scheme: dark)');
 let printing = false, chosen = null;
 
@@ -141,23 +141,42 @@ function columnsOf(strip, width, scale, ratio) {
   return [columns, wide];
 }
 
+// How high each share of a column is drawn: by its bytes, but none so low that nobody sees it.
+function heights(shares, high, least) {
+  const total = shares.reduce((sum, share) => sum + share, 0), few = Math.min(least, high / shares.length);
+  const isLow = (share) => share / total * high < few;
+  const rest = shares.reduce((sum, share) => sum + (isLow(share) ? 0 : share), 0);
+  const left = high - few * shares.filter(isLow).length;
+  return shares.map((share) => isLow(share) ? few : share / rest * left);
+}
+
+// Above each column in which live blocks are less than a tenth of the bytes, a tick.
+function drawTicks(pen, columns, width, ratio, colours) {
+  const many = colourNames.length;
+  const live = colourNames.flatMap((name, c) => name.startsWith('live ') ? [c] : []);
+  pen.fillStyle = colours.ink;
+  for (let x = 0; x < width; x++) {
+    const bytes = live.reduce((sum, c) => sum + columns[x * many + c], 0);
+    if (bytes > 0 && bytes < 0.1) pen.fillRect(x, 0, ratio, (TICKS - 2) * ratio);
+  }
+}
+
 // A column in which several colours have bytes is divided by height, so that no chunk is lost however many there are.
-function drawColumns(pen, columns, width, bar, colours) {
+function drawColumns(pen, columns, width, bar, ratio, colours) {
   const many = colourNames.length;
   for (let x = 0; x < width;) {
     const present = [];
     for (let c = 0; c < many; c++) if (columns[x * many + c] > 0) present.push(c);
-    const total = present.reduce((sum, c) => sum + columns[x * many + c], 0);
+    const parts = heights(present.map((c) => columns[x * many + c]), bar, LEAST * ratio);
     let end = x + 1, y = 0;
     if (present.length === 1) {
       while (end < width && columns[end * many + present[0]] > 0.999) end++;
     }
-    for (const c of present) {
-      const part = columns[x * many + c] / total * bar;
+    present.forEach((c, i) => {
       pen.fillStyle = colours[colourNames[c]];
-      pen.fillRect(x, y, end - x, part);
-      y += part;
-    }
+      pen.fillRect(x, y, end - x, parts[i]);
+      y += parts[i];
+    });
     x = end;
   }
 }
@@ -167,12 +186,14 @@ function draw(strip) {
   const canvas = strip.canvas, ratio = printing ? 2 : window.devicePixelRatio || 1;
   const width = Math.max(1, Math.round(canvas.clientWidth * ratio)), bar = BAR * ratio;
   canvas.width = width;
-  canvas.height = (BAR + AXIS) * ratio;
+  canvas.height = (TICKS + BAR + AXIS) * ratio;
   const pen = canvas.getContext('2d');
   const colours = darkness.matches && !printing ? data.dark : data.light;
   const scale = width / (strip.to - strip.from);
   const [columns, wide] = columnsOf(strip, width, scale, ratio);
-  drawColumns(pen, columns, width, bar, colours);
+  drawTicks(pen, columns, width, ratio, colours);
+  pen.translate(0, TICKS * ratio);
+  drawColumns(pen, columns, width, bar, ratio, colours);
   drawWide(pen, strip, wide, bar, ratio, colours);
   drawChosen(pen, strip, scale, width, bar, ratio, colours);
   pen.strokeStyle = colours.soft;
@@ -230,6 +251,12 @@ function drawChosen(pen, strip, scale, width, bar, ratio, colours) {
   pen.fill();
 }
 
+// An offset so that two ticks differ.
+function offsetShort(at, step) {
+  const unit = [2 ** 30, 2 ** 20, 2 ** 10, 1].find((bytes) => at >= bytes) || 1;
+  return step < unit / 64 ? number(at) + ' B' : bytesShort(at);
+}
+
 // Round offsets from the strip's start.
 function drawAxis(pen, strip, scale, width, bar, ratio, colours) {
   let step = 16;
@@ -240,7 +267,7 @@ function drawAxis(pen, strip, scale, width, bar, ratio, colours) {
   for (let at = Math.ceil(strip.from / step) * step; at <= strip.to; at += step) {
     const x = (at - strip.from) * scale;
     pen.fillRect(Math.min(x, width - ratio), bar, ratio, 4 * ratio);
-    const words = '+' + bytesShort(at);
+    const words = '+' + offsetShort(at, step);
     const need = pen.measureText(words).width;
     if (x + need + 5 * ratio < width) pen.fillText(words, x + 3 * ratio, bar + 14 * ratio);
   }
@@ -297,10 +324,34 @@ function choose(id, reveal) {
 
 // Chosen in a table or a list: its strip comes into sight too.
 function goTo(id) {
-  choose(id, true);
   const strip = stripOf(id)[0];
+  unfold(strip);
+  choose(id, true);
   strip.canvas.focus({preventScroll: true});
   strip.canvas.scrollIntoView({block: 'center'});
+}
+
+function unfold(strip) {
+  const folded = strip.canvas.closest('details');
+  if (folded) folded.open = true;
+}
+
+const isLive = (strip, i) => strip.kind[i] === LIVE || strip.kind[i] === TRAY;
+const isHole = (strip, i) => strip.kind[i] === BIN || strip.kind[i] === FAST;
+
+// The next chunk of that kind behind the chosen one, or before it, in this strip or in one further on.
+function seek(strip, by, isWanted) {
+  let here = chosen !== null && stripOf(chosen)[0] === strip ? chosen - strip.first : null;
+  if (here === null) here = by > 0 ? indexAt(strip.offset, strip.count, strip.from) - 1 : strip.count;
+  for (let at = strips.indexOf(strip); at >= 0 && at < strips.length; at += by) {
+    const there = strips[at];
+    if (there !== strip) here = by > 0 ? -1 : there.count;
+    for (let i = here + by; i >= 0 && i < there.count; i += by) {
+      if (!isWanted(there, i)) continue;
+      if (there === strip) choose(strip.first + i, true); else goTo(there.first + i);
+      return;
+    }
+  }
 }
 
 function offsetAt(strip, event) {
@@ -336,7 +387,7 @@ function press(strip, event) {
     const pen = strip.canvas.getContext('2d');
     pen.fillStyle = 'rgba(128,128,128,.55)';
     const left = Math.min(start, now.clientX) - box.left, width = Math.abs(now.clientX - start);
-    pen.fillRect(left * ratio, 0, width * ratio, BAR * ratio);
+    pen.fillRect(left * ratio, 0, width * ratio, BAR * ratio);      // behind the ticks, where draw left the pen
   };
   const end = (now) => {
     strip.canvas.removeEventListener('pointermove', move);
@@ -362,6 +413,8 @@ function key(strip, event) {
   const length = strip.to - strip.from;
   const moves = {
     ArrowRight: () => step(1), ArrowLeft: () => step(-1),
+    n: () => seek(strip, 1, isLive), p: () => seek(strip, -1, isLive),
+    h: () => seek(strip, 1, isHole), g: () => seek(strip, -1, isHole),
     Home: () => choose(strip.first, false), End: () => choose(strip.first + strip.count - 1, false),
     PageUp: () => show(strip, strip.from - length * 0.8, strip.to - length * 0.8),
     PageDown: () => show(strip, strip.from + length * 0.8, strip.to + length * 0.8),
@@ -375,7 +428,7 @@ function key(strip, event) {
 
 function setUp(strip, figure) {
   const canvas = strip.canvas = element('canvas', '', {tabindex: 0, role: 'img', 'aria-describedby': 'chosen',
-    'aria-label': `${strip.name}, ${strip.length} bytes. Arrow keys go from chunk to chunk, plus and minus zoom.`});
+    'aria-label': `${strip.name}, ${strip.length} bytes. Arrow keys go from chunk to chunk, n to the next live block, h to the next hole, plus and minus zoom.`});
   figure.append(canvas);
   const tools = figure.querySelector('.tools');
   const button = (sign, label, action) => {
@@ -384,6 +437,8 @@ function setUp(strip, figure) {
     tools.append(made);
     return made;
   };
+  button('next live', 'next live block', () => seek(strip, 1, isLive));
+  button('next hole', 'next hole', () => seek(strip, 1, isHole));
   button('+', 'zoom in', () => zoom(strip, 0.5, centre(strip)));
   strip.out = button('−', 'zoom out', () => zoom(strip, 2, centre(strip)));
   strip.whole = button('whole', 'show the whole strip', () => show(strip, 0, strip.length));
@@ -414,10 +469,16 @@ addEventListener('resize', redraw);
 darkness.addEventListener('change', redraw);
 addEventListener('beforeprint', () => { printing = true; strips.forEach(draw); });
 addEventListener('afterprint', () => { printing = false; strips.forEach(draw); });
-byId('onescale').addEventListener('change', (event) => {
+function setScale() {
   const longest = strips.reduce((most, s) => Math.max(most, s.length), 1);
   for (const strip of strips) {
-    strip.canvas.style.width = event.target.checked ? `max(6px, ${strip.length / longest * 100}%)` : '';
+    strip.canvas.style.width = byId('onescale').checked ? `max(6px, ${strip.length / longest * 100}%)` : '';
   }
   redraw();
+}
+byId('onescale').addEventListener('change', setScale);
+setScale();
+document.addEventListener('click', (event) => {
+  const link = event.target.closest('[data-go]');
+  if (link) goTo(+link.dataset.go);
 });

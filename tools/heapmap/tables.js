@@ -66,6 +66,25 @@ byId('earlier').addEventListener('click', () => { page--; fillTable(); });
 byId('later').addEventListener('click', () => { page++; fillTable(); });
 search();
 
+// ---- rows of small arenas, which a button shows
+
+function foldRows() {
+  const rows = [...document.querySelectorAll('tr[data-small]')];
+  if (rows.length === 0) return;
+  const row = element('tr', '', {class: 'screen'}), cell = element('td', '', {colspan: rows[0].cells.length});
+  const button = element('button', '', {type: 'button'});
+  const turn = () => {
+    const folded = document.body.classList.toggle('folded');
+    button.textContent = `${folded ? 'show' : 'hide'} ${number(rows.length)} small arenas`;
+  };
+  button.addEventListener('click', turn);
+  turn();
+  cell.append(button);
+  row.append(cell);
+  rows[0].before(row);
+}
+foldRows();
+
 // ---- the lists of bins and caches
 
 function fillList(box, ids) {
