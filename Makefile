@@ -9,7 +9,7 @@ PREFIX ?= /usr/local
 DESTDIR ?=
 OUT ?= out
 CRATES = ptmreplay kernel_calls
-TOOLS = heapmap whatif record heap_of
+TOOLS = heapmap whatif record heap_of trace_of
 # The day of the last change, as a version, and its name.
 VERSION := $(shell git log -1 --format=0.%cd.%h --date=format:%Y%m%d 2>/dev/null || echo 0)
 MAINTAINER ?= nobody <nobody@localhost>
@@ -47,6 +47,7 @@ install: programs record
 	install -m 644 tools/heapmap/heap_*.py tools/heapmap/*.js tools/heapmap/*.css "$(own)/tools/heapmap"
 	install -m 644 tools/whatif/whatif_*.py "$(own)/tools/whatif"
 	install -m 644 tools/heap_of/*_*.py "$(own)/tools/heap_of"
+	install -m 644 tools/trace_of/*_*.py "$(own)/tools/trace_of"
 	install -m 755 tools/record/record.so "$(own)/tools/record"
 	strip "$(own)/tools/record/record" "$(own)/tools/record/record.so"
 	install -m 644 docs/ptmreplay.1 "$(man)"
