@@ -15,7 +15,6 @@ HERE = os.path.dirname(os.path.abspath(__file__))
 ROOT = os.path.dirname(os.path.dirname(HERE))
 TOOL = os.path.join(HERE, 'heap_of')
 RECORD = os.path.join(ROOT, 'tools', 'record')
-HEAPMAP = os.path.join(ROOT, 'tools', 'heapmap', 'heapmap')
 PROGRAM = os.environ.get('PTMREPLAY') or os.path.join(ROOT, 'crates', 'ptmreplay', 'out', 'ptmreplay')
 MODEL = (0x8c0, 0x20)       # the headers of an arena's first heap and of its others in glibc 2.31
 HEAP_MAX = 64 << 20
@@ -146,12 +145,14 @@ class Compared(unittest.TestCase):
 
     def test_the_report_makes_a_page(self):
         page, source = os.path.join(self.folder, 'heap.html'), os.path.join(self.folder, 'report')
-        with open(source, 'wb') as file:
-            file.write(self.living.stdout)
-        done = run(HEAPMAP, '-o', page, source)
-        self.assertEqual((done.returncode, done.stderr), (0, b''))
+        done = run(TOOL, '--core', self.core, '--exe', self.process.program, '-o', source, '--page', page, '--title', 'A b')
+        self.assertEqual((done.returncode, done.stdout, done.stderr), (0, b'', b''))
+        with open(source, 'rb') as file:
+            self.assertEqual(file.read(), self.living.stdout)
         with open(page, encoding='utf-8') as file:
-            self.assertIn('arena 4', file.read())
+            text = file.read()
+        self.assertIn('arena 4', text)
+        self.assertIn('<title>A b</title>', text)
 
     def test_a_heap_that_was_written_over(self):
         """A core with another size in a chunk in main's middle: the chunk is named."""
@@ -192,6 +193,7 @@ class Words(unittest.TestCase):
         self.refused(2, 'one of --pid and --core is wanted', '--pid', '1', '--core', 'c', '--exe', 'e')
         self.refused(2, '--core and --exe go together', '--core', 'c')
         self.refused(2, 'invalid int value', '--pid', 'x')
+        self.refused(2, '--title goes with --page', '--pid', '1', '--title', 't')
         self.refused(1, 'there is no process 999999999', '--pid', '999999999')
         self.refused(1, "/nowhere/core can't be read", '--core', '/nowhere/core', '--exe', TOOL)
         self.refused(1, 'is neither a program nor a core', '--core', TOOL, '--exe', TOOL)

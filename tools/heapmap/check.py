@@ -335,6 +335,20 @@ class Tests(unittest.TestCase):
                      'have no records')
         self.refused(self.run_inside('-o', self.page, '--at', '1', self.write('process', process)), 'no lines of a trace')
 
+    def test_a_timeline(self):
+        table = self.write('table', 'line  system  live\n   1       0     0\n   2  135168    32\n   3  135168    80\n')
+        self.assertEqual(self.run_inside('-o', self.page, '--svg', self.svg, '--timeline', table, SMALL + '.report'),
+                         (0, ''))
+        for path in (self.page, self.svg):
+            self.assertIn('<title>line 2: 135,168 bytes from the system</title>', self.read(path))
+        os.unlink(self.page)
+        for wrong, words in (('', "doesn't name"), ('line live\n1 0\n', "doesn't name"), ('line system\n1\n', 'no number'),
+                             ('line system\n1 x\n', 'no number'), ('line system\n4 5\n', 'of a trace of 3 lines'),
+                             ('line system\n', 'not those of a trace')):
+            self.refused(self.run_inside('-o', self.page, '--timeline', self.write('wrong', wrong), SMALL + '.report'),
+                         words)
+        self.assertFalse(os.path.exists(self.page))
+
     # ---- faulty reports
 
     def test_each_part_of_a_report_is_refused(self):

@@ -172,10 +172,11 @@ def ticks(most):
 HIGH, CALLS_HIGH, GAP, MARGIN = 150, 110, 34, 70
 
 
-def live_shapes(story, colours, left, y, inner):
-    """Live bytes over the lines: an area up to the most of each bucket, and a band from its least to its most."""
+def live_shapes(story, colours, left, y, inner, lines):
+    """Live bytes over the lines: an area up to the most of each bucket, and a band from its least to its most; above
+    them the bytes from the system, where they are known."""
     out, buckets = [], story.buckets
-    most = max(1, story.peak[0])
+    most = max([1, story.peak[0]] + [system for _, system in story.system])
     each = inner / len(buckets)
 
     def up(n):
@@ -191,6 +192,13 @@ def live_shapes(story, colours, left, y, inner):
     out.append('<path d="M%s %sL%sV%sz" fill="%s"/>' % (left, base, 'L'.join(top), base, colours['live-one']))
     out.append('<path d="M%sL%sz" fill="%s" stroke="%s" stroke-width="1"/>'
                % ('L'.join(top), 'L'.join(bottom), colours['live-from'], colours['live-from']))
+    if story.system:
+        count = max(1, lines - 1)
+        points = ['%s %s' % (short(left + inner * max(0, line - 2) / count), up(system)) for line, system in story.system]
+        out.append('<path d="M%s" fill="none" stroke="%s" stroke-width="2"/>' % ('L'.join(points), colours['bin']))
+        out += ['<circle cx="%s" cy="%s" r="2.5" fill="%s"><title>line %s: %s bytes from the system</title></circle>'
+                % (*point.split(' '), colours['bin'], number(line), number(system))
+                for point, (line, system) in zip(points, story.system)]
     return out
 
 
@@ -220,11 +228,13 @@ def curve_shapes(report, story, colours, x, y, width):
     left, inner, count = x + MARGIN, width - MARGIN, len(report.records)
     calls = y + HIGH + GAP
     names = 'names' if report.threads_form else 'names and in trays'
-    out = [text(left, y - 8, 'Live bytes behind each line: the sizes of the chunks under ' + names, colours, 12,
-                weight='bold'),
+    head = 'Live bytes behind each line: the sizes of the chunks under ' + names
+    if story.system:
+        head = 'Bytes from the system (line), and live (area): the sizes of the chunks under ' + names
+    out = [text(left, y - 8, head, colours, 12, weight='bold'),
            text(left, calls - 8, 'Calls: takes above the line, gives below it', colours, 12, weight='bold')]
     if story.buckets:
-        out += live_shapes(story, colours, left, y, inner)
+        out += live_shapes(story, colours, left, y, inner, count)
         out += call_shapes(story, colours, left, calls + CALLS_HIGH / 2, inner)
     for _, line in story.borders:
         out.append('<path d="M%s %sV%s" stroke="%s"/>'

@@ -29,6 +29,7 @@ class Story:
         self.trays = {}         # tray -> size; negative where its take stands above its post
         self.borders = []       # in a report of threads: (thread, its first record)
         self.total = self.blocks = 0
+        self.system = []        # from a table beside: (line, bytes from the system behind it)
 
     def put(self, key, block):
         """The name has this block from now on, or none."""
@@ -112,6 +113,22 @@ def follow(report):
             story.borders.append((int(before), line))
     check(report, story)
     return story
+
+
+def system_of(text, count):
+    """The bytes from the system over the lines, of a table whose first line names its columns, `line` and `system` among
+    them; the trace has so many lines."""
+    rows = [line.split() for line in text.splitlines() if line.strip()]
+    if not rows or 'line' not in rows[0] or 'system' not in rows[0]:
+        raise Fault("its first line doesn't name the columns 'line' and 'system'")
+    line, system = rows[0].index('line'), rows[0].index('system')
+    try:
+        found = sorted((int(row[line]), int(row[system])) for row in rows[1:])
+    except (ValueError, IndexError):
+        raise Fault('a row has no number for each column')
+    if not found or found[0][0] < 1 or found[-1][0] > count:
+        raise Fault('its lines are not those of a trace of %d lines' % count)
+    return found
 
 
 def check(report, story):
