@@ -24,6 +24,7 @@ _ptmreplay_options='
 --polls any
 --gen any
 --lines any
+--trim any
 --threads flag
 --summary flag
 '

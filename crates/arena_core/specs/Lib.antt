@@ -12,3 +12,4 @@ pub mod Arenas
 pub mod Opening
 pub mod Examples
 pub mod Shown
+pub mod KeptArenas

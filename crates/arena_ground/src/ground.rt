@@ -18,10 +18,10 @@ use crate::steps::{
 };
 use address_space::{MAIN_START, PIECE_START};
 use arena_rules::{HeapEnd, Moves};
-use ordinary_bins::LinkWords;
 use chunk_image::TileWords;
 use chunk_tags::{Addr, Chunk, NoMemory, Size, Tile, TileKind, small_index};
 use heap_top::Regions;
+use ordinary_bins::LinkWords;
 use std::alloc::Global;
 use std::marker::Model;
 

@@ -16,10 +16,10 @@ ghost use Rattle.arena_ground.specs.Grounds.{bins_at, tile_chunk, chunks_at, sor
 ghost use Rattle.arena_rules.specs.Search.{first_oldest};
 
 use arena_rules::HeapEnd;
-use ordinary_bins::LinkWords;
 use chunk_image::TileWords;
 use chunk_tags::{Addr, Chunk, NoMemory, Size, Tile, TileKind, is_small, large_index, small_index};
 use large_bins::forget;
+use ordinary_bins::LinkWords;
 use std::alloc::Global;
 
 /// The bin of unsorted chunks (glibc's `unsorted_chunks`).

@@ -15,8 +15,8 @@ pub use block::Block;
 pub use mallopt::Parameter;
 pub use refusals::{NoMemory, Refused};
 pub use sizes::{
-    Addr, MAX_CACHED, MAX_REQUEST, MIN_CHUNK, PAGE, Size, cache_index, cached_size, fast_index, is_small,
-    large_index, page_down, page_up, request_size, small_index,
+    Addr, MAX_CACHED, MAX_REQUEST, MIN_CHUNK, PAGE, Size, cache_index, cached_size, fast_index,
+    is_small, large_index, page_down, page_up, request_size, small_index,
 };
 pub use tiles::{Chunk, Tile, TileKind};
 pub use tunables::{Mode, Tunables};

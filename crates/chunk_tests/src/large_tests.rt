@@ -9,10 +9,10 @@ ghost use Rattle.ordinary_bins.specs.Lists.{bin_count, empty_lists, list_at, tim
 ghost use Rattle.large_bins.specs.FirstChunks.{AreFirsts};
 ghost use Rattle.large_bins.specs.SeenChunks.{size_at, chunks_by, bins_by, HaveTiles};
 
-use ordinary_bins::LinkWords;
 use chunk_image::TileWords;
 use chunk_tags::{Addr, NoMemory, Size, Tile, TileKind};
 use large_bins::{best, insert};
+use ordinary_bins::LinkWords;
 use std::alloc::Global;
 use std::test::Fail;
 

@@ -1,7 +1,7 @@
 //! Linked lists of two chunks.
 
-use ordinary_bins::LinkWords;
 use chunk_tags::Addr;
+use ordinary_bins::LinkWords;
 use std::test::Fail;
 
 #[test]

@@ -1,5 +1,5 @@
 -- What the words of a command line ask for (this project's own).
-use Rattle.std.specs.Prelude.{ℕ, ◌&&◌, Bool, true, not, List, [], ◌∷◌, drop, fold, Option, Some, None, is_some, option_map, String, if◌then◌else◌}
+use Rattle.std.specs.Prelude.{ℕ, ◌&&◌, ◌||◌, Bool, true, not, List, [], ◌∷◌, drop, fold, Option, Some, None, is_some, option_map, String, if◌then◌else◌}
 use Rattle.std.specs.List.{list_any}
 use Rattle.std.specs.Str.{bytes_eq}
 use Rattle.chunk_tags.specs.Tunables.{defaults_of}
@@ -9,7 +9,7 @@ use Rattle.command_words.specs.declared.asked.Asked.{Asked}
 use Rattle.command_words.specs.declared.asked.Generated.{Generated}
 use Rattle.command_words.specs.declared.part.Choice.{Choice}
 use Rattle.command_words.specs.declared.part.Choice.TheVariants.{Sets}
-use Rattle.command_words.specs.declared.setting.Setting.TheVariants.{Gen, Lines}
+use Rattle.command_words.specs.declared.setting.Setting.TheVariants.{Gen, Lines, Trim}
 use Rattle.command_words.specs.declared.tuning.Draft.{Draft}
 use Rattle.command_words.specs.Options.{threads_flag, summary_flag, set}
 use Rattle.command_words.specs.Parts.{Word, Given, texts_of, parts_of, choice_of}
@@ -34,12 +34,13 @@ generated_if seed lines = None
 -- ---- what is asked for
 
 abbrev pub fresh_draft : Mode → Draft
-fresh_draft mode = record { tunables = defaults_of mode; seed = None; lines = None }
+fresh_draft mode = record { tunables = defaults_of mode; seed = None; lines = None; trim = None }
 
 -- what is asked for, with one choice more
 abbrev pub with_choice : Draft → Option Choice → Draft
 with_choice draft (Some (Sets Gen n)) = record draft { seed = Some n }
 with_choice draft (Some (Sets Lines n)) = record draft { lines = Some n }
+with_choice draft (Some (Sets Trim n)) = record draft { trim = Some n }
 with_choice draft (Some (Sets setting n)) = record draft { tunables = set setting n draft.tunables }
 with_choice draft _ = draft
 
@@ -59,16 +60,18 @@ asked_with parts draft generated = record {
   tunables = draft.tunables;
   generated = generated;
   summary = gives summary_flag parts;
+  trim = draft.trim;
 }
 
--- whether the options are taken, and no summary is asked for of a run with threads
-abbrev pub is_taken : List Given → Bool
-is_taken parts = are_taken parts && not (gives threads_flag parts && gives summary_flag parts)
+-- whether the options are taken, and no summary is asked for of a run with threads, or of one that is trimmed at its end
+abbrev pub is_taken : List Given → Draft → Bool
+is_taken parts draft =
+    are_taken parts && not (gives summary_flag parts && (gives threads_flag parts || is_some draft.trim))
 
 -- what options ask for that choose this
 abbrev pub asked_if : List Given → Draft → Option Asked
 asked_if parts draft =
-    if is_taken parts then option_map (asked_with parts draft) (generated_if draft.seed draft.lines) else None
+    if is_taken parts draft then option_map (asked_with parts draft) (generated_if draft.seed draft.lines) else None
 
 abbrev pub asked_from : List Given → Option Asked
 asked_from parts = asked_if parts (draft_of (mode_of parts) parts)

@@ -9,7 +9,7 @@ use Rattle.chunk_tags.specs.declared.mallopt.Parameter.{Parameter}
 use Rattle.chunk_tags.specs.declared.mallopt.Parameter.TheVariants.{Mxfast, TrimThreshold, TopPad, MmapThreshold, MmapMax, ArenaTest, ArenaMax}
 use Rattle.chunk_tags.specs.declared.tunables.Tunables.{Tunables}
 use Rattle.command_words.specs.declared.setting.Setting.{Setting}
-use Rattle.command_words.specs.declared.setting.Setting.TheVariants.{Mallopt, TcacheCount, TcacheMax, Cores, Records, HeapMax, Heaps, MainMax, Polls, Gen, Lines}
+use Rattle.command_words.specs.declared.setting.Setting.TheVariants.{Mallopt, TcacheCount, TcacheMax, Cores, Records, HeapMax, Heaps, MainMax, Polls, Gen, Lines, Trim}
 use Rattle.command_words.specs.declared.setting.Form.{Form}
 use Rattle.command_words.specs.declared.setting.Form.TheVariants.{Any, PowerOfTwo, Pages}
 use Rattle.command_words.specs.declared.setting.Range.{Range}
@@ -51,10 +51,11 @@ row_of MainMax = row (codes "main-max") 4096 1073741824 Pages
 row_of Polls = row (codes "polls") 1 1000000 Any
 row_of Gen = row (codes "gen") 0 18446744073709551615 Any
 row_of Lines = row (codes "lines") 0 1000000 Any
+row_of Trim = row (codes "trim") 0 2147483647 Any
 
 -- the options that take a value
 abbrev pub settings : List Setting
-settings = Mallopt Mxfast ∷ Mallopt TrimThreshold ∷ Mallopt TopPad ∷ Mallopt MmapThreshold ∷ Mallopt MmapMax ∷ Mallopt ArenaTest ∷ Mallopt ArenaMax ∷ TcacheCount ∷ TcacheMax ∷ Cores ∷ Records ∷ HeapMax ∷ Heaps ∷ MainMax ∷ Polls ∷ Gen ∷ Lines ∷ []
+settings = Mallopt Mxfast ∷ Mallopt TrimThreshold ∷ Mallopt TopPad ∷ Mallopt MmapThreshold ∷ Mallopt MmapMax ∷ Mallopt ArenaTest ∷ Mallopt ArenaMax ∷ TcacheCount ∷ TcacheMax ∷ Cores ∷ Records ∷ HeapMax ∷ Heaps ∷ MainMax ∷ Polls ∷ Gen ∷ Lines ∷ Trim ∷ []
 
 -- the option with a value that has this name
 unfoldable pub setting_named : List ℕ → Option Setting
@@ -87,7 +88,7 @@ takes_number setting n = is_within (row_of setting).range n
 abbrev pub bins_up_to : ℕ → ℕ
 bins_up_to n = cache_index_of (chunk_size_of n) + 1
 
--- the tunables with a setting at this number; what a generated trace has is no tunable
+-- the tunables with a setting at this number; what a generated trace has, and the pad of a trim at the end, is no tunable
 abbrev pub set : Setting → ℕ → Tunables → Tunables
 set (Mallopt parameter) n t = set_parameter parameter n t
 set TcacheCount n t = record t { tcache_count = n }
@@ -100,3 +101,4 @@ set MainMax n t = record t { main_max = n }
 set Polls n t = record t { polls = n }
 set Gen n t = t
 set Lines n t = t
+set Trim n t = t

@@ -22,4 +22,6 @@ pub struct Asked {
     pub generated: Option<Generated>,
     /// Whether a summary is written in the place of a report.
     pub summary: bool,
+    /// The pad of a malloc_trim(3) behind the last line, where one is asked for.
+    pub trim: Option<u64>,
 }

@@ -20,6 +20,7 @@ pub enum Setting {
     Polls,
     Gen,
     Lines,
+    Trim,
 }
 
 /// How a number has to be, beside its range.
@@ -102,6 +103,7 @@ impl Setting {
             "polls" => Some(Setting::Polls),
             "gen" => Some(Setting::Gen),
             "lines" => Some(Setting::Lines),
+            "trim" => Some(Setting::Trim),
             _ => None,
         }
     }
@@ -128,6 +130,7 @@ impl Setting {
             Setting::Polls => any_within(1, 1_000_000),
             Setting::Gen => any_within(0, u64::MAX),
             Setting::Lines => any_within(0, 1_000_000),
+            Setting::Trim => any_within(0, 2_147_483_647),
         }
     }
 }

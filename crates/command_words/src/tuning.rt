@@ -16,6 +16,7 @@ pub struct Draft {
     pub tunables: Tunables,
     pub seed: Option<u64>,
     pub lines: Option<u64>,
+    pub trim: Option<u64>,
 }
 
 /// How many lists of a cache are used, where this is the largest request that is cached.
@@ -62,7 +63,7 @@ pub(crate) fn set(setting: Setting, n: u64, t: Tunables) -> Tunables
             polls: n as u32,
             ..t
         },
-        Setting::Gen | Setting::Lines => t,
+        Setting::Gen | Setting::Lines | Setting::Trim => t,
     }
 }
 
@@ -76,6 +77,7 @@ pub(crate) fn fresh(mode: Mode) -> Draft
         tunables: Tunables::defaults(mode),
         seed: None,
         lines: None,
+        trim: None,
     }
 }
 
@@ -95,6 +97,10 @@ pub(crate) fn choose(draft: Draft, choice: Option<Choice>) -> Draft
         },
         Some(Choice::Sets(Setting::Lines, n)) => Draft {
             lines: Some(n),
+            ..draft
+        },
+        Some(Choice::Sets(Setting::Trim, n)) => Draft {
+            trim: Some(n),
             ..draft
         },
         Some(Choice::Sets(setting, n)) => Draft {

@@ -86,12 +86,16 @@ fn read(words: &[String]) -> Option<Asked>
         return None;
     }
     let draft = draft(words, mode);
+    if summary && draft.trim.is_some() {
+        return None;
+    }
     let generated = generated(draft.seed, draft.lines)?;
     Some(Asked {
         mode,
         tunables: draft.tunables,
         generated,
         summary,
+        trim: draft.trim,
     })
 }
 

@@ -12,9 +12,9 @@ ghost use Rattle.large_bins.specs.SeenChunks.{size_at, chunks_by, bins_by, large
 ghost use Rattle.large_bins.specs.Places.{first_of_size, AllAbove, AllBelow, FitsLast, StopsAt};
 
 use crate::splices::{insert_before, push_back, replace};
-use ordinary_bins::LinkWords;
 use chunk_image::TileWords;
 use chunk_tags::{Addr, Size, large_index};
+use ordinary_bins::LinkWords;
 
 /// The bytes of a chunk.
 fn size_of(tiles: &TileWords, at: Addr) -> u64

@@ -4,8 +4,8 @@ ghost use Rattle.std.specs.Prelude.{◌≡◌, ℕ, ◌<◌, ◌≤◌, List, []
 ghost use Rattle.part_words.specs.Extents.{IsOpen};
 ghost use Rattle.ordinary_bins.specs.Lists.{bin_count, list_at, times_listed};
 
-use ordinary_bins::LinkWords;
 use chunk_tags::Addr;
+use ordinary_bins::LinkWords;
 
 /// Puts a chunk at the end of a bin.
 pub(crate) fn push_back(links: &mut LinkWords, bin: u8, at: Addr)

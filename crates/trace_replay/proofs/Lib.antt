@@ -24,3 +24,4 @@ mod Jobs
 mod Outcomes
 mod Snapshots
 mod LineThreads
+mod ListedAtEnd

@@ -1,8 +1,11 @@
 -- The text that a serial run writes for the words, the bytes of its source and the ports; or how it refuses them
 -- (this project's own).
-use Rattle.std.specs.Prelude.{ℕ, Bool, nat_lt, List, ◌++◌, length, codes, Option, Some, None, Result, Ok, Err, if◌then◌else◌}
+use Rattle.std.specs.Prelude.{ℕ, Bool, nat_lt, List, [], ◌++◌, length, map, flat_map, codes, Option, Some, None, Result, Ok, Err, if◌then◌else◌}
 use Rattle.chunk_tags.specs.declared.tunables.Tunables.{Tunables}
 use Rattle.address_space.specs.Ports.{Port}
+use Rattle.arena_rules.specs.PlainArena.{Plain}
+use Rattle.page_trim.specs.Trimming.{trims_of}
+use Rattle.page_trim.specs.TrimText.{trim_text}
 use Rattle.stats_text.specs.Views.{Shown}
 use Rattle.stats_text.specs.Report.{places_of}
 use Rattle.stats_text.specs.AnswerCounts.{counts_of}
@@ -15,7 +18,8 @@ use Rattle.command_words.specs.declared.asked.Asked.{Asked}
 use Rattle.command_words.specs.declared.asked.Generated.{Generated}
 use Rattle.trace_replay.specs.declared.exit.Exit.{Exit}
 use Rattle.trace_replay.specs.declared.exit.Exit.TheVariants.{BadTrace, TooLong}
-use Rattle.world_view.specs.Scenes.{shown_of}
+use Rattle.world_view.specs.Places.{fast_lists}
+use Rattle.world_view.specs.Scenes.{Scene, shown_of}
 use Rattle.trace_replay.specs.Records.{outcomes_of, records_of}
 use Rattle.byte_edge.specs.Input.{max_input}
 use Rattle.trace_replay.specs.Runs.{Run, run_of}
@@ -48,14 +52,24 @@ run_summary threads run = summary_of (counts_of (outcomes_of run.replies)) (show
 abbrev pub run_text : {K : Type 0} → Bool → List ℕ → Run K → List ℕ
 run_text summary threads run = if summary then run_summary threads run else run_report threads run
 
--- the text on a run that ended so
-abbrev pub text_on : {K : Type 0} → Bool → List ℕ → Result (Run K) Exit → Result (List ℕ) Exit
-text_on summary threads (Ok run) = Ok (run_text summary threads run)
-text_on summary threads (Err exit) = Err exit
+-- what follows a report where all arenas are trimmed at the end: what was given up of these, which have these lists of fast
+-- chunks, ten an arena, in the order of the list of arenas
+abbrev pub trim_lines : Option ℕ → List ℕ → List (List ℕ) → List Plain → List ℕ
+trim_lines None list fast arenas = []
+trim_lines (Some pad) list fast arenas = trim_text pad list (trims_of pad fast arenas)
 
--- the text on a run of lines, a summary or a report, over the port of each thread
-abbrev pub text_over : {K : Type 0} → Port K → Bool → Tunables → List Line → List K → Result (List ℕ) Exit
-text_over port summary t lines kernels = text_on summary (threads_in lines) (run_of port t lines (opening_world t kernels))
+-- the same of a scene
+abbrev pub trim_section : Option ℕ → Scene → List ℕ
+trim_section trim s = trim_lines trim s.book.list (flat_map (λ a. fast_lists a.fast) s.arenas) (map (λ a. a.arena) s.arenas)
+
+-- the text on a run that ended so
+abbrev pub text_on : {K : Type 0} → Bool → Option ℕ → List ℕ → Result (Run K) Exit → Result (List ℕ) Exit
+text_on summary trim threads (Ok run) = Ok (run_text summary threads run ++ trim_section trim (scene_of threads run.world))
+text_on summary trim threads (Err exit) = Err exit
+
+-- the text on a run of lines, a summary or a report, over the port of each thread; with the pad of a trim at the end
+abbrev pub text_over : {K : Type 0} → Port K → Bool → Option ℕ → Tunables → List Line → List K → Result (List ℕ) Exit
+text_over port summary trim t lines kernels = text_on summary trim (threads_in lines) (run_of port t lines (opening_world t kernels))
 
 -- ---- a run's job
 
@@ -98,7 +112,7 @@ job_of (Err exit) bytes = Err exit
 
 -- the text for a job, over the ports
 abbrev pub text_of : {K : Type 0} → Port K → List K → Result Job Exit → Result (List ℕ) Exit
-text_of port kernels (Ok job) = text_over port job.asked.summary job.asked.tunables job.lines kernels
+text_of port kernels (Ok job) = text_over port job.asked.summary job.asked.trim job.asked.tunables job.lines kernels
 text_of port kernels (Err exit) = Err exit
 
 -- what a run writes for these, over the ports, or how it refuses them

@@ -14,6 +14,7 @@ mod sheet;
 mod text;
 mod threads;
 mod top_call;
+mod trims;
 
 pub use byte_edge::{
     CountSink, Fetch, Flush, MemSink, MemSource, Put, Sink, Source, StdSink, StdSource, SureSource,

@@ -5,14 +5,22 @@ ghost use Rattle.chunk_tags.specs.Tunables.{IsTuned};
 
 use crate::calling::{call, tidy};
 use crate::threads::new_threads;
+use crate::trims::trim_lines;
 use address_space::Kernel;
 use chunk_tags::{NoMemory, Tunables};
 use malloc_calls::{Reply, Thread};
-use serial_places::Serial;
+use serial_places::{Serial, SerialEnd};
 use stats_text::Snapshot;
 use std::alloc::Global;
 use trace_text::Line;
 use world_view::snapshot;
+
+/// What is told of a process at its end: what a report shows, and the lines on what was given up of arenas.
+#[derive(Drop)]
+pub struct Ending {
+    pub shown: Snapshot,
+    pub trim: Vec<u8>,
+}
 
 /// The threads by number, with all that their calls go over.
 #[derive(Drop)]
@@ -27,6 +35,7 @@ impl<K: Kernel> Process<K> {
     ghost use Rattle.stats_text.specs.Totals.{HasTotals};
     ghost use Rattle.trace_text.specs.Grammar.{threads};
     ghost use Rattle.world_view.specs.Scenes.{shown_of};
+    ghost use Rattle.trace_replay.specs.SerialText.{trim_section};
     ghost use Rattle.trace_replay.specs.Views.{scene_of};
     ghost use Rattle.trace_replay.specs.Naming.{HoldsWithin, MayRun, LeavesLine};
     ghost use Rattle.trace_replay.specs.Processes.{world_of, Tells, step_in, IsBetweenCalls};
@@ -84,13 +93,17 @@ impl<K: Kernel> Process<K> {
         Ok(reply)
     }
 
-    /// What a report shows of it at its end; the threads with these numbers have lines.
-    pub fn snapshot(self, alloc: Global, numbers: &[u8]) -> Result<Snapshot, NoMemory>
+    /// What a report shows of it at its end; the threads with these numbers have lines. Where a pad is given, all arenas are
+    /// trimmed then.
+    pub fn end(self, alloc: Global, numbers: &[u8], trim: Option<u64>) -> Result<Ending, NoMemory>
         requires { IsBetweenCalls self }
-        ensures shown { IfOk result (λ s.
-            s ≡ shown_of (scene_of numbers.now (world_of self))) }
-        ensures totals { IfOk result HasTotals }
+        ensures shown { IfOk result (λ e.
+            e.shown ≡ shown_of (scene_of numbers.now (world_of self))) }
+        ensures trim { IfOk result (λ e.
+            e.trim.items ≡ trim_section trim (scene_of numbers.now (world_of self))) }
+        ensures totals { IfOk result (λ e. HasTotals e.shown) }
     {
+        self.laws();
         let Process {
             threads,
             serial,
@@ -98,7 +111,7 @@ impl<K: Kernel> Process<K> {
         } = self;
         serial.laws();
         let end = serial.end()?;
-        snapshot(
+        let shown = snapshot(
             alloc,
             threads.as_slice(),
             end.arenas.as_slice(),
@@ -107,6 +120,21 @@ impl<K: Kernel> Process<K> {
             &end.book,
             &end.dials,
             numbers,
-        )
+        )?;
+        let SerialEnd {
+            mut arenas,
+            fast,
+            book,
+            trays: _,
+            dials: _,
+        } = end;
+        let lines = trim_lines(
+            alloc,
+            trim,
+            arenas.as_mut_slice(),
+            fast.as_slice(),
+            book.list(),
+        )?;
+        Ok(Ending { shown, trim: lines })
     }
 }

@@ -1,6 +1,6 @@
 //! The text of a run: for what is asked, the bytes of the source where these are read, and the ports.
 
-ghost use Rattle.std.specs.Prelude.{◌≡◌, ◌≤◌, ℕ, List, Some, vec_len, IsOk, IfOk, IfErr, OnOk, MatchResult, Ok};
+ghost use Rattle.std.specs.Prelude.{◌≡◌, ◌≤◌, ◌++◌, ℕ, List, Some, vec_len, IsOk, IfOk, IfErr, OnOk, MatchResult, Ok};
 ghost use Rattle.trace_text.specs.declared.trace.Line.{Line};
 ghost use Rattle.trace_text.specs.Grammar.{reading_of, threads};
 ghost use Rattle.trace_text.specs.Spelling.{Allows};
@@ -35,6 +35,15 @@ fn read_lines(alloc: Global, bytes: &[u8]) -> Result<Lines, Exit>
     Ok(trace.lines)
 }
 
+/// A text with another behind it.
+fn with_end(text: Vec<u8>, more: &[u8]) -> Result<Vec<u8>, NoMemory>
+    ensures { IfOk result (λ all. all.items ≡ text.items ++ more.now) }
+{
+    let mut all = text;
+    all.extend_from_slice(more)?;
+    Ok(all)
+}
+
 /// The text on a run of lines over the port of each thread. For a report `bytes` spell these lines. Lines and bytes are let
 /// go before what the text shows of the end is built.
 fn text_over<K: Kernel>(
@@ -49,7 +58,7 @@ fn text_over<K: Kernel>(
     requires allowed { AreLines lines }
     requires spelled { Spells asked.now.summary bytes.items lines }
     ensures told { AllTell K.port kernels.items → IfOk result (λ text.
-        text_over K.port asked.now.summary asked.now.tunables lines kernels.items
+        text_over K.port asked.now.summary asked.now.trim asked.now.tunables lines kernels.items
         ≡ Ok text.items) }
     ensures tiled { AllTell K.port kernels.items →
         OnOk result (GivesTiles K.port asked.now.tunables lines kernels.items) }
@@ -61,8 +70,9 @@ fn text_over<K: Kernel>(
     let notes = sheet.notes();
     drop(lines);
     drop(bytes);
-    let shown = process.snapshot(alloc, numbers.as_slice())?;
-    notes.finish(alloc, &shown)
+    let ending = process.end(alloc, numbers.as_slice(), asked.trim)?;
+    let text = notes.finish(alloc, &ending.shown)?;
+    with_end(text, ending.trim.as_slice())
 }
 
 /// The texts of a trace's lines, with which the records of a report begin; a summary has none.

@@ -39,7 +39,11 @@ pub fn fast_bins(
 {
     let mut bins = Vec::new(alloc);
     for number in 0..FAST_BINS {
-        let list = list(alloc, lists, usize::from(FAST_BINS) * index + usize::from(number))?;
+        let list = list(
+            alloc,
+            lists,
+            usize::from(FAST_BINS) * index + usize::from(number),
+        )?;
         bins.push((number, list))?;
     }
     Ok(bins)

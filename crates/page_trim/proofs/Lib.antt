@@ -1,0 +1,4 @@
+pub mod Merging
+pub mod Cuts
+pub mod Pages
+pub mod AllArenas
