@@ -188,8 +188,8 @@ finds_mapped s t who cache act b c o q r first d later same search lent maps fil
     let back : AreReturned s.ways s.dials o.places first (Maps len ∷ []) r = returned (Maps len ∷ []) (record { next = d; step = maps.counted; rest = refl }) in
     record {
       does = record {
-        told = Mapped (Some b.addr) ∷ [];
-        goes = subst (λ (x : Option Block). Goes s t who (search_mapping act cache) o (Mapped (Some b.addr) ∷ []) (Done (search_end 0 x cache)) (standing r later)) (sym is)
+        told = Mapped len (Some b.addr) ∷ [];
+        goes = subst (λ (x : Option Block). Goes s t who (search_mapping act cache) o (Mapped len (Some b.addr) ∷ []) (Done (search_end 0 x cache)) (standing r later)) (sym is)
             (going.mapped {next = λ start. Done (search_end 0 (mapped_for act start) cache)} {p = standing r later} (record { lending = q; dial = first; last_dial = d; block = Some b; lent = lent; maps = maps; told = refl; gave = gave }) here);
       };
       gets = record {
@@ -209,7 +209,7 @@ pub finds_unmapped : {P H D K : Type 0} (s : Setting P H D K) (t : Tunables) (wh
     Finds s t who (search_mapping act cache) act cache o 0 None cache (standing r later)
 finds_unmapped s t who cache act o q r first d later same lent maps gave returned = record {
   does = record {
-    told = Mapped None ∷ [];
+    told = Mapped (mapping_length (size_searched act)) None ∷ [];
     goes = going.mapped {next = λ start. Done (search_end 0 (mapped_for act start) cache)} {p = standing r later} (record { lending = q; dial = first; last_dial = d; block = None; lent = lent; maps = maps; told = refl; gave = gave }) here;
   };
   gets = record {

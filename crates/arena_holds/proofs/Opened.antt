@@ -157,7 +157,7 @@ opens_arena s plain {t = t} {who = who} {a = a} {bytes = bytes} {o = o} {r = r} 
     let asked : HasAsked s.means.kernel o.space later = has_asked opens.walks.walks in
     record {
       does = record {
-        told = Opened (Some entry) ∷ [];
+        told = Opened a (Some entry) ∷ [];
         goes = going.opened {p = standing r later} (record {
           arena = b;
           walk = subst (λ (ss : List Said). Walks t (asked_ways s.means.kernel) (opened t bytes (closed_arena t a)) o.space ss (Stop (Some b)) later) (sym opens.walks.added) opens.walks.walks;
@@ -176,7 +176,7 @@ refuses_arena s {t = t} {a = a} {bytes = bytes} {o = o} {r = r} {later = later} 
     let asked : HasAsked s.means.kernel o.space later = has_asked refused.walks.walks in
     record {
       does = record {
-        told = Opened None ∷ [];
+        told = Opened a None ∷ [];
         goes = going.refused {p = standing r later} (record { said = refused.walks.said; walk = refused.walks.walks; book = undone.book; undone = undone.booked }) here;
       };
       there = λ opened. absurd cc;

@@ -16,7 +16,7 @@ use Rattle.arena_choice.specs.Choices.{choice_of}
 use Rattle.arena_choice.specs.declared.choice.Choice.{Choice}
 use Rattle.arena_holds.specs.declared.holding.Search.{Search}
 use Rattle.arena_holds.specs.declared.searching.Tried.{Tried}
-use Rattle.arena_holds.specs.BookChanges.{Reuses}
+use Rattle.arena_holds.specs.BookChanges.{Chooses, Reuses}
 use Rattle.arena_holds.specs.Calls.{Call, Done, Books, then_call, hold_end}
 use Rattle.arena_holds.specs.Going as going
 use Rattle.arena_holds.specs.Going.{Told, Goes, Does, Held, Booked, here}
@@ -137,7 +137,7 @@ pub chosen_reused : {P H D K : Type 0} {s : Setting P H D K} {t : Tunables} {who
     s.ways.free o.places start (avoided fresh) a → SearchesHeld s t who a act cache o found.hold found.block left (standing p space) → IsBooked s.ways p (Reuses who.thread a) z →
     FindsChosen s t who (trees.search_reused who.thread fresh start act cache) act cache o (Some (record { arena = a; search = found })) left (standing z space)
 chosen_reused {s = s} {t = t} {who = who} {start = start} {a = a} fresh {act = act} {cache = cache} {left = left} {o = o} {p = p} {z = z} {space = space} found same free h booked =
-    let told : List Told = Held a found.hold h.before h.entry ∷ Booked booked.book ∷ [] in
+    let told : List Told = Held a found.hold h.before h.entry ∷ Booked (Reuses who.thread a) booked.book ∷ [] in
     let g : Gets s act cache o found.block left (standing p space) = h.gets in
     record {
       does = record {
@@ -161,7 +161,7 @@ chosen_by_book {s = s} {t = t} {who = who} bytes fresh {act = act} {cache = cach
     let rest : Goes s t who (next chosen.at.book) (standing q space) f.does.told (Done (chosen_with left tried)) z =
     subst (λ (c : Choice). Goes s t who (trees.search_by_choice who.thread fresh bytes act cache c) (standing q space) f.does.told (Done (chosen_with left tried)) z) chosen.choice_is f.does.goes in
     record {
-      does = record { told = Booked chosen.at.book ∷ f.does.told; goes = going.booked {next = next} {p = standing q space} (record { booked = chosen.at.booked; space = refl }) rest };
+      does = record { told = Booked (Chooses who.thread fresh) chosen.at.book ∷ f.does.told; goes = going.booked {next = next} {p = standing q space} (record { booked = chosen.at.booked; space = refl }) rest };
       none = f.none;
       gets = gets_after (omega arith) refl (carries_hidden same chosen.at.unseen space (in_cache cache)) f.gets;
       refused = f.refused;

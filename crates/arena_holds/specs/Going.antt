@@ -26,21 +26,22 @@ use Rattle.arena_choice.specs.Books.{BookValue}
 use Rattle.arena_holds.specs.BookChanges.{BookChange, Undoes}
 use Rattle.arena_holds.specs.Calls.{Call, Done, Holds, HoldsFree, Opens, Books, Maps, Pushes, Frees, Unmaps, Remaps, Posts, Takes}
 
--- What a call is told: of a hold the arena's number, the place of its entry, the arena before it, and the entry; of a new arena
--- its entry, or `None` where it was refused; the book as it was; where a mapping begins, or `None` where it was refused; a push;
--- a mapped chunk that was freed, with the threshold that was read; a mapping that went back; where a mapping of another length
--- begins, or `None` where it was refused; and what was found in a tray.
+-- What a call is told, with what it asked: of a hold the arena's number, the place of its entry, the arena before it, and the
+-- entry; of a new arena its number and its entry, or `None` where it was refused; a change of the book, and the book as it was;
+-- the length of a mapping and where it begins, or `None` where it was refused; a push; a mapped chunk that was freed, with the
+-- threshold that was read; one whose mapping went back; one whose mapping was to have another length, that length, and where it
+-- begins, or `None` where it was refused; and a tray, the block for it, and what was found there.
 pub data Told : Type 0 where
   Held : ℕ → ℕ → Plain → Recorded → Told
-  Opened : Option Recorded → Told
-  Booked : BookValue → Told
-  Mapped : Option ℕ → Told
+  Opened : ℕ → Option Recorded → Told
+  Booked : BookChange → BookValue → Told
+  Mapped : ℕ → Option ℕ → Told
   Pushed : Block → Told
-  Freed : ℕ → Told
-  Unmapped : Told
-  Remapped : Option ℕ → Told
-  Posted : Option ℕ → Told
-  Taken : Result Block ℕ → Told
+  Freed : Block → ℕ → Told
+  Unmapped : Block → Told
+  Remapped : Block → ℕ → Option ℕ → Told
+  Posted : ℕ → Block → Option ℕ → Told
+  Taken : ℕ → Result Block ℕ → Told
 
 abbrev pub beside : {H K : Type 0} → H → CacheValue → Space K → Outside H K
 beside port cache space = record { port = port; cache = cache; space = space }
@@ -159,25 +160,25 @@ pub data Goes {P H D K A : Type 0} (s : Setting P H D K) (t : Tunables) (who : W
       HoldStep s t who a act cache o place before entry left p → Goes s t who (next a place entry.ended left) p told q z →
       Goes s t who (HoldsFree start avoid act cache next) o (Held a place before entry ∷ told) q z
   opened : {a bytes : ℕ} {next : Bool → Call A} {q : Call A} {o p z : Standing P K} {told : List Told} {entry : Recorded} →
-      OpenStep s t who a bytes o entry p → Goes s t who (next true) p told q z → Goes s t who (Opens a bytes next) o (Opened (Some entry) ∷ told) q z
+      OpenStep s t who a bytes o entry p → Goes s t who (next true) p told q z → Goes s t who (Opens a bytes next) o (Opened a (Some entry) ∷ told) q z
   refused : {a bytes : ℕ} {next : Bool → Call A} {q : Call A} {o p z : Standing P K} {told : List Told} →
-      RefusedStep s t a bytes o p → Goes s t who (next false) p told q z → Goes s t who (Opens a bytes next) o (Opened None ∷ told) q z
+      RefusedStep s t a bytes o p → Goes s t who (next false) p told q z → Goes s t who (Opens a bytes next) o (Opened a None ∷ told) q z
   booked : {change : BookChange} {next : BookValue → Call A} {q : Call A} {o p z : Standing P K} {told : List Told} {book : BookValue} →
-      BookStep s change o book p → Goes s t who (next book) p told q z → Goes s t who (Books change next) o (Booked book ∷ told) q z
+      BookStep s change o book p → Goes s t who (next book) p told q z → Goes s t who (Books change next) o (Booked change book ∷ told) q z
   mapped : {len : ℕ} {next : Option ℕ → Call A} {q : Call A} {o p z : Standing P K} {told : List Told} {start : Option ℕ} →
-      MapStep s len o start p → Goes s t who (next start) p told q z → Goes s t who (Maps len next) o (Mapped start ∷ told) q z
+      MapStep s len o start p → Goes s t who (next start) p told q z → Goes s t who (Maps len next) o (Mapped len start ∷ told) q z
   pushed : {b : Block} {c q : Call A} {o p z : Standing P K} {told : List Told} →
       PushStep s b o p → Goes s t who c p told q z → Goes s t who (Pushes b c) o (Pushed b ∷ told) q z
   freed : {b : Block} {c q : Call A} {o p z : Standing P K} {told : List Told} {threshold : ℕ} →
-      FreeStep s t b o threshold p → Goes s t who c p told q z → Goes s t who (Frees b c) o (Freed threshold ∷ told) q z
+      FreeStep s t b o threshold p → Goes s t who c p told q z → Goes s t who (Frees b c) o (Freed b threshold ∷ told) q z
   unmapped : {b : Block} {c q : Call A} {o p z : Standing P K} {told : List Told} →
-      UnmapStep s b o p → Goes s t who c p told q z → Goes s t who (Unmaps b c) o (Unmapped ∷ told) q z
+      UnmapStep s b o p → Goes s t who c p told q z → Goes s t who (Unmaps b c) o (Unmapped b ∷ told) q z
   remapped : {b : Block} {len : ℕ} {next : Option ℕ → Call A} {q : Call A} {o p z : Standing P K} {told : List Told} {start : Option ℕ} →
-      RemapStep s b len o start p → Goes s t who (next start) p told q z → Goes s t who (Remaps b len next) o (Remapped start ∷ told) q z
+      RemapStep s b len o start p → Goes s t who (next start) p told q z → Goes s t who (Remaps b len next) o (Remapped b len start ∷ told) q z
   posted : {tray : ℕ} {b : Block} {next : Option ℕ → Call A} {q : Call A} {o p z : Standing P K} {told : List Told} {full : Option ℕ} →
-      PostStep s tray b o full p → Goes s t who (next full) p told q z → Goes s t who (Posts tray b next) o (Posted full ∷ told) q z
+      PostStep s tray b o full p → Goes s t who (next full) p told q z → Goes s t who (Posts tray b next) o (Posted tray b full ∷ told) q z
   taken : {tray : ℕ} {next : Result Block ℕ → Call A} {q : Call A} {o p z : Standing P K} {told : List Told} {found : Result Block ℕ} →
-      TakeStep s tray o found p → Goes s t who (next found) p told q z → Goes s t who (Takes tray next) o (Taken found ∷ told) q z
+      TakeStep s tray o found p → Goes s t who (next found) p told q z → Goes s t who (Takes tray next) o (Taken tray found ∷ told) q z
 
 -- A call goes to its end with a result.
 pub record Does {P H D K A : Type 0} (s : Setting P H D K) (t : Tunables) (who : Who) (c : Call A) (o : Standing P K)

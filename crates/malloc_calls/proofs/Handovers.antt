@@ -45,7 +45,7 @@ pub post_does : {P H D K : Type 0} {s : Setting P H D K} {p q : P} (t : Tunables
     (names : NameTable) → block_at own.names name ≡ Some b → names ≡ without_block name own.names → IsPosted s.ways tray p b None q →
     Does s t who (post_call name tray own) (standing p space) (Posted, record { cache = own.cache; names = names }) (standing q space)
 post_does t who space name tray b own names at gone h = rw (at, gone) (record {
-  told = going.Posted None ∷ [];
+  told = going.Posted tray b None ∷ [];
   goes = going.posted (record { posted = h.posted; space = refl }) here;
 })
 
@@ -61,7 +61,7 @@ pub full_does : {P H D K : Type 0} {s : Setting P H D K} {p q : P} (t : Tunables
     (names : NameTable) → block_at own.names name ≡ Some b → names ≡ own.names → IsPosted s.ways tray p b (Some seen) q →
     Does s t who (post_call name tray own) (standing p space) (Missed seen, record { cache = own.cache; names = names }) (standing q space)
 full_does t who space name tray seen b own names at same h = rw (at, same) (record {
-  told = going.Posted (Some seen) ∷ [];
+  told = going.Posted tray b (Some seen) ∷ [];
   goes = going.posted (record { posted = h.posted; space = refl }) here;
 })
 
@@ -79,7 +79,7 @@ pub take_does : {P H D K : Type 0} {s : Setting P H D K} {p q : P} (t : Tunables
     (names : NameTable) → names ≡ with_block name b own.names → IsTaken s.ways tray p (Ok b) q →
     Does s t who (take_call name tray own) (standing p space) (Taken b.addr b.size, record { cache = own.cache; names = names }) (standing q space)
 take_does t who space name tray b own names put h = rw put (record {
-  told = going.Taken (Ok b) ∷ [];
+  told = going.Taken tray (Ok b) ∷ [];
   goes = going.taken (record { took = h.took; space = refl }) here;
 })
 
@@ -93,7 +93,7 @@ take_unseen name tray b own names same room empty put h =
 pub empty_does : {P H D K : Type 0} {s : Setting P H D K} {p q : P} (t : Tunables) (who : Who) (space : Space K) (name tray seen : ℕ) (own : Own) →
     IsTaken s.ways tray p (Err seen) q → Does s t who (take_call name tray own) (standing p space) (Missed seen, own) (standing q space)
 empty_does t who space name tray seen own h = record {
-  told = going.Taken (Err seen) ∷ [];
+  told = going.Taken tray (Err seen) ∷ [];
   goes = going.taken (record { took = h.took; space = refl }) here;
 }
 

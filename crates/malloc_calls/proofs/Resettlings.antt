@@ -114,7 +114,7 @@ pub moved_out : {P H D K : Type 0} {s : Setting P H D K} {t : Tunables} {who : W
 moved_out {s = s} {t = t} {who = who} {nb = nb} {cache = cache} {left = left} {o = o} {p = p} c b got found some supplied u same =
     let h : Supplies s t who c nb cache o (Some got) left p = subst (λ x. Supplies s t who c nb cache o x left p) some supplied in
     record {
-      does = does_then (moved_from_mapping b) h.does (record { told = going.Unmapped ∷ []; goes = going.unmapped u.step here });
+      does = does_then (moved_from_mapping b) h.does (record { told = going.Unmapped b ∷ []; goes = going.unmapped u.step here });
       held = h.held;
       fits = h.fits;
       refused = λ e. absurd cc;
@@ -293,7 +293,7 @@ remapped_to {s = s} {t = t} {who = who} {o = o} {z = z} thread size nb b c cache
     subst (λ (x : Block). Goes {A = Resettled} s t who (Done (remapped b x, cache)) z [] (Done (remapped b c, cache)) z) h.chunk here in
     let held : IsHeld c = record { chunk = h.mapped.size; mapped = λ none. h.mapped } in
     rw e (record {
-      does = rw other (record { told = going.Remapped (Some start) ∷ []; goes = going.remapped h.step ends });
+      does = rw other (record { told = going.Remapped b (remap_length b nb) (Some start) ∷ []; goes = going.remapped h.step ends });
       held = rw (block_remapped b c) held;
       fits = answered_remapped _ b c (rw (block_remapped b c) (subst (λ x. need_of x nb ≤ c.size) (sym h.mapped.arena) h.fits));
       refused = λ no. not_null b c no;
@@ -314,7 +314,7 @@ pub remap_refused : {P H D K E : Type 0} {s : Setting P H D K} {o p : Standing P
 remap_refused {s = s} {o = o} {p = p} t who thread size nb b c cache left z (Ok done) other h same x =
     let y : Resettles s t who (not_remapped t thread size nb b cache) nb b cache p done left z = subst (λ (k : Block). Resettles s t who (not_remapped t thread size nb k cache) nb k cache p done left z) h.back x in
     record {
-      does = rw other (record { told = going.Remapped None ∷ y.does.told; goes = going.remapped h.step y.does.goes });
+      does = rw other (record { told = going.Remapped b (remap_length b nb) None ∷ y.does.told; goes = going.remapped h.step y.does.goes });
       held = y.held;
       fits = y.fits;
       refused = λ e. rose_later _ (space_refusals s.means.kernel p.space) _ h.later (y.refused e);

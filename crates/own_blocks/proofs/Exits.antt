@@ -32,7 +32,7 @@ pub last_mapped : {P H D K : Type 0} {s : Setting P H D K} {t : Tunables} {who :
     FreesMapped s t b o z → Does s t who (released_past_cache t b b.arena) o tt z
 last_mapped {s = s} {t = t} {who = who} {o = o} {z = z} b arena h =
     let P : Option ℕ → Type 0 = λ x. Does s t who (released_past_cache t b x) o tt z in
-    subst P (sym arena) (record { told = going.Freed h.threshold ∷ []; goes = freed h.step here })
+    subst P (sym arena) (record { told = going.Freed b h.threshold ∷ []; goes = freed h.step here })
 
 pub last_released : {P H D K : Type 0} {s : Setting P H D K} {t : Tunables} {who : Who} {o z : Standing P K} {to : To} (a : ℕ) (b : Block) → b.arena ≡ Some a →
     Releases s t who (past_cache t a b None) b None o to None z → Does s t who (released_past_cache t b b.arena) o tt z
@@ -164,7 +164,7 @@ pub leaves_does : {P H D K : Type 0} {s : Setting P H D K} {t : Tunables} {who :
     Does s t who (exit_call t thread own) o (Ended, record { cache = left; names = own.names }) (standing q space)
 leaves_does thread own left closed d h =
     rw closed (does_then (λ u. Books (Leaves thread) (λ book. Done (Ended, with_cache None own))) d
-    (record { told = going.Booked h.book ∷ []; goes = booked (record { booked = h.booked; space = refl }) here }))
+    (record { told = going.Booked (Leaves thread) h.book ∷ []; goes = booked (record { booked = h.booked; space = refl }) here }))
 
 pub leaves_carries : {P H D K : Type 0} {ways : PlaceWays P H D} {given : Hands} {o : Standing P K} {p q : P} {space : Space K} (hands : Hands) → SameLaw ways →
     Carries ways true given o hands (standing p space) → IsUnseen ways p (λ _. 0) (λ _. 0) q → Carries ways true given o hands (standing q space)

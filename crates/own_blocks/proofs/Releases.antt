@@ -166,7 +166,7 @@ pub free_unmaps : {P H D K : Type 0} {s : Setting P H D K} {t : Tunables} (who :
     Does s t who (free_call t thread name own) o (Freed sinks.Unmapped, record own { names = names }) z
 free_unmaps {s = s} {t = t} who {o = o} {z = z} thread name b own names at arena named h =
     let P : Option ℕ → Type 0 = λ x. Does s t who (free_of_block t thread name b x own) o (Freed sinks.Unmapped, without_name name own) z in
-    rw (at, named) (subst P (sym arena) (record { told = going.Freed h.threshold ∷ []; goes = freed h.step here }))
+    rw (at, named) (subst P (sym arena) (record { told = going.Freed b h.threshold ∷ []; goes = freed h.step here }))
 
 -- ---- memory was short for a name's block: it comes back, or doesn't
 
