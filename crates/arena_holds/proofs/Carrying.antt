@@ -18,7 +18,7 @@ FewerLaw {P = P} ways = (p : P) (hands some : Hands) → ((weigh : Block → ℕ
     ways.serves false p hands → ways.serves false p some
 
 pub carries_here : {P H D K : Type 0} (ways : PlaceWays P H D) (well : Bool) (hands : Hands) (o : Standing P K) → Carries ways well hands o hands o
-carries_here ways well hands o = record { serves = λ exact known others s. s; notes = λ others n. n; mapped = λ n. omega arith; tunables = refl; windows = refl; whole = λ w. w }
+carries_here ways well hands o = record { serves = λ exact known others s. s; notes = λ others n. n; mapped = λ n. omega arith; tunables = refl; windows = refl; whole = λ w. w; writes = λ who w. w }
 
 pub carries_then : {P H D K : Type 0} {ways : PlaceWays P H D} {well : Bool} {given between got : Hands} {o p z : Standing P K} →
     Carries ways true given o between p → Carries ways well between p got z → Carries ways well given o got z
@@ -29,6 +29,7 @@ carries_then a b = record {
   tunables = b.tunables ∙ a.tunables;
   windows = b.windows ∙ a.windows;
   whole = λ w. b.whole (a.whole w);
+  writes = λ who w. b.writes who (a.writes who w);
 }
 
 pub carries_as : {P H D K : Type 0} {ways : PlaceWays P H D} {well : Bool} {given got : Hands} {o z : Standing P K} → SameLaw ways → (given' got' : Hands) →
@@ -43,6 +44,7 @@ carries_as {given = given} {got = got} {o = o} {z = z} same given' got' e f c = 
   tunables = c.tunables;
   windows = c.windows;
   whole = c.whole;
+  writes = c.writes;
 }
 
 pub carries_beside : {P H D K : Type 0} {ways : PlaceWays P H D} {well : Bool} {given got : Hands} {o z : Standing P K} → SameLaw ways → (others : Hands) →
@@ -57,6 +59,7 @@ carries_beside {given = given} {got = got} {o = o} {z = z} same others c = recor
   tunables = c.tunables;
   windows = c.windows;
   whole = c.whole;
+  writes = c.writes;
 }
 
 -- where memory was short, fewer are known
@@ -67,7 +70,7 @@ carries_fewer {ways = ways} {given = given} {got = got} {o = o} {z = z} fewer so
       | true ↦ λ known others s. let e : false ≡ true = known refl in absurd cc
       | false ↦ λ known others s. fewer z.places (both_of got others) (both_of some others) (λ w. omega (arith, e w)) (c.serves false known others s)
     ] in
-    record { serves = serves; notes = c.notes; mapped = λ n. omega (arith, e (as_mapped_byte n), c.mapped n); tunables = c.tunables; windows = c.windows; whole = c.whole }
+    record { serves = serves; notes = c.notes; mapped = λ n. omega (arith, e (as_mapped_byte n), c.mapped n); tunables = c.tunables; windows = c.windows; whole = c.whole; writes = c.writes }
 
 pub carries_short : {P H D K : Type 0} {ways : PlaceWays P H D} {given got : Hands} {o z : Standing P K} → Carries ways true given o got z → Carries ways false given o got z
 carries_short c = record {
@@ -77,6 +80,7 @@ carries_short c = record {
   tunables = c.tunables;
   windows = c.windows;
   whole = c.whole;
+  writes = c.writes;
 }
 
 -- what is unseen in the places is kept, where the space stays
@@ -89,6 +93,7 @@ carries_unseen {K = K} {ways = ways} {z = z} well same fewer u = record {
   tunables = u.tunables;
   windows = rw same refl;
   whole = u.whole;
+  writes = u.writes;
 }
 
 -- ---- what a call needs
@@ -137,4 +142,5 @@ unseen_then {given = given} same a b = record {
   notes = λ own others n. b.notes own others (a.notes own others n);
   tunables = b.tunables ∙ a.tunables;
   whole = λ w. b.whole (a.whole w);
+  writes = λ who w. b.writes who (a.writes who w);
 }

@@ -294,6 +294,7 @@ carries_held well given got space later u account noted mapped windows = record 
   tunables = u.tunables;
   windows = windows;
   whole = u.whole;
+  writes = u.writes;
 }
 
 -- where memory was short nothing is known exactly

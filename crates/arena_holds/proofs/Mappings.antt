@@ -140,6 +140,7 @@ carries_mapped s act b c o r first d later fills taken maps back =
       tunables = back.tunables;
       windows = frame.windows;
       whole = back.whole;
+      writes = back.writes;
     }
 
 -- where it was refused
@@ -156,6 +157,7 @@ carries_unmapped s len o r first later asked back =
       tunables = back.tunables;
       windows = frame.windows;
       whole = back.whole;
+      writes = back.writes;
     }
 
 -- the words may be given back

@@ -87,6 +87,7 @@ carries_kept {ways = ways} {o = o} {z = z} same kept u hands = record {
   tunables = u.tunables;
   windows = kept.windows;
   whole = u.whole;
+  writes = u.writes;
 }
 
 pub carries_hidden : {P H D K : Type 0} {ways : PlaceWays P H D} {p q : P} → SameLaw ways → IsUnseen ways p (λ _. 0) (λ _. 0) q → (space : Space K) (hands : Hands) →

@@ -251,7 +251,7 @@ searches_held s words {t = t} {who = who} {a = a} {act = act} {cache = cache} {n
         carries = rw is (carries_as laws.same (in_cache cache) (both_of (weight_of (block_found mapped None n found)) (in_cache now)) (λ w. omega arith) (λ w. refl) carries);
       };
       refused = h.refused;
-      back = unlocked.back;
+      lists = unlocked.lists;
     }
 
 -- ---- a resize

@@ -74,6 +74,7 @@ carries_freed {K = K} s b o r first later steps mapped c others_same back =
       tunables = back.tunables;
       windows = ap (λ (x : Space K). x.windows) others_same;
       whole = back.whole;
+      writes = back.writes;
     }
 
 pub frees_mapped : {P H D K : Type 0} (s : Setting P H D K) {t : Tunables} (b : Block) (o : Standing P K) (q r : P) (first d : D) (later : Space K) → IsMapped b →
@@ -170,6 +171,7 @@ carries_refused s b c o r first d later change same still asked returned =
       tunables = back.tunables;
       windows = frame.windows;
       whole = back.whole;
+      writes = back.writes;
     })
 
 -- a longer one lies in what the window gave
@@ -225,6 +227,7 @@ carries_granted s b c len o r first d later mb mc is asked allowed back =
             tunables = back.tunables;
             windows = frame.windows;
             whole = back.whole;
+            writes = back.writes;
           }
       | false ↦ λ e.
           let kept : IsKeptPlace o.space (mapping_change b len) later (mapping_start c) = asked.kept e in
@@ -239,6 +242,7 @@ carries_granted s b c len o r first d later mb mc is asked allowed back =
             tunables = back.tunables;
             windows = frame.windows;
             whole = back.whole;
+            writes = back.writes;
           }
     ] in
     cases (nat_lt (mapping_bytes b) len) refl

@@ -86,8 +86,9 @@ pub record Gets {P H D K : Type 0} (s : Setting P H D K) (act : Act) (cache : Ca
   pub carries : Carries s.ways true (in_cache cache) old (both_of (weight_of block) (in_cache left)) new
 
 -- An arena is lent from there to a thread that has these blocks.
-pub record IsLentTo {P H D K : Type 0} (ways : PlaceWays P H D) (t : Tunables) (hands : Hands) (o : Standing P K) (a : ℕ) (port : H)
+pub record IsLentTo {P H D K : Type 0} (ways : PlaceWays P H D) (t : Tunables) (who : Who) (hands : Hands) (o : Standing P K) (a : ℕ) (port : H)
     (k : KeptArena) (lending : P) : Type 0 where
+  pub writes : ways.writes o.places who
   pub served : IsServed ways t hands o
   pub lent : ways.lent o.places a port (Some k) lending
 
@@ -101,7 +102,7 @@ pub record SearchesHeld {P H D K : Type 0} (s : Setting P H D K) (t : Tunables) 
   pub block_is : block ≡ taken_of a act entry.ended
   pub gets : Gets s act cache old block left new
   pub refused : block ≡ None → Rose (space_refusals s.means.kernel old.space) (space_refusals s.means.kernel new.space)
-  pub back : IsTrue (s.ways.there new.places a)
+  pub lists : (n : ℕ) → IsTrue (s.ways.listed old.places n) → IsTrue (s.ways.listed new.places n)
 
 -- Memory was short in such a hold: for its entry, for which the arena's journal had no room, and the arena is given back as it
 -- was; or behind it. The journal had so many entries, and room for so many in all.

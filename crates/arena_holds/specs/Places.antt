@@ -14,6 +14,7 @@ use Rattle.arena_rules.specs.MainPlaces.{covers, IsPlaced}
 use Rattle.arena_rules.specs.Rules.{windows_of, heap_windows_of}
 use Rattle.arena_growth.specs.FirstHeap.{closed_arena}
 use Rattle.arena_core.specs.declared.arena.Arena.{Arena}
+use Rattle.arena_core.specs.declared.journal.Who.{Who}
 use Rattle.arena_core.specs.Journal.{Recorded}
 use Rattle.arena_core.specs.Replay.{IsReplay}
 use Rattle.arena_core.specs.Shown.{MappedShown, ShowsMapped}
@@ -95,8 +96,9 @@ Covers false n m = n ≤ m
 -- put into its place, and a thread attached to it; a block was posted to a tray, or not, by what was found there; and taken
 -- from one. Then which blocks are given out, exactly these or at least these; that the mappings counted for a thread, and for
 -- the others, are together at most so many bytes; whether a push of an arena has room; the tunables; whether an arena is there
--- to be lent; whether each arena of the book is, main among them; whether the book keeps a number for a new arena of the
--- caller; and the mapped chunks that a lent port shows.
+-- to be lent; whether one is in the book's list; whether each arena of the book is there, main among them; whether the book
+-- keeps a number for a new arena of the caller; whether entries of a line may be recorded; and the mapped chunks that a lent
+-- port shows.
 pub record PlaceWays (P H D : Type 0) : Type 1 where
   pub lent : P → ℕ → H → Option KeptArena → P → Type 0
   pub gave : P → H → KeptArena → P → Type 0
@@ -114,8 +116,10 @@ pub record PlaceWays (P H D : Type 0) : Type 1 where
   pub room : P → ℕ → Type 0
   pub tunables : P → Tunables
   pub there : P → ℕ → Bool
+  pub listed : P → ℕ → Bool
   pub whole : P → Type 0
   pub owed : P → ℕ → Type 0
+  pub writes : P → Who → Type 0
   pub shown : H → MappedShown
 
 -- what a call stands on: the places, what is beside an arena in a hold, and the words
@@ -147,7 +151,8 @@ pub record IsServed {P H D K : Type 0} (ways : PlaceWays P H D) (t : Tunables) (
 
 -- What a step keeps: whatever else is given out stays so while these blocks are given up and those are got, known exactly
 -- where all went well; the mappings stay noted; no byte is got in a mapped chunk but what was given up in one or the thread's
--- window gave; tunables and windows are the same; and each arena of the book is there still.
+-- window gave; tunables and windows are the same; each arena of the book is there still; and entries of the same lines may be
+-- recorded.
 pub record Carries {P H D K : Type 0} (ways : PlaceWays P H D) (well : Bool) (given : Hands) (old : Standing P K) (got : Hands)
     (new : Standing P K) : Type 0 where
   pub serves : (exact : Bool) → (exact ≡ true → well ≡ true) → (others : Hands) →
@@ -157,6 +162,7 @@ pub record Carries {P H D K : Type 0} (ways : PlaceWays P H D) (well : Bool) (gi
   pub tunables : ways.tunables new.places ≡ ways.tunables old.places
   pub windows : new.space.windows ≡ old.space.windows
   pub whole : ways.whole old.places → ways.whole new.places
+  pub writes : (who : Who) → ways.writes old.places who → ways.writes new.places who
 
 -- ---- laws of places
 

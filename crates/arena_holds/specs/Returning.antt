@@ -9,6 +9,7 @@ use Rattle.fast_bins.specs.FastPorts.{Fast}
 use Rattle.arena_rules.specs.PlainArena.{IsSound, is_main, times_used}
 use Rattle.arena_rules.specs.MainPlaces.{IsPlaced}
 use Rattle.arena_rules.specs.Rules.{heap_windows_of}
+use Rattle.arena_core.specs.declared.journal.Who.{Who}
 use Rattle.arena_core.specs.Replay.{IsReplay}
 use Rattle.arena_core.specs.Shown.{MappedShown}
 use Rattle.arena_choice.specs.Books.{BookValue}
@@ -50,15 +51,17 @@ pub record IsNoted {P H D : Type 0} (ways : PlaceWays P H D) (port left : H) (ow
   pub bytes : (ways.shown left).bytes + own ≤ (ways.shown port).bytes + own'
 
 -- What unlocking keeps of what was there when the arena was lent: blocks are given out by the account of the hold, the
--- mappings of the hold are noted, the tunables are the same, and the arena is there again, as each one of the book.
+-- mappings of the hold are noted, the tunables are the same, each arena of the book is there again, and the list has those
+-- that it had.
 pub record IsUnlocked {P H D : Type 0} (ways : PlaceWays P H D) (fast : Fast H) (places : P) (a : ℕ) (port : H) (before : KeptArena)
     (left : H) (after : KeptArena) (new : P) : Type 0 where
   pub serves : (exact : Bool) (given got others : Hands) → IsAccounted ways fast a exact given port before got left after →
       ways.serves exact places (both_of given others) → ways.serves exact new (both_of got others)
   pub notes : (own own' others : ℕ) → IsNoted ways port left own own' → ways.notes places own others → ways.notes new own' others
   pub tunables : ways.tunables new ≡ ways.tunables places
-  pub back : IsTrue (ways.there new a)
+  pub lists : (n : ℕ) → IsTrue (ways.listed places n) → IsTrue (ways.listed new n)
   pub whole : ways.whole places → ways.whole new
+  pub writes : (who : Who) → ways.writes places who → ways.writes new who
 
 -- what unlocking keeps, whatever was lent
 abbrev pub Unlocks : {P H D : Type 0} → PlaceWays P H D → Fast H → P → H → KeptArena → P → Type 0
@@ -111,6 +114,7 @@ pub record AreReturned {P H D : Type 0} (ways : PlaceWays P H D) (words : Dialle
       new_len ≤ old_len → ways.notes places own others → ways.notes new own others
   pub tunables : ways.tunables new ≡ ways.tunables places
   pub whole : ways.whole places → ways.whole new
+  pub writes : (who : Who) → ways.writes places who → ways.writes new who
 
 -- so it does, whatever was lent and whatever steps were made
 abbrev pub ReturnsWords : {P H D : Type 0} → PlaceWays P H D → Dialled D → P → D → P → Type 0
@@ -126,6 +130,7 @@ pub record IsUnseen {P H D : Type 0} (ways : PlaceWays P H D) (old : P) (given g
   pub notes : (own others : ℕ) → ways.notes old own others → ways.notes new own others
   pub tunables : ways.tunables new ≡ ways.tunables old
   pub whole : ways.whole old → ways.whole new
+  pub writes : (who : Who) → ways.writes old who → ways.writes new who
 
 -- ---- the book, and a new arena
 
@@ -135,12 +140,13 @@ pub record IsBooked {P H D : Type 0} (ways : PlaceWays P H D) (old : P) (change 
   pub booked : ways.booked old change book new
   pub unseen : IsUnseen ways old (λ _. 0) (λ _. 0) new
 
--- what a choice allows: the arena is there, or the number of a new one is kept for the caller
+-- what a choice allows: the arena is there, and in the list where others use it too, or the number of a new one is kept for
+-- the caller
 abbrev pub IsAllowed : {P H D : Type 0} → PlaceWays P H D → P → Choice → Type 0
 IsAllowed ways p (Attached a) = IsTrue (ways.there p a)
 IsAllowed ways p (Free a) = IsTrue (ways.there p a)
 IsAllowed ways p (New a) = ways.owed p a
-IsAllowed ways p (Reuse start) = IsTrue (ways.there p start)
+IsAllowed ways p (Reuse start) = IsTrue (ways.there p start) × IsTrue (ways.listed p start)
 
 -- An arena was chosen for a thread.
 pub record IsChosen {P H D : Type 0} (ways : PlaceWays P H D) (thread : ℕ) (fresh : Bool) (t : Tunables) (old : P) (choice : Choice) (new : P) : Type 0 where

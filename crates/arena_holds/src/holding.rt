@@ -101,18 +101,18 @@ pub fn search_lent<P: Places, K: Kernel>(
 ) -> Result<Search, NoMemory>
     requires act { IsSearch act.now }
     requires tuned { IsTuned t.now }
-    requires lent { (places : P) × (a : ℕ) × IsLentTo P.ways t.now (in_cache cache.old)
+    requires lent { (places : P) × (a : ℕ) × IsLentTo P.ways t.now who.now (in_cache cache.old)
         (standing places space.old) a hold (kept_of P.Ground.plain arena) p.old }
-    ensures searches { (places : P) → (a : ℕ) → IsLentTo P.ways t.now (in_cache cache.old)
+    ensures searches { (places : P) → (a : ℕ) → IsLentTo P.ways t.now who.now (in_cache cache.old)
         (standing places space.old) a hold (kept_of P.Ground.plain arena) p.old → IfOk result
         (λ found. SearchesHeld (setting P.ways (means P.Hold.fast P.Hold.dials K.port) P.Dial.dials)
         t.now who.now a act.now cache.old (standing places space.old) found.hold found.block
         cache.new (standing p.new space.new)) }
-    ensures short { (places : P) → (a : ℕ) → IsLentTo P.ways t.now (in_cache cache.old)
+    ensures short { (places : P) → (a : ℕ) → IsLentTo P.ways t.now who.now (in_cache cache.old)
         (standing places space.old) a hold (kept_of P.Ground.plain arena) p.old → OnErr result
         (Carries P.ways false (in_cache cache.old) (standing places space.old)
         (in_cache cache.new) (standing p.new space.new)) }
-    ensures left { (places : P) → (a : ℕ) → IsLentTo P.ways t.now (in_cache cache.old)
+    ensures left { (places : P) → (a : ℕ) → IsLentTo P.ways t.now who.now (in_cache cache.old)
         (standing places space.old) a hold (kept_of P.Ground.plain arena) p.old → OnErr result
         (SearchesShort (setting P.ways (means P.Hold.fast P.Hold.dials K.port) P.Dial.dials) t.now
         who.now a act.now cache.old (standing places space.old) (length arena.journal.items)
@@ -140,6 +140,7 @@ pub fn give_held<P: Places, K: Kernel>(
     space: &mut Space<K>,
     t: &Tunables,
 ) -> Result<u64, GiveShort>
+    requires writer { P.ways.writes p.old who.now }
     requires chunk { IsChunkSize b.size }
     requires arena { b.arena ≡ Some a }
     requires served { IsServed P.ways t.now (λ weigh. weigh b) (standing p.old space.old) }
@@ -180,6 +181,7 @@ pub fn resize_held<P: Places, K: Kernel>(
     space: &mut Space<K>,
     t: &Tunables,
 ) -> Result<HeldResize, Block>
+    requires writer { P.ways.writes p.old who.now }
     requires size { IsRequestSize nb }
     requires held { IsHeld b }
     requires arena { b.arena ≡ Some a }

@@ -49,7 +49,9 @@ pub trait Places {
         avoid: Option<u8>,
     ) -> (u8, Self::Hold, Option<Arena<Self::Ground>>)
         requires there { IsTrue (ways.there self.old start) }
+        requires listed { IsTrue (ways.listed self.old start) }
         ensures free { ways.free self.old start avoid result.0 }
+        ensures listed { IsTrue (ways.listed self.old result.0) }
         ensures lent { ways.lent self.old result.0 result.1
             (option_map (kept_of Self.Ground.plain) result.2) self.new }
         ensures some { IsSome result.2 };
@@ -103,7 +105,7 @@ pub trait Places {
 
     /// Attaches a thread to an arena that others may use too (the end of glibc's `reused_arena`).
     fn reuse(&mut self, thread: u8, a: u8)
-        requires there { IsTrue (ways.there self.old a) }
+        requires listed { IsTrue (ways.listed self.old a) }
         ensures { IsBooked ways self.old (Reuses thread a) self.new };
 
     /// A thread leaves its arena (glibc's `__malloc_arena_thread_freeres`).

@@ -40,6 +40,7 @@ fn search_in<P: Places, K: Kernel>(
     space: &mut Space<K>,
     t: &Tunables,
 ) -> Result<Search, NoMemory>
+    requires writer { P.ways.writes p.old who.now }
     requires act { IsSearch act.now }
     requires tuned { IsTuned t.now }
     requires there { IsTrue (P.ways.there p.old a) }
@@ -74,9 +75,11 @@ fn search_reused<P: Places, K: Kernel>(
     space: &mut Space<K>,
     t: &Tunables,
 ) -> Result<Tried, NoMemory>
+    requires writer { P.ways.writes p.old who.now }
     requires act { IsSearch act.now }
     requires tuned { IsTuned t.now }
     requires there { IsTrue (P.ways.there p.old start) }
+    requires listed { IsTrue (P.ways.listed p.old start) }
     requires served { IsServed P.ways t.now (in_cache cache.old) (standing p.old space.old) }
     ensures finds { IfOk result (λ tried.
         FindsChosen (setting P.ways (means P.Hold.fast P.Hold.dials K.port) P.Dial.dials) t.now
@@ -109,6 +112,7 @@ fn open_arena<P: Places, K: Kernel>(
     space: &mut Space<K>,
     t: &Tunables,
 ) -> Result<bool, NoMemory>
+    requires writer { P.ways.writes p.old who.now }
     requires owed { P.ways.owed p.old a }
     requires bytes { bytes ≤ 2 ^ 63 }
     requires tuned { IsTuned t.now }
@@ -152,6 +156,7 @@ fn search_by_choice<P: Places, K: Kernel>(
     space: &mut Space<K>,
     t: &Tunables,
 ) -> Result<Option<Tried>, NoMemory>
+    requires writer { P.ways.writes p.old who.now }
     requires allowed { IsAllowed P.ways p.old choice }
     requires act { IsSearch act.now }
     requires bytes { bytes ≤ 2 ^ 63 }
@@ -200,6 +205,7 @@ fn choose_and_search<P: Places, K: Kernel>(
     space: &mut Space<K>,
     t: &Tunables,
 ) -> Result<Option<Tried>, NoMemory>
+    requires writer { P.ways.writes p.old who.now }
     requires act { IsSearch act.now }
     requires bytes { bytes ≤ 2 ^ 63 }
     requires tuned { IsTuned t.now }
@@ -232,6 +238,7 @@ fn search_again<P: Places, K: Kernel>(
     space: &mut Space<K>,
     t: &Tunables,
 ) -> Result<Search, NoMemory>
+    requires writer { P.ways.writes p.old who.now }
     requires act { IsSearch act.now }
     requires bytes { bytes ≤ 2 ^ 63 }
     requires tuned { IsTuned t.now }
@@ -273,6 +280,7 @@ pub fn search<P: Places, K: Kernel>(
     space: &mut Space<K>,
     t: &Tunables,
 ) -> Result<Search, NoMemory>
+    requires writer { P.ways.writes p.old who.now }
     requires act { IsSearch act.now }
     requires bytes { bytes ≤ 2 ^ 63 }
     requires again { again ≤ 2 ^ 63 }

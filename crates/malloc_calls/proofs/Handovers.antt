@@ -31,6 +31,7 @@ unseen_beside {p = p} {q = q} {given = given} {got = got} same others given' got
   notes = u.notes;
   tunables = u.tunables;
   whole = u.whole;
+  writes = u.writes;
 }
 
 -- what a name has when its block came back

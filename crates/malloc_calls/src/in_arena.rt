@@ -34,6 +34,7 @@ fn move_from_arena<P: Places, K: Kernel>(
     space: &mut Space<K>,
     t: &Tunables,
 ) -> Result<Reallocated, Block>
+    requires writer { P.ways.writes p.old who.now }
     requires bytes { size ≤ 2 ^ 63 }
     requires size { IsRequestSize nb }
     requires held { IsHeld block }
@@ -83,6 +84,7 @@ fn resize_in_arena<P: Places, K: Kernel>(
     space: &mut Space<K>,
     t: &Tunables,
 ) -> Result<Reallocated, Block>
+    requires writer { P.ways.writes p.old who.now }
     requires bytes { size ≤ 2 ^ 63 }
     requires size { IsRequestSize nb }
     requires held { IsHeld block }
@@ -124,6 +126,7 @@ pub(crate) fn realloc_in_arena<P: Places, K: Kernel>(
     space: &mut Space<K>,
     t: &Tunables,
 ) -> Result<Reallocated, Block>
+    requires writer { P.ways.writes p.old who.now }
     requires bytes { size ≤ 2 ^ 63 }
     requires size { IsRequestSize nb }
     requires held { IsHeld block }

@@ -33,6 +33,7 @@ fn move_from_mapping<P: Places, K: Kernel>(
     space: &mut Space<K>,
     t: &Tunables,
 ) -> Result<Reallocated, Block>
+    requires writer { P.ways.writes p.old who.now }
     requires bytes { size ≤ 2 ^ 63 }
     requires size { IsRequestSize nb }
     requires held { IsHeld block }
@@ -92,6 +93,7 @@ pub(crate) fn realloc_in_mapping<P: Places, K: Kernel>(
     space: &mut Space<K>,
     t: &Tunables,
 ) -> Result<Reallocated, Block>
+    requires writer { P.ways.writes p.old who.now }
     requires bytes { size ≤ 2 ^ 63 }
     requires size { IsRequestSize nb }
     requires held { IsHeld block }
@@ -136,6 +138,7 @@ fn keep_or_move<P: Places, K: Kernel>(
     space: &mut Space<K>,
     t: &Tunables,
 ) -> Result<Reallocated, Block>
+    requires writer { P.ways.writes p.old who.now }
     requires bytes { size ≤ 2 ^ 63 }
     requires size { IsRequestSize nb }
     requires held { IsHeld block }

@@ -83,6 +83,7 @@ pub fn malloc<P: Places, K: Kernel>(
     space: &mut Space<K>,
     t: &Tunables,
 ) -> Result<Reply, NoMemory>
+    requires writer { P.ways.writes p.old who.now }
     requires room { IsTrue (has_place own.old.names name) }
     requires empty { block_at own.old.names name ≡ None }
     requires tuned { IsTuned t.now }
@@ -124,6 +125,7 @@ pub fn calloc<P: Places, K: Kernel>(
     space: &mut Space<K>,
     t: &Tunables,
 ) -> Result<Reply, NoMemory>
+    requires writer { P.ways.writes p.old who.now }
     requires room { IsTrue (has_place own.old.names name) }
     requires empty { block_at own.old.names name ≡ None }
     requires tuned { IsTuned t.now }
@@ -165,6 +167,7 @@ pub fn posix_memalign<P: Places, K: Kernel>(
     space: &mut Space<K>,
     t: &Tunables,
 ) -> Result<Reply, NoMemory>
+    requires writer { P.ways.writes p.old who.now }
     requires room { IsTrue (has_place own.old.names name) }
     requires empty { block_at own.old.names name ≡ None }
     requires tuned { IsTuned t.now }

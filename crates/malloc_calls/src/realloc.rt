@@ -46,6 +46,7 @@ fn realloc_block<P: Places, K: Kernel>(
     space: &mut Space<K>,
     t: &Tunables,
 ) -> Result<Reallocated, Block>
+    requires writer { P.ways.writes p.old who.now }
     requires bytes { size ≤ 2 ^ 63 }
     requires size { IsRequestSize nb }
     requires held { IsHeld block }
@@ -85,6 +86,7 @@ fn realloc_name<P: Places, K: Kernel>(
     space: &mut Space<K>,
     t: &Tunables,
 ) -> Result<Reply, NoMemory>
+    requires writer { P.ways.writes p.old who.now }
     requires bytes { size ≤ 2 ^ 63 }
     requires size { IsRequestSize nb }
     requires some { IsSome (block_at own.old.names name) }
@@ -138,6 +140,7 @@ pub fn realloc<P: Places, K: Kernel>(
     space: &mut Space<K>,
     t: &Tunables,
 ) -> Result<Reply, NoMemory>
+    requires writer { P.ways.writes p.old who.now }
     requires tuned { IsTuned t.now }
     requires served { IsServed P.ways t.now (in_own own.old) (standing p.old space.old) }
     ensures does { IfOk result (λ reply.

@@ -196,6 +196,7 @@ impl<K: Kernel> Thread<K> {
         requires room { IsTrue (has_place (names_of self.old) name) }
         requires empty { block_at (names_of self.old) name ≡ None }
         requires tuned { IsTuned t.now }
+        requires writer { P.ways.writes p.old (who_of line self.old) }
         requires served { IsServed P.ways t.now (in_own (own_of self.old))
             (standing p.old (space_of self.old)) }
         ensures does { IfOk result (λ reply.
@@ -243,6 +244,7 @@ impl<K: Kernel> Thread<K> {
         requires room { IsTrue (has_place (names_of self.old) name) }
         requires empty { block_at (names_of self.old) name ≡ None }
         requires tuned { IsTuned t.now }
+        requires writer { P.ways.writes p.old (who_of line self.old) }
         requires served { IsServed P.ways t.now (in_own (own_of self.old))
             (standing p.old (space_of self.old)) }
         ensures does { IfOk result (λ reply.
@@ -291,6 +293,7 @@ impl<K: Kernel> Thread<K> {
         requires room { IsTrue (has_place (names_of self.old) name) }
         requires empty { block_at (names_of self.old) name ≡ None }
         requires tuned { IsTuned t.now }
+        requires writer { P.ways.writes p.old (who_of line self.old) }
         requires served { IsServed P.ways t.now (in_own (own_of self.old))
             (standing p.old (space_of self.old)) }
         ensures does { IfOk result (λ reply.
@@ -352,6 +355,7 @@ impl<K: Kernel> Thread<K> {
         t: &Tunables,
     ) -> Result<Reply, NoMemory>
         requires tuned { IsTuned t.now }
+        requires writer { P.ways.writes p.old (who_of line self.old) }
         requires served { IsServed P.ways t.now (in_own (own_of self.old))
             (standing p.old (space_of self.old)) }
         ensures does { IfOk result (λ reply.
@@ -411,6 +415,7 @@ impl<K: Kernel> Thread<K> {
         t: &Tunables,
     ) -> Result<Reply, NoMemory>
         requires tuned { IsTuned t.now }
+        requires writer { P.ways.writes p.old (who_of line self.old) }
         requires served { IsServed P.ways t.now (in_own (own_of self.old))
             (standing p.old (space_of self.old)) }
         ensures does { IfOk result (λ reply.
@@ -450,6 +455,7 @@ impl<K: Kernel> Thread<K> {
     /// had is released; then the thread leaves its arena. Its named blocks stay. `NoMemory` never comes where the cache is closed.
     pub fn exit<P: Places>(&mut self, p: &mut P, line: u64, t: &Tunables) -> Result<Reply, NoMemory>
         requires tuned { IsTuned t.now }
+        requires writer { P.ways.writes p.old (who_of line self.old) }
         requires served { IsServed P.ways t.now (in_own (own_of self.old))
             (standing p.old (space_of self.old)) }
         ensures does { IfOk result (λ reply.

@@ -29,6 +29,7 @@ fn release_last<P: Places, K: Kernel>(
     space: &mut Space<K>,
     t: &Tunables,
 ) -> Result<(), NoMemory>
+    requires writer { P.ways.writes p.old who.now }
     requires held { IsHeld block }
     requires tuned { IsTuned t.now }
     requires served { IsServed P.ways t.now (λ weigh. weigh block) (standing p.old space.old) }
@@ -65,6 +66,7 @@ fn close_cache<P: Places, K: Kernel>(
     space: &mut Space<K>,
     t: &Tunables,
 ) -> Result<(), NoMemory>
+    requires writer { P.ways.writes p.old who.now }
     requires tuned { IsTuned t.now }
     requires served { IsServed P.ways t.now (in_cache cache.old) (standing p.old space.old) }
     ensures does { OnOk result
@@ -101,6 +103,7 @@ pub fn exit<P: Places, K: Kernel>(
     space: &mut Space<K>,
     t: &Tunables,
 ) -> Result<Reply, NoMemory>
+    requires writer { P.ways.writes p.old who.now }
     requires tuned { IsTuned t.now }
     requires served { IsServed P.ways t.now (in_own own.old) (standing p.old space.old) }
     ensures does { IfOk result (λ reply.

@@ -51,6 +51,7 @@ fn free_chunk<P: Places, K: Kernel>(
     space: &mut Space<K>,
     t: &Tunables,
 ) -> Result<Reply, NoMemory>
+    requires writer { P.ways.writes p.old who.now }
     requires at { IfSome (block_at own.old.names name) (λ b. b.arena ≡ Some a) }
     requires some { IsSome (block_at own.old.names name) }
     requires tuned { IsTuned t.now }
@@ -98,6 +99,7 @@ pub fn free<P: Places, K: Kernel>(
     space: &mut Space<K>,
     t: &Tunables,
 ) -> Result<Reply, NoMemory>
+    requires writer { P.ways.writes p.old who.now }
     requires tuned { IsTuned t.now }
     requires served { IsServed P.ways t.now (in_own own.old) (standing p.old space.old) }
     ensures does { IfOk result (λ reply.

@@ -31,6 +31,7 @@ pub fn open_cache<P: Places, K: Kernel>(
     space: &mut Space<K>,
     t: &Tunables,
 ) -> Result<(), NoMemory>
+    requires writer { P.ways.writes p.old who.now }
     requires tuned { IsTuned t.now }
     requires served { IsServed P.ways t.now (in_cache cache.old) (standing p.old space.old) }
     ensures does { OnOk result

@@ -139,6 +139,7 @@ impl OwnCache {
         space: &mut Space<K>,
         t: &Tunables,
     ) -> Result<Search, NoMemory>
+        requires writer { P.ways.writes p.old who.now }
         requires act { IsSearch act.now }
         requires bytes { bytes ≤ 2 ^ 63 }
         requires again { again ≤ 2 ^ 63 }
@@ -173,6 +174,7 @@ impl OwnCache {
         space: &mut Space<K>,
         t: &Tunables,
     ) -> Result<HeldResize, Block>
+        requires writer { P.ways.writes p.old who.now }
         requires size { IsRequestSize nb }
         requires held { IsHeld b }
         requires arena { b.arena ≡ Some a }

@@ -60,6 +60,7 @@ pub fn release_past_cache<P: Places, K: Kernel>(
     space: &mut Space<K>,
     t: &Tunables,
 ) -> Result<To, GiveShort>
+    requires writer { P.ways.writes p.old who.now }
     requires held { IsHeld block }
     requires arena { block.arena ≡ Some a }
     requires tuned { IsTuned t.now }
@@ -104,6 +105,7 @@ pub fn release<P: Places, K: Kernel>(
     space: &mut Space<K>,
     t: &Tunables,
 ) -> Result<To, GiveShort>
+    requires writer { P.ways.writes p.old who.now }
     requires held { IsHeld block }
     requires arena { block.arena ≡ Some a }
     requires tuned { IsTuned t.now }

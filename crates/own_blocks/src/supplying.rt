@@ -66,6 +66,7 @@ pub fn supply_from_arena<P: Places, K: Kernel>(
     space: &mut Space<K>,
     t: &Tunables,
 ) -> Result<Option<Supply>, NoMemory>
+    requires writer { P.ways.writes p.old who.now }
     requires act { IsSearch act.now }
     requires bytes { bytes ≤ 2 ^ 63 }
     requires again { again ≤ 2 ^ 63 }
@@ -99,6 +100,7 @@ fn supply_open<P: Places, K: Kernel>(
     space: &mut Space<K>,
     t: &Tunables,
 ) -> Result<Option<Supply>, NoMemory>
+    requires writer { P.ways.writes p.old who.now }
     requires bytes { bytes ≤ 2 ^ 63 }
     requires size { IsRequestSize nb }
     requires tuned { IsTuned t.now }
@@ -141,6 +143,7 @@ pub fn plain_supply<P: Places, K: Kernel>(
     space: &mut Space<K>,
     t: &Tunables,
 ) -> Result<Option<Supply>, NoMemory>
+    requires writer { P.ways.writes p.old who.now }
     requires bytes { bytes ≤ 2 ^ 63 }
     requires size { IsRequestSize nb }
     requires tuned { IsTuned t.now }
@@ -174,6 +177,7 @@ pub fn fresh_supply<P: Places, K: Kernel>(
     space: &mut Space<K>,
     t: &Tunables,
 ) -> Result<Option<Supply>, NoMemory>
+    requires writer { P.ways.writes p.old who.now }
     requires bytes { bytes ≤ 2 ^ 63 }
     requires size { IsRequestSize nb }
     requires tuned { IsTuned t.now }

@@ -144,7 +144,8 @@ allowed_new : (st : SerialState) (b : BookValue) (thread : ℕ) → IsSound b �
     let choice : Choice = cond v (New (new_number b)) (Reuse (start_of b.next)) in
     IsAllowed state_ways (record st { book = attached_where_free thread choice (cond v (with_new_number b) b) }) choice
 allowed_new st b thread s list w true e = owed_new st b s e
-allowed_new st b thread s list w false e = w.listed (start_of b.next) (ap (has (start_of b.next)) (sym list) ∙ start_listed b b.next s refl)
+allowed_new st b thread s list w false e =
+    let there = w.listed (start_of b.next) (ap (has (start_of b.next)) (sym list) ∙ start_listed b b.next s refl) in (there, there)
 
 allowed_from : (st : SerialState) (thread : ℕ) (own free : Option ℕ) (t : Tunables) → IsSound st.book → ((a : ℕ) → own ≡ Some a → has a st.book.list ≡ true) → newest_free st.book ≡ free → IsWhole st →
     let choice : Choice = choice_from own free (with_limit_settled t st.book) in

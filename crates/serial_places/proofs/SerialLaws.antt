@@ -125,8 +125,9 @@ back_unlocked places n port left before after slot words =
         bytes = omega (arith, c.bytes, n.bytes, bytes);
       };
       tunables = refl;
-      back = ap is_some (put_here places.slots n (slot_with after left.bins) within);
+      lists = λ k h. put_there places.slots n k (slot_with after left.bins) within h;
       whole = whole_put places n (slot_with after left.bins) left.dials None within;
+      writes = λ who w. w;
     }
 
 pub unlocked : (places q new : SerialState) (n : ℕ) (port left : PlainPort) (before after : KeptArena) → LentSlot places n port (Some before) q → GaveSlot q left after new →
@@ -210,6 +211,7 @@ words_returned places first d steps told walk =
           };
       tunables = refl;
       whole = λ w. record { main = w.main; listed = w.listed };
+      writes = λ who w. w;
     }
 
 pub returned : (places q new : SerialState) (first d : PlainDials) (steps : List DialStep) → DialsOut places first q → AllSteps plain_dials first steps d → new ≡ record q { dials = d } →
@@ -242,6 +244,7 @@ bins_unseen st n slot bins given got at stock other mapped bytes =
       notes = λ own others n. record { windows = n.windows; count = n.count; bytes = n.bytes };
       tunables = refl;
       whole = λ w. record { main = put_there st.slots n 0 (slot_with slot.kept bins) within w.main; listed = λ k h. put_there st.slots n k (slot_with slot.kept bins) within (w.listed k h) };
+      writes = λ who w. w;
     }
 
 -- a block as a chunk of its arena, and of others
@@ -290,6 +293,7 @@ booked_unseen st book k = record {
   notes = λ own others n. record { windows = n.windows; count = n.count; bytes = n.bytes };
   tunables = refl;
   whole = λ w. record { main = w.main; listed = λ n h. w.listed n (ap (has n) (sym k.list) ∙ h) };
+  writes = λ who w. w;
 }
 
 pub is_booked : (st new : SerialState) (change : BookChange) → new ≡ record st { book = book_after st.tunables change st.book } → KeepsList st.book (book_after st.tunables change st.book) →
@@ -362,6 +366,7 @@ added_unseen st thread k bins within s new empty =
       notes = λ own others m. record { windows = m.windows; count = m.count; bytes = m.bytes };
       tunables = refl;
       whole = added_whole st thread k bins within new.owed;
+      writes = λ who w. w;
     }
 
 pub is_added : (st new : SerialState) (thread : ℕ) (k : KeptArena) (bins : PlainBins) → k.arena.number < length st.slots → IsSerial st → IsNew state_ways k st → state_of bins ≡ empty_state →
@@ -388,6 +393,7 @@ trays_unseen st trays given got same = record {
   notes = λ own others n. record { windows = n.windows; count = n.count; bytes = n.bytes };
   tunables = refl;
   whole = λ w. record { main = w.main; listed = w.listed };
+  writes = λ who w. w;
 }
 
 -- what a tray has with the block, or without it

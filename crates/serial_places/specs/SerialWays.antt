@@ -312,8 +312,10 @@ serial_ways view = record {
   room = λ p n. HasSlotRoom (view p) n;
   tunables = λ p. (view p).tunables;
   there = λ p n. is_there (view p) n;
+  listed = λ p n. is_there (view p) n;
   whole = λ p. IsWhole (view p);
   owed = λ p n. IsOwed (view p) n;
+  writes = λ p who. Unit {0};
   shown = mapped_in_words;
 }
 

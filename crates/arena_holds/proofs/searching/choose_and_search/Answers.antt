@@ -10,6 +10,9 @@ search_by_choice-requires-clause-served g c = λ k l.
     let same = g.met.P.Places.laws.same in
     served_after same c.requires.served (carries_hidden same c.choose-choice.ensures.at.unseen c.args.space.now (in_cache c.args.cache.now))
 
+pub search_by_choice-requires-clause-writer : goal.search_by_choice-requires-clause-writer
+search_by_choice-requires-clause-writer g c = λ k l. c.choose-choice.ensures.at.unseen.writes c.args.who.now c.requires.writer
+
 pub returns-clause-finds : goal.returns-clause-finds
 returns-clause-finds g c =
     ok_map c.search_by_choice.result (λ tried f. chosen_by_book c.args.bytes c.args.fresh c.choose-choice.result tried g.met.P.Places.laws.same c.choose-choice.ensures f) c.search_by_choice.ensures.finds

@@ -17,6 +17,11 @@ search_again-requires-clause-served g c = λ k l.
     let chosen = rw c.in-Some.is at c.in_ok-choose_and_search.ensures.finds in
     served_next c.args.cache.now c.choose_and_search.new.cache c.in-Some.field-0.search.block laws.same laws.fewer c.requires.served chosen.gets.carries
 
+pub search_again-requires-clause-writer : goal.search_again-requires-clause-writer
+search_again-requires-clause-writer g c = λ k l.
+    let chosen = rw c.in-Some.is at c.in_ok-choose_and_search.ensures.finds in
+    chosen.gets.carries.writes c.args.who.now c.requires.writer
+
 pub returns-then-is_some-clause-finds : goal.returns-then-is_some-clause-finds
 returns-then-is_some-clause-finds g c =
     finds_at_once c.args.again c.in-Some.field-0 (sym c.is_some.ensures ∙ c.if-is_some.true) (rw c.in-Some.is at c.in_ok-choose_and_search.ensures.finds)

@@ -15,6 +15,9 @@ pub search_in-requires-clause-served : goal.search_in-requires-clause-served
 search_in-requires-clause-served g c = λ k l.
     served_after g.met.P.Places.laws.same c.requires.served (c.in_ok-open_arena-in-New.ensures.opens.carries (in_cache c.args.cache.now))
 
+pub search_in-requires-clause-writer : goal.search_in-requires-clause-writer
+search_in-requires-clause-writer g c = λ k l. (c.in_ok-open_arena-in-New.ensures.opens.carries (in_cache c.args.cache.now)).writes c.args.who.now c.requires.writer
+
 pub returns-in_err-search-in-New-clause-short : goal.returns-in_err-search-in-New-clause-short
 returns-in_err-search-in-New-clause-short g c =
     on_err c.from_residual-in_err-search-in-New.result (carries_then (c.in_ok-open_arena-in-New.ensures.opens.carries (in_cache c.args.cache.now)) c.in_err-search-in-New.ensures.short)

@@ -3,13 +3,16 @@ use Rattle.trace_text.specs.declared.trace.Call.TheVariants.{Take}
 use Rattle.trace_replay.proofs.LeftThere.{no_place}
 use Rattle.trace_replay.proofs.Results.{on_err}
 use Rattle.std.proofs.Common.{arith}
-use Rattle.malloc_calls.specs.Threads.{own_of}
+use Rattle.malloc_calls.specs.Threads.{own_of, who_of}
 use Rattle.malloc_calls.specs.Trays.{take_call}
 use Rattle.trace_replay.proofs.HeldNames.{takes_name, nothing_there, room_there}
 use Rattle.trace_replay.proofs.Keeping.{keeps_unseen}
 use Rattle.trace_replay.proofs.TrayCalls.{tray_result}
 use Rattle.trace_replay.proofs.TrayEnds.{TakeEnds, take_ends}
 use Rattle.trace_replay.proofs.calling.take.Goals as goal
+
+pub returns-clause-does : goal.returns-clause-does
+returns-clause-does g c = λ line. rw c.in_ok-ready.ensures.ok at (c.take.ensures.does c.args.t.now (who_of line c.args.thread.now))
 
 pub returns-clause-keeps : goal.returns-clause-keeps
 returns-clause-keeps g c =
