@@ -28,12 +28,11 @@ use Rattle.arena_core.specs.Arenas.{recorded}
 use Rattle.arena_core.specs.Journal.{Recorded}
 use Rattle.arena_core.specs.Opening.{OpensAs, RefusesOpening, OpensShort}
 use Rattle.arena_core.specs.Replay.{IsReplay}
-use Rattle.arena_holds.specs.BookChanges.{Undoes}
 use Rattle.arena_holds.specs.Going as going
 use Rattle.arena_holds.specs.Going.{Opened, here}
 use Rattle.arena_holds.specs.Holding.{OpensArena}
-use Rattle.arena_holds.specs.Places.{with_journal, PlaceWays, Setting, Standing, standing, Carries, Hands, new_arena}
-use Rattle.arena_holds.specs.Returning.{IsUnseen, IsBooked, IsNew, IsAdded}
+use Rattle.arena_holds.specs.Places.{with_journal, PlaceWays, Setting, Standing, standing, Carries, IsServed, IsReached, both_of, Hands, new_arena}
+use Rattle.arena_holds.specs.Returning.{IsAside, IsUndone, IsUnseen, IsNew, IsAdded}
 use Rattle.arena_holds.proofs.Carrying.{SameLaw, unseen_keeps}
 
 -- ---- the thread's space
@@ -77,22 +76,66 @@ has_asked {port = port} (walks.told {n = n} {s = s} {o = o} {p = p} f g a) =
       later = omega (arith, one.later, more.later);
     }
 
--- what is unseen at the places is kept by whoever has blocks
-pub carries_kept : {P H D K : Type 0} {ways : PlaceWays P H D} {o z : Standing P K} → SameLaw ways → IsKept o.space z.space → IsUnseen ways o.places (λ _. 0) (λ _. 0) z.places →
+-- what is aside at the places is kept by whoever has blocks
+pub carries_kept : {P H D K : Type 0} {ways : PlaceWays P H D} {o z : Standing P K} → IsKept o.space z.space → IsAside ways o.places z.places → ways.whole z.places →
     (hands : Hands) → Carries ways true hands o hands z
-carries_kept {ways = ways} {o = o} {z = z} same kept u hands = record {
-  serves = λ exact known others s. unseen_keeps same u s;
+carries_kept {ways = ways} {o = o} {z = z} kept u whole hands = record {
+  serves = λ exact known others s. u.serves exact (both_of hands others) s;
   notes = λ others n. subst (λ (own : ℕ). ways.notes z.places own others) (sym kept.mapped) (u.notes o.space.mapped others n);
   mapped = λ n. omega (arith, ap (λ (t : ℕ). covers n (map_start t) z.space.mapped) kept.thread, ap (λ (m : ℕ). covers n (map_start o.space.thread) m) kept.mapped);
   tunables = u.tunables;
   windows = kept.windows;
-  whole = u.whole;
+  whole = λ w. whole;
   writes = u.writes;
 }
 
 pub carries_hidden : {P H D K : Type 0} {ways : PlaceWays P H D} {p q : P} → SameLaw ways → IsUnseen ways p (λ _. 0) (λ _. 0) q → (space : Space K) (hands : Hands) →
     Carries ways true hands (standing p space) hands (standing q space)
-carries_hidden same u space hands = carries_kept same (record { thread = refl; windows = refl; mapped = refl }) u hands
+carries_hidden same u space hands = record {
+  serves = λ exact known others s. unseen_keeps same u s;
+  notes = λ others n. u.notes space.mapped others n;
+  mapped = λ n. omega arith;
+  tunables = u.tunables;
+  windows = refl;
+  whole = u.whole;
+  writes = u.writes;
+}
+
+-- a step aside, and what comes behind it, where in the end the book keeps no number
+pub carries_aside : {P H D K : Type 0} {ways : PlaceWays P H D} {well : Bool} {given got : Hands} {p q : P} {space : Space K} {z : Standing P K} → IsAside ways p q → ways.whole z.places →
+    Carries ways well given (standing q space) got z → Carries ways well given (standing p space) got z
+carries_aside {given = given} {space = space} a whole c = record {
+  serves = λ exact known others s. c.serves exact known others (a.serves exact (both_of given others) s);
+  notes = λ others n. c.notes others (a.notes space.mapped others n);
+  mapped = c.mapped;
+  tunables = c.tunables ∙ a.tunables;
+  windows = c.windows;
+  whole = λ w. whole;
+  writes = λ who w. c.writes who (a.writes who w);
+}
+
+pub reached_aside : {P H D K : Type 0} {ways : PlaceWays P H D} {t : Tunables} {hands : Hands} {p q : P} {space : Space K} → IsAside ways p q → IsServed ways t hands (standing p space) → IsReached ways t hands (standing q space)
+reached_aside {hands = hands} {space = space} a s = record {
+  served = a.serves false hands s.served;
+  others = s.others;
+  notes = a.notes space.mapped s.others s.notes;
+  tunables = a.tunables ∙ s.tunables;
+  windows = s.windows;
+}
+
+pub served_whole : {P H D K : Type 0} {ways : PlaceWays P H D} {t : Tunables} {hands : Hands} {o : Standing P K} → IsReached ways t hands o → ways.whole o.places → IsServed ways t hands o
+served_whole r w = record { served = r.served; others = r.others; notes = r.notes; tunables = r.tunables; windows = r.windows; whole = w }
+
+pub served_opened : {P H D K : Type 0} {ways : PlaceWays P H D} {t : Tunables} {hands : Hands} {o z : Standing P K} → SameLaw ways → IsReached ways t hands o → Carries ways true hands o hands z → ways.whole z.places → IsServed ways t hands z
+served_opened {hands = hands} {o = o} {z = z} same r c w = record {
+  served = same false z.places (both_of hands (λ _. 0)) hands (λ x. omega arith)
+      (c.serves false (λ e. absurd cc) (λ _. 0) (same false o.places hands (both_of hands (λ _. 0)) (λ x. omega arith) r.served));
+  others = r.others;
+  notes = c.notes r.others r.notes;
+  tunables = c.tunables ∙ r.tunables;
+  windows = c.windows ∙ r.windows;
+  whole = w;
+}
 
 -- ---- the arena
 
@@ -168,11 +211,12 @@ opens_arena s plain {t = t} {who = who} {a = a} {bytes = bytes} {o = o} {r = r} 
       };
       there = λ _. subst (λ (n : ℕ). IsTrue (s.ways.there r n)) (ap (λ (x : Plain). x.number) is.1) added.there;
       later = asked.later;
-      carries = carries_kept same asked.kept added.unseen;
+      carries = carries_kept asked.kept added.aside added.whole;
+      whole = added.whole;
     }
 
 pub refuses_arena : {P H D K : Type 0} (s : Setting P H D K) {t : Tunables} {who : Who} {a bytes : ℕ} {o : Standing P K} {r : P} {later : Space K} →
-    SameLaw s.ways → RefusesOpening s.means.kernel t a bytes o.space later → IsBooked s.ways o.places (Undoes a) r → OpensArena s t who a bytes o false (standing r later)
+    SameLaw s.ways → RefusesOpening s.means.kernel t a bytes o.space later → IsUndone s.ways a o.places r → OpensArena s t who a bytes o false (standing r later)
 refuses_arena s {t = t} {a = a} {bytes = bytes} {o = o} {r = r} {later = later} same refused undone =
     let asked : HasAsked s.means.kernel o.space later = has_asked refused.walks.walks in
     record {
@@ -182,9 +226,10 @@ refuses_arena s {t = t} {a = a} {bytes = bytes} {o = o} {r = r} {later = later} 
       };
       there = λ opened. absurd cc;
       later = asked.later;
-      carries = carries_kept same asked.kept undone.unseen;
+      carries = carries_kept asked.kept undone.aside undone.whole;
+      whole = undone.whole;
     }
 
 pub short_arena : {P H D K : Type 0} {ways : PlaceWays P H D} {port : Port K} {t : Tunables} {a bytes : ℕ} {o : Standing P K} {r : P} {later : Space K} →
-    SameLaw ways → OpensShort port t a bytes o.space later → IsBooked ways o.places (Undoes a) r → (hands : Hands) → Carries ways true hands o hands (standing r later)
-short_arena same short undone hands = carries_kept same (has_asked short.stops.reaches.walks).kept undone.unseen hands
+    SameLaw ways → OpensShort port t a bytes o.space later → IsUndone ways a o.places r → (hands : Hands) → Carries ways true hands o hands (standing r later)
+short_arena same short undone hands = carries_kept (has_asked short.stops.reaches.walks).kept undone.aside undone.whole hands

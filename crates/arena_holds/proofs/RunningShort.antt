@@ -22,14 +22,13 @@ use Rattle.arena_choice.specs.Books.{BookValue}
 use Rattle.arena_choice.specs.Choices.{choice_of}
 use Rattle.arena_choice.specs.declared.choice.Choice.{Choice}
 use Rattle.realloc_align.specs.Calls.{FailsResize}
-use Rattle.arena_holds.specs.BookChanges.{Undoes}
 use Rattle.arena_holds.specs.declared.searching.Tried.{Tried}
 use Rattle.arena_holds.specs.Calls.{Call, Done, Holds, HoldsFree, Opens, Pushes, then_call, hold_of}
 use Rattle.arena_holds.specs.Going as going
 use Rattle.arena_holds.specs.Going.{Told, Goes, Does, here}
 use Rattle.arena_holds.specs.Holding.{FindsChosen, GivesShort, OpensArena, SearchesShort, new_arena_of}
 use Rattle.arena_holds.specs.Places.{KeptArena, with_journal, Setting, Standing, standing}
-use Rattle.arena_holds.specs.Returning.{IsBooked, IsChosen}
+use Rattle.arena_holds.specs.Returning.{IsUndone, IsChosen}
 use Rattle.arena_holds.specs.RunningShort.{KeepsHold, EntersShort, ShortHold, ShortStep, RunsShort}
 use Rattle.arena_holds.specs.Searching as trees
 use Rattle.arena_holds.specs.Searching.{Chosen, avoided, tried_again, or_in_mapping}
@@ -133,7 +132,7 @@ short_give s {a = a} b cache None short =
 -- ---- a new arena
 
 pub short_opening : {P H D K : Type 0} (s : Setting P H D K) {t : Tunables} {who : Who} {a bytes : ℕ} {o : Standing P K} {r : P} {later : Space K} → OpensShort s.means.kernel t a bytes o.space later →
-    IsBooked s.ways o.places (Undoes a) r → RunsShort s t who (new_arena_of a bytes) o (standing r later)
+    IsUndone s.ways a o.places r → RunsShort s t who (new_arena_of a bytes) o (standing r later)
 short_opening s {a = a} {bytes = bytes} short undone =
     short_here (new_arena_of a bytes) (record { said = short.said; stops = short.stops; book = undone.book; undone = undone.booked })
 
@@ -174,7 +173,7 @@ pub short_by_book : {P H D K : Type 0} {s : Setting P H D K} {t : Tunables} {who
     RunsShort s t who (trees.choose_and_search t who.thread fresh bytes act cache) (standing p space) z
 short_by_book {s = s} {t = t} {who = who} bytes fresh act cache {p = p} {q = q} {space = space} {z = z} choice chosen r =
     let next : BookValue → Call Chosen = λ book. trees.search_by_choice who.thread fresh bytes act cache (choice_of book who.thread fresh t) in
-    short_after (going.booked {next = next} {p = standing q space} (record { booked = chosen.at.booked; space = refl }) here)
+    short_after (going.booked {next = next} {p = standing q space} (record { booked = chosen.booked; space = refl }) here)
     (subst (λ (c : Choice). RunsShort s t who (trees.search_by_choice who.thread fresh bytes act cache c) (standing q space) z) chosen.choice_is r)
 
 -- at the second try, in main or in an arena that is chosen afresh

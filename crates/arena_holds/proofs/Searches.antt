@@ -27,7 +27,7 @@ use Rattle.arena_holds.specs.Searching as trees
 use Rattle.arena_holds.specs.Searching.{Searched, Chosen, search_end, found_in, avoided, tried_again, or_in_mapping}
 use Rattle.arena_holds.proofs.Carrying.{SameLaw, FewerLaw, carries_as, carries_then, served_after, served_fewer}
 use Rattle.arena_holds.proofs.Going.{does_here, does_then, does_last}
-use Rattle.arena_holds.proofs.Opened.{carries_hidden}
+use Rattle.arena_holds.proofs.Opened.{carries_hidden, carries_aside}
 
 pub ok_map : {A E : Type 0} {P Q : A → Type 0} (r : Result A E) → ((x : A) → P x → Q x) → IfOk r P → IfOk r Q
 ok_map (Ok x) f h = f x h
@@ -153,17 +153,17 @@ chosen_reused {s = s} {t = t} {who = who} {start = start} {a = a} fresh {act = a
 
 -- ---- an arena is chosen
 
-pub chosen_by_book : {P H D K : Type 0} {s : Setting P H D K} {t : Tunables} {who : Who} (bytes : ℕ) (fresh : Bool) {act : Act} {cache left : CacheValue} {p q : P} {space : Space K} {z : Standing P K} (choice : Choice) (tried : Option Tried) → SameLaw s.ways →
+pub chosen_by_book : {P H D K : Type 0} {s : Setting P H D K} {t : Tunables} {who : Who} (bytes : ℕ) (fresh : Bool) {act : Act} {cache left : CacheValue} {p q : P} {space : Space K} {z : Standing P K} (choice : Choice) (tried : Option Tried) → s.ways.whole z.places →
     IsChosen s.ways who.thread fresh t p choice q → FindsChosen s t who (trees.search_by_choice who.thread fresh bytes act cache choice) act cache (standing q space) tried left z →
     FindsChosen s t who (trees.choose_and_search t who.thread fresh bytes act cache) act cache (standing p space) tried left z
-chosen_by_book {s = s} {t = t} {who = who} bytes fresh {act = act} {cache = cache} {left = left} {p = p} {q = q} {space = space} {z = z} choice tried same chosen f =
+chosen_by_book {s = s} {t = t} {who = who} bytes fresh {act = act} {cache = cache} {left = left} {p = p} {q = q} {space = space} {z = z} choice tried whole chosen f =
     let next : BookValue → Call Chosen = λ book. trees.search_by_choice who.thread fresh bytes act cache (choice_of book who.thread fresh t) in
-    let rest : Goes s t who (next chosen.at.book) (standing q space) f.does.told (Done (chosen_with left tried)) z =
+    let rest : Goes s t who (next chosen.book) (standing q space) f.does.told (Done (chosen_with left tried)) z =
     subst (λ (c : Choice). Goes s t who (trees.search_by_choice who.thread fresh bytes act cache c) (standing q space) f.does.told (Done (chosen_with left tried)) z) chosen.choice_is f.does.goes in
     record {
-      does = record { told = Booked (Chooses who.thread fresh) chosen.at.book ∷ f.does.told; goes = going.booked {next = next} {p = standing q space} (record { booked = chosen.at.booked; space = refl }) rest };
+      does = record { told = Booked (Chooses who.thread fresh) chosen.book ∷ f.does.told; goes = going.booked {next = next} {p = standing q space} (record { booked = chosen.booked; space = refl }) rest };
       none = f.none;
-      gets = gets_after (omega arith) refl (carries_hidden same chosen.at.unseen space (in_cache cache)) f.gets;
+      gets = let g = f.gets in record { held = g.held; fits = g.fits; aligned = g.aligned; later = g.later; opens = g.opens; carries = carries_aside chosen.aside whole g.carries };
       refused = f.refused;
     }
 

@@ -144,6 +144,7 @@ pub record OpensArena {P H D K : Type 0} (s : Setting P H D K) (t : Tunables) (w
   pub there : IsTrue opened → IsTrue (s.ways.there new.places a)
   pub later : space_refusals s.means.kernel old.space ≤ space_refusals s.means.kernel new.space
   pub carries : (hands : Hands) → Carries s.ways true hands old hands new
+  pub whole : s.ways.whole new.places
 
 -- a chunk that fills a new mapping for an act
 pub record FillsMapping (act : Act) (b : Block) : Type 0 where

@@ -96,9 +96,9 @@ Covers false n m = n ≤ m
 -- put into its place, and a thread attached to it; a block was posted to a tray, or not, by what was found there; and taken
 -- from one. Then which blocks are given out, exactly these or at least these; that the mappings counted for a thread, and for
 -- the others, are together at most so many bytes; whether a push of an arena has room; the tunables; whether an arena is there
--- to be lent; whether one is in the book's list; whether each arena of the book is there, main among them; whether the book
--- keeps a number for a new arena of the caller; whether entries of a line may be recorded; and the mapped chunks that a lent
--- port shows.
+-- to be lent; whether one is in the book's list; whether each arena of the book is there, main among them, and the book keeps
+-- no number for the caller; whether it keeps one for a new arena of the caller; whether entries of a line may be recorded; and
+-- the mapped chunks that a lent port shows.
 pub record PlaceWays (P H D : Type 0) : Type 1 where
   pub lent : P → ℕ → H → Option KeptArena → P → Type 0
   pub gave : P → H → KeptArena → P → Type 0
@@ -148,6 +148,14 @@ pub record IsServed {P H D K : Type 0} (ways : PlaceWays P H D) (t : Tunables) (
   pub tunables : ways.tunables o.places ≡ t
   pub windows : o.space.windows ≡ windows_of t
   pub whole : ways.whole o.places
+
+-- the same where the book may keep a number for the caller
+pub record IsReached {P H D K : Type 0} (ways : PlaceWays P H D) (t : Tunables) (hands : Hands) (o : Standing P K) : Type 0 where
+  pub served : ways.serves false o.places hands
+  pub others : ℕ
+  pub notes : ways.notes o.places o.space.mapped others
+  pub tunables : ways.tunables o.places ≡ t
+  pub windows : o.space.windows ≡ windows_of t
 
 -- What a step keeps: whatever else is given out stays so while these blocks are given up and those are got, known exactly
 -- where all went well; the mappings stay noted; no byte is got in a mapped chunk but what was given up in one or the thread's

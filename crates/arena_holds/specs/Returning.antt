@@ -19,7 +19,7 @@ use Rattle.arena_choice.specs.declared.choice.Choice.TheVariants.{Attached, Free
 use Rattle.block_names.specs.Blocks.{IsHeld}
 use Rattle.arena_holds.specs.declared.trays.Full.{Full}
 use Rattle.arena_holds.specs.declared.trays.Empty.{Empty}
-use Rattle.arena_holds.specs.BookChanges.{BookChange, Chooses}
+use Rattle.arena_holds.specs.BookChanges.{BookChange, Chooses, Undoes}
 use Rattle.arena_holds.specs.Places.{KeptArena, PlaceWays, Hands, both_of, as_chunk_of, as_mapped, as_mapped_bytes, Covers, new_arena}
 
 -- An arena that comes back with its port: it was lent, is sound, and is what the replay of its journal gives.
@@ -132,6 +132,13 @@ pub record IsUnseen {P H D : Type 0} (ways : PlaceWays P H D) (old : P) (given g
   pub whole : ways.whole old → ways.whole new
   pub writes : (who : Who) → ways.writes old who → ways.writes new who
 
+-- The same, whatever became of the numbers that the book keeps for the caller.
+pub record IsAside {P H D : Type 0} (ways : PlaceWays P H D) (old new : P) : Type 0 where
+  pub serves : (exact : Bool) (hands : Hands) → ways.serves exact old hands → ways.serves exact new hands
+  pub notes : (own others : ℕ) → ways.notes old own others → ways.notes new own others
+  pub tunables : ways.tunables new ≡ ways.tunables old
+  pub writes : (who : Who) → ways.writes old who → ways.writes new who
+
 -- ---- the book, and a new arena
 
 -- something was done at the book, which nobody sees who has blocks
@@ -140,19 +147,27 @@ pub record IsBooked {P H D : Type 0} (ways : PlaceWays P H D) (old : P) (change 
   pub booked : ways.booked old change book new
   pub unseen : IsUnseen ways old (λ _. 0) (λ _. 0) new
 
--- what a choice allows: the arena is there, and in the list where others use it too, or the number of a new one is kept for
--- the caller
+-- What a choice allows: the arena is there, and the book keeps no number for the caller; or it keeps that of a new one.
 abbrev pub IsAllowed : {P H D : Type 0} → PlaceWays P H D → P → Choice → Type 0
-IsAllowed ways p (Attached a) = IsTrue (ways.there p a)
-IsAllowed ways p (Free a) = IsTrue (ways.there p a)
+IsAllowed ways p (Attached a) = ways.whole p × IsTrue (ways.there p a)
+IsAllowed ways p (Free a) = ways.whole p × IsTrue (ways.there p a)
 IsAllowed ways p (New a) = ways.owed p a
-IsAllowed ways p (Reuse start) = IsTrue (ways.there p start) × IsTrue (ways.listed p start)
+IsAllowed ways p (Reuse start) = ways.whole p × (IsTrue (ways.there p start) × IsTrue (ways.listed p start))
 
 -- An arena was chosen for a thread.
 pub record IsChosen {P H D : Type 0} (ways : PlaceWays P H D) (thread : ℕ) (fresh : Bool) (t : Tunables) (old : P) (choice : Choice) (new : P) : Type 0 where
-  pub at : IsBooked ways old (Chooses thread fresh) new
-  pub choice_is : choice ≡ choice_of at.book thread fresh t
-  pub allowed : ways.whole old → IsAllowed ways new choice
+  pub book : BookValue
+  pub booked : ways.booked old (Chooses thread fresh) book new
+  pub choice_is : choice ≡ choice_of book thread fresh t
+  pub aside : IsAside ways old new
+  pub allowed : IsAllowed ways new choice
+
+-- The number of a new arena was given back.
+pub record IsUndone {P H D : Type 0} (ways : PlaceWays P H D) (a : ℕ) (old new : P) : Type 0 where
+  pub book : BookValue
+  pub booked : ways.booked old (Undoes a) book new
+  pub aside : IsAside ways old new
+  pub whole : ways.whole new
 
 -- A new arena, of which no chunk is used.
 pub record IsNew {P H D : Type 0} (ways : PlaceWays P H D) (k : KeptArena) (p : P) : Type 0 where
@@ -167,7 +182,8 @@ pub record IsNew {P H D : Type 0} (ways : PlaceWays P H D) (k : KeptArena) (p : 
 pub record IsAdded {P H D : Type 0} (ways : PlaceWays P H D) (thread : ℕ) (old : P) (k : KeptArena) (new : P) : Type 0 where
   pub added : ways.added old thread k new
   pub there : IsTrue (ways.there new k.arena.number)
-  pub unseen : IsUnseen ways old (λ _. 0) (λ _. 0) new
+  pub aside : IsAside ways old new
+  pub whole : ways.whole new
 
 -- ---- trays
 

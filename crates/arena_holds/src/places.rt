@@ -4,9 +4,9 @@ ghost use Rattle.std.specs.Prelude.{◌≡◌, ℕ, ◌<◌, ◌≤◌, false, S
 ghost use Rattle.chunk_tags.specs.Sizes.{IsChunkSize};
 ghost use Rattle.chunk_tags.specs.declared.block.Block.{Block};
 ghost use Rattle.arena_holds.specs.Places.{PlaceWays, PlaceLaws, Hands, both_of, kept_of, tray_count};
-ghost use Rattle.arena_holds.specs.Returning.{IsReturn, Unlocks, AreReturn, ReturnsWords, IsUnseen, IsBooked, IsChosen, IsNew, IsAdded, IsPosted, IsTaken, seen_full, found_in_tray};
+ghost use Rattle.arena_holds.specs.Returning.{IsReturn, Unlocks, AreReturn, ReturnsWords, IsUnseen, IsBooked, IsChosen, IsUndone, IsNew, IsAdded, IsPosted, IsTaken, seen_full, found_in_tray};
 ghost use Rattle.block_names.specs.Blocks.{IsHeld};
-ghost use Rattle.arena_holds.specs.BookChanges.{Undoes, Reuses, Leaves};
+ghost use Rattle.arena_holds.specs.BookChanges.{Reuses, Leaves};
 
 use crate::trays::{Empty, Full};
 use arena_choice::Choice;
@@ -50,6 +50,7 @@ pub trait Places {
     ) -> (u8, Self::Hold, Option<Arena<Self::Ground>>)
         requires there { IsTrue (ways.there self.old start) }
         requires listed { IsTrue (ways.listed self.old start) }
+        requires whole { ways.whole self.old }
         ensures free { ways.free self.old start avoid result.0 }
         ensures listed { IsTrue (ways.listed self.old result.0) }
         ensures lent { ways.lent self.old result.0 result.1
@@ -96,12 +97,13 @@ pub trait Places {
     /// of the book (glibc's `arena_get2`).
     fn choose(&mut self, thread: u8, fresh: bool, t: &Tunables) -> Choice
         requires tunables { t.now ≡ ways.tunables self.old }
+        requires whole { ways.whole self.old }
         ensures { IsChosen ways thread fresh t.now self.old result self.new };
 
     /// Gives the number of a new arena back, which couldn't be had.
     fn undo(&mut self, a: u8)
         requires owed { ways.owed self.old a }
-        ensures { IsBooked ways self.old (Undoes a) self.new };
+        ensures { IsUndone ways a self.old self.new };
 
     /// Attaches a thread to an arena that others may use too (the end of glibc's `reused_arena`).
     fn reuse(&mut self, thread: u8, a: u8)
@@ -110,6 +112,7 @@ pub trait Places {
 
     /// A thread leaves its arena (glibc's `__malloc_arena_thread_freeres`).
     fn leave(&mut self, thread: u8)
+        requires whole { ways.whole self.old }
         ensures { IsBooked ways self.old (Leaves thread) self.new };
 
     /// Puts a new arena into its place, and then attaches a thread to it, which brings it into the list (the end of glibc's
@@ -129,6 +132,7 @@ pub trait Places {
     /// Takes a tray's block, where there is one.
     fn take(&mut self, tray: u32) -> Result<Block, Empty>
         requires tray { tray < tray_count }
+        requires whole { ways.whole self.old }
         ensures { IsTaken ways tray self.old (found_in_tray result) self.new };
 
     ghost laws: { PlaceLaws ways Self.Hold.fast Self.Hold.dials Self.Dial.dials };

@@ -5,7 +5,7 @@ ghost use Rattle.chunk_tags.specs.Tunables.{IsTuned};
 ghost use Rattle.arena_rules.specs.Rules.{windows_of};
 ghost use Rattle.thread_cache.specs.Caches.{structure_of};
 ghost use Rattle.consolidate_trim.specs.Outside.{means};
-ghost use Rattle.arena_holds.specs.Places.{Hands, setting, IsServed, Carries, standing, in_cache};
+ghost use Rattle.arena_holds.specs.Places.{Hands, setting, IsServed, IsReached, Carries, standing, in_cache};
 ghost use Rattle.arena_holds.specs.Searching.{IsSearch, search as search_rules, search_in, choose_and_search, search_again, search_by_choice, search_reused};
 ghost use Rattle.arena_holds.specs.Returning.{IsAllowed};
 ghost use Rattle.arena_holds.specs.RunningShort.{RunsShort};
@@ -123,6 +123,7 @@ fn open_arena<P: Places, K: Kernel>(
         who.now a bytes (standing p.old space.old) opened (standing p.new space.new)) }
     ensures short { (hands : Hands) → OnErr result
         (Carries P.ways true hands (standing p.old space.old) hands (standing p.new space.new)) }
+    ensures whole { P.ways.whole p.new }
     ensures left { OnErr result
         (RunsShort (setting P.ways (means P.Hold.fast P.Hold.dials K.port) P.Dial.dials) t.now
         who.now (new_arena_of a bytes)
@@ -161,7 +162,7 @@ fn search_by_choice<P: Places, K: Kernel>(
     requires act { IsSearch act.now }
     requires bytes { bytes ≤ 2 ^ 63 }
     requires tuned { IsTuned t.now }
-    requires served { IsServed P.ways t.now (in_cache cache.old) (standing p.old space.old) }
+    requires reached { IsReached P.ways t.now (in_cache cache.old) (standing p.old space.old) }
     ensures finds { IfOk result (λ tried.
         FindsChosen (setting P.ways (means P.Hold.fast P.Hold.dials K.port) P.Dial.dials) t.now
         who.now (search_by_choice who.now.thread fresh bytes act.now cache.old choice) act.now
@@ -173,6 +174,7 @@ fn search_by_choice<P: Places, K: Kernel>(
         (RunsShort (setting P.ways (means P.Hold.fast P.Hold.dials K.port) P.Dial.dials) t.now
         who.now (search_by_choice who.now.thread fresh bytes act.now cache.old choice)
         (standing p.old space.old) (standing p.new space.new)) }
+    ensures whole { P.ways.whole p.new }
     ensures structure { structure_of cache.new ≡ structure_of cache.old }
 {
     match choice {

@@ -53,6 +53,7 @@ impl<K: Kernel> Thread<K> {
         requires room { IsTrue (has_place (names_of self.old) name) }
         requires empty { block_at (names_of self.old) name ≡ None }
         requires tray { tray < tray_count }
+        requires whole { P.ways.whole p.old }
         ensures does { (t : Tunables) (who : Who) →
             Does (setting P.ways (means P.Hold.fast P.Hold.dials K.port) P.Dial.dials) t who
             (take_call name tray (own_of self.old)) (standing p.old (space_of self.old))

@@ -22,7 +22,7 @@ use Rattle.serial_places.specs.declared.serial.Serial.TheInside.{Inside}
 use Rattle.serial_places.specs.declared.slot.Slot.{Slot}
 use Rattle.serial_places.specs.declared.tray.Tray.{Tray}
 use Rattle.serial_places.specs.Trays.{tray_at, trays_taken, found_by_take, full_trays}
-use Rattle.serial_places.specs.SerialWays.{SerialState, KeptSlot, IsSerial, IsKeptIn, HasSlotRoom, Serves, LentSlot, GaveSlot, IdleSlot, PushedSlot, EndsAs, those_in, fast_lists, slot_in, put_in, taken_out, slot_with, kept_slot, kept_ground, kept_ground, is_there, state_at, state_ways}
+use Rattle.serial_places.specs.SerialWays.{SerialState, KeptSlot, IsSerial, IsWhole, IsKeptIn, HasSlotRoom, Serves, LentSlot, GaveSlot, IdleSlot, PushedSlot, EndsAs, those_in, fast_lists, slot_in, put_in, taken_out, slot_with, kept_slot, kept_ground, is_there, state_at, state_ways}
 use Rattle.serial_places.specs.LawsOfPlaces.{serves_same, known}
 use Rattle.serial_places.proofs.Slots.{slot_within, some_within, slot-map, there-map, put_here}
 use Rattle.serial_places.proofs.SerialBooks.{chooses}
@@ -234,13 +234,13 @@ with_book i book = record (seen i) { book = book }
 pub chosen_serial : (i : Inside) (book : BookValue) (thread : ℕ) (fresh : Bool) (t : Tunables) → book ≡ book_after t (Chooses thread fresh) i.book → IsSerial (seen i) → IsSerial (with_book i book)
 chosen_serial i book thread fresh t is s = rw is (serial_book (seen i) (book_after t (Chooses thread fresh) i.book) (chooses i.book thread fresh t s.sound) s)
 
-pub chosen : (i : Inside) (now : SerialState) (book : BookValue) (thread : ℕ) (fresh : Bool) (t : Tunables) (choice : Choice) → seen i ≡ now → t ≡ now.tunables → IsSerial (seen i) →
+pub chosen : (i : Inside) (now : SerialState) (book : BookValue) (thread : ℕ) (fresh : Bool) (t : Tunables) (choice : Choice) → seen i ≡ now → t ≡ now.tunables → IsWhole now → IsSerial (seen i) →
     choice ≡ choice_of i.book thread fresh t → book ≡ book_after t (Chooses thread fresh) i.book → IsChosen state_ways thread fresh t now choice (with_book i book)
-chosen i now book thread fresh t choice view tunables s is after =
+chosen i now book thread fresh t choice view tunables w s is after =
     let change : BookValue → SerialState → SerialState = λ b st. record st { book = b } in
     let sound = now_serial i now view s in
     let from : i.book ≡ now.book = ap (λ (st : SerialState). st.book) view in
-    is_chosen now (with_book i book) thread fresh t choice tunables sound
+    is_chosen now (with_book i book) thread fresh t choice tunables w sound
     (ap (λ (b : BookValue). change b (seen i)) after ∙ ap (λ (st : SerialState). change (book_after t (Chooses thread fresh) st.book) st) view)
     (is ∙ ap (λ (b : BookValue). choice_of b thread fresh t) from)
     (chooses now.book thread fresh t sound.sound)

@@ -1,17 +1,17 @@
 -- What is done at the book leaves the arenas of its list, but where a new one comes into it. Other crates may cite this file.
-use Rattle.std.proofs.Common.{◌≡◌, ℕ, zero, suc, ◌+◌, ◌<◌, ◌≤◌, Bool, true, false, cond, ◌||◌, List, [], ◌∷◌, length, Option, Some, None, ◌⊎◌, inl, inr, refl, sym, ap, ◌∙◌, arith, length-append}
+use Rattle.std.proofs.Common.{◌≡◌, ℕ, zero, suc, ◌+◌, ◌<◌, ◌≤◌, Bool, true, false, cond, ◌||◌, List, [], ◌∷◌, length, Option, Some, None, IsTrue, ◌⊎◌, inl, inr, refl, sym, ap, ◌∙◌, arith, length-append}
 use Rattle.std.specs.Prelude.{slice_get, ◌==◌}
 use Rattle.chunk_tags.specs.declared.tunables.Tunables.{Tunables}
 use Rattle.arena_choice.specs.Numbers.{has, lowest_from, lowest_unused, with_second}
 use Rattle.arena_choice.specs.Books.{BookValue, IsSound, attached_to, arena_of, numbers_of}
 use Rattle.arena_choice.specs.Choices.{CanAttach, choice_from, choice_of, book_from, own_arena, newest_free, without_newest_free, with_limit_settled, new_number, with_new_number, has_number_left, start_of, listed, left_book}
 use Rattle.arena_choice.specs.declared.choice.Choice.{Choice}
-use Rattle.arena_choice.specs.declared.choice.Choice.TheVariants.{New, Reuse}
+use Rattle.arena_choice.specs.declared.choice.Choice.TheVariants.{Attached, Free, New, Reuse}
 use Rattle.arena_choice.proofs.BookLaws.{sound_limit, sound_without_newest_free, sound_undone, place_left, new_unlisted, sound_with_new_number, sound_attached, sound_reused, arena_listed, sound_detached}
 use Rattle.arena_choice.proofs.NumberLaws.{same, has_first, has_more, has-with_second}
 use Rattle.arena_holds.specs.BookChanges.{Chooses, Undoes, Reuses, Leaves, attached_where_free, book_after}
 use Rattle.arena_holds.specs.Returning.{IsAllowed}
-use Rattle.serial_places.specs.SerialWays.{SerialState, IsWhole, IsOwed, state_ways}
+use Rattle.serial_places.specs.SerialWays.{SerialState, IsWhole, IsOwed, is_there, state_ways}
 
 -- the book has the arenas that it had, and is sound
 pub record KeepsList (old new : BookValue) : Type 0 where
@@ -124,8 +124,8 @@ start_listed b None s e = first_has 0 b.list s.main
 start_listed b (Some a) s e = s.next a e
 
 -- a new number is owed
-owed_new : (st : SerialState) (b : BookValue) → IsSound b → has_number_left b ≡ true → IsOwed (record st { book = with_new_number b }) (new_number b)
-owed_new st b s place =
+owed_new : (st : SerialState) (b : BookValue) → IsSound b → b.list ≡ st.book.list → IsWhole st → has_number_left b ≡ true → IsOwed (record st { book = with_new_number b }) (new_number b)
+owed_new st b s list w place =
     let n : ℕ = new_number b in
     let out : has n b.list ≡ false = new_unlisted b in
     let kept : has n (n ∷ b.kept) ≡ true = has_first n b.kept in
@@ -138,27 +138,41 @@ owed_new st b s place =
       may = record { known = ap (λ v. has n b.list || v) kept ∙ ap (λ v. v || true) out; idle = none (attached_to n b.arenas) refl };
       other = not_main b n s out;
       below = omega (arith, new_most (numbers_of b), length-append b.list b.kept, place_left b place, s.records);
+      whole = record { main = w.main; listed = λ k h. w.listed k (ap (has k) (sym list) ∙ h) };
     }
+
+-- the arena of a choice is there, or its number is owed
+abbrev pub IsUsable : SerialState → Choice → Type 0
+IsUsable st (Attached a) = IsTrue (is_there st a)
+IsUsable st (Free a) = IsTrue (is_there st a)
+IsUsable st (New a) = IsOwed st a
+IsUsable st (Reuse start) = IsTrue (is_there st start)
 
 allowed_new : (st : SerialState) (b : BookValue) (thread : ℕ) → IsSound b → b.list ≡ st.book.list → IsWhole st → (v : Bool) → has_number_left b ≡ v →
     let choice : Choice = cond v (New (new_number b)) (Reuse (start_of b.next)) in
-    IsAllowed state_ways (record st { book = attached_where_free thread choice (cond v (with_new_number b) b) }) choice
-allowed_new st b thread s list w true e = owed_new st b s e
-allowed_new st b thread s list w false e =
-    let there = w.listed (start_of b.next) (ap (has (start_of b.next)) (sym list) ∙ start_listed b b.next s refl) in (there, there)
+    IsUsable (record st { book = attached_where_free thread choice (cond v (with_new_number b) b) }) choice
+allowed_new st b thread s list w true e = owed_new st b s list w e
+allowed_new st b thread s list w false e = w.listed (start_of b.next) (ap (has (start_of b.next)) (sym list) ∙ start_listed b b.next s refl)
 
 allowed_from : (st : SerialState) (thread : ℕ) (own free : Option ℕ) (t : Tunables) → IsSound st.book → ((a : ℕ) → own ≡ Some a → has a st.book.list ≡ true) → newest_free st.book ≡ free → IsWhole st →
     let choice : Choice = choice_from own free (with_limit_settled t st.book) in
-    IsAllowed state_ways (record st { book = attached_where_free thread choice (book_from own free t st.book) }) choice
+    IsUsable (record st { book = attached_where_free thread choice (book_from own free t st.book) }) choice
 allowed_from st thread (Some a) free t s mine e w = w.listed a (mine a refl)
 allowed_from st thread None (Some a) t s mine e w = w.listed a (free_known st.book a s e).listed
 allowed_from st thread None None t s mine e w =
     let b : BookValue = with_limit_settled t st.book in
     allowed_new st b thread (sound_limit st.book b.limit s) refl w (has_number_left b) refl
 
-pub allowed : (st : SerialState) (thread : ℕ) (fresh : Bool) (t : Tunables) → IsSound st.book → IsWhole st →
-    IsAllowed state_ways (record st { book = book_after t (Chooses thread fresh) st.book }) (choice_of st.book thread fresh t)
-allowed st thread fresh t s w = allowed_from st thread (own_arena st.book thread fresh) (newest_free st.book) t s (λ a. own_listed st.book thread fresh a s) refl w
+pub usable : (st : SerialState) (thread : ℕ) (fresh : Bool) (t : Tunables) → IsSound st.book → IsWhole st →
+    IsUsable (record st { book = book_after t (Chooses thread fresh) st.book }) (choice_of st.book thread fresh t)
+usable st thread fresh t s w = allowed_from st thread (own_arena st.book thread fresh) (newest_free st.book) t s (λ a. own_listed st.book thread fresh a s) refl w
+
+-- so the choice is allowed
+pub allowed_by : (st : SerialState) (choice : Choice) → IsWhole st → IsUsable st choice → IsAllowed state_ways st choice
+allowed_by st (Attached a) w u = (w, u)
+allowed_by st (Free a) w u = (w, u)
+allowed_by st (New a) w u = u
+allowed_by st (Reuse start) w u = (w, (u, u))
 
 -- ---- a new arena comes into the list
 

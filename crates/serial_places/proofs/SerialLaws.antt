@@ -22,19 +22,19 @@ use Rattle.arena_choice.specs.Books.{BookValue}
 use Rattle.arena_choice.specs.Choices.{attached_book, choice_of}
 use Rattle.arena_choice.specs.declared.choice.Choice.{Choice}
 use Rattle.consolidate_trim.proofs.HoldSteps.{block_is, block_other}
-use Rattle.arena_holds.specs.BookChanges.{BookChange, Chooses, book_after}
+use Rattle.arena_holds.specs.BookChanges.{BookChange, Chooses, Undoes, book_after}
 use Rattle.block_names.specs.Blocks.{IsHeld}
 use Rattle.arena_holds.specs.Places.{KeptArena, Hands, both_of, as_chunk_of, as_mapped, as_mapped_bytes, Covers}
-use Rattle.arena_holds.specs.Returning.{IsUnlocked, AreReturned, IsUnseen, IsBooked, IsChosen, IsNew, IsAdded, IsPosted, IsTaken, maps_in, unmaps_in}
+use Rattle.arena_holds.specs.Returning.{IsAside, IsUndone, IsUnlocked, AreReturned, IsUnseen, IsBooked, IsChosen, IsNew, IsAdded, IsPosted, IsTaken, maps_in, unmaps_in}
 use Rattle.serial_places.specs.Joined.{joined_fast}
 use Rattle.serial_places.specs.Playing.{PlainPort}
 use Rattle.serial_places.specs.Trays.{in_tray, in_trays, tray_at, trays_posted, trays_taken, posted_tray, taken_tray, seen_by_post, found_by_take, IsHeldTray}
 use Rattle.serial_places.specs.declared.tray.Tray.{Tray}
 use Rattle.serial_places.specs.declared.tray.Tray.TheVariants.{Empty, Full, Taken}
 use Rattle.serial_places.specs.SerialWays.{SerialState, KeptSlot, IsSerial, IsWhole, IsOwed, IsKeptIn, HasSlotRoom, LentSlot, GaveSlot, DialsOut, slot_in, put_in, slot_with, stock_in, used_in, state_ways}
-use Rattle.serial_places.specs.LawsOfPlaces.{covers_same, chunk_in}
+use Rattle.serial_places.specs.LawsOfPlaces.{covers_same, serves_same, chunk_in}
 use Rattle.serial_places.proofs.Slots.{some_within, put_here, put_other, put_there}
-use Rattle.serial_places.proofs.SerialBooks.{KeepsList, allowed, listed_was, new_out}
+use Rattle.serial_places.proofs.SerialBooks.{KeepsList, allowed_by, usable, listed_was, new_out}
 
 -- ---- numbers
 
@@ -296,6 +296,25 @@ booked_unseen st book k = record {
   writes = λ who w. w;
 }
 
+booked_aside : (st : SerialState) (book : BookValue) → IsAside state_ways st (record st { book = book })
+booked_aside st book = record {
+  serves = λ exact hands s. record { chunks = s.chunks; count = s.count; bytes = s.bytes };
+  notes = λ own others n. record { windows = n.windows; count = n.count; bytes = n.bytes };
+  tunables = refl;
+  writes = λ who w. w;
+}
+
+booked_whole : (st : SerialState) (book : BookValue) → KeepsList st.book book → IsWhole st → IsWhole (record st { book = book })
+booked_whole st book k w = record { main = w.main; listed = λ n h. w.listed n (ap (has n) (sym k.list) ∙ h) }
+
+pub is_undone : (st new : SerialState) (a : ℕ) → new ≡ record st { book = book_after st.tunables (Undoes a) st.book } → KeepsList st.book (book_after st.tunables (Undoes a) st.book) → IsOwed st a → IsUndone state_ways a st new
+is_undone st new a is k o = record {
+  book = st.book;
+  booked = record { was = refl; left = is };
+  aside = subst (λ (x : SerialState). IsAside state_ways st x) (sym is) (booked_aside st (book_after st.tunables (Undoes a) st.book));
+  whole = subst IsWhole (sym is) (booked_whole st (book_after st.tunables (Undoes a) st.book) k o.whole);
+}
+
 pub is_booked : (st new : SerialState) (change : BookChange) → new ≡ record st { book = book_after st.tunables change st.book } → KeepsList st.book (book_after st.tunables change st.book) →
     IsBooked state_ways st change new
 is_booked st new change is k = record {
@@ -304,16 +323,17 @@ is_booked st new change is k = record {
   unseen = subst (λ (s : SerialState). IsUnseen state_ways st (λ _. 0) (λ _. 0) s) (sym is) (booked_unseen st (book_after st.tunables change st.book) k);
 }
 
-pub is_chosen : (st new : SerialState) (thread : ℕ) (fresh : Bool) (t : Tunables) (choice : Choice) → t ≡ st.tunables → IsSerial st →
+pub is_chosen : (st new : SerialState) (thread : ℕ) (fresh : Bool) (t : Tunables) (choice : Choice) → t ≡ st.tunables → IsWhole st → IsSerial st →
     new ≡ record st { book = book_after t (Chooses thread fresh) st.book } → choice ≡ choice_of st.book thread fresh t → KeepsList st.book (book_after t (Chooses thread fresh) st.book) →
     IsChosen state_ways thread fresh t st choice new
-unfolding is_booked
-is_chosen st new thread fresh t choice tunables s is chosen k =
+is_chosen st new thread fresh t choice tunables w s is chosen k =
     let after : new ≡ record st { book = book_after st.tunables (Chooses thread fresh) st.book } = is ∙ ap (λ (x : Tunables). let r : SerialState = record st { book = book_after x (Chooses thread fresh) st.book } in r) tunables in
     record {
-      at = is_booked st new (Chooses thread fresh) after (subst (λ (x : Tunables). KeepsList st.book (book_after x (Chooses thread fresh) st.book)) tunables k);
+      book = st.book;
+      booked = record { was = refl; left = after };
       choice_is = chosen;
-      allowed = λ w. rw (is, chosen) (allowed st thread fresh t s.sound w);
+      aside = subst (λ (x : SerialState). IsAside state_ways st x) (sym is) (booked_aside st (book_after t (Chooses thread fresh) st.book));
+      allowed = rw (is, chosen) (allowed_by (record st { book = book_after t (Chooses thread fresh) st.book }) (choice_of st.book thread fresh t) (booked_whole st (book_after t (Chooses thread fresh) st.book) k w) (usable st thread fresh t s.sound w));
     }
 
 -- ---- a new arena
@@ -374,7 +394,10 @@ pub is_added : (st new : SerialState) (thread : ℕ) (k : KeptArena) (bins : Pla
 is_added st next thread k bins within s new empty is = record {
   added = record { bins = bins; empty = empty; left = is };
   there = rw is (ap is_some (put_here st.slots k.arena.number (slot_with k bins) within));
-  unseen = subst (λ (x : SerialState). IsUnseen state_ways st (λ _. 0) (λ _. 0) x) (sym is) (added_unseen st thread k bins within s new empty);
+  aside = subst (λ (x : SerialState). IsAside state_ways st x) (sym is)
+      (let u : IsUnseen state_ways st (λ _. 0) (λ _. 0) (added_at st thread k bins) = added_unseen st thread k bins within s new empty in
+      record { serves = λ exact hands v. serves_same exact (added_at st thread k bins) (both_of (λ _. 0) hands) hands (λ w. omega arith) (u.serves exact hands (serves_same exact st hands (both_of (λ _. 0) hands) (λ w. omega arith) v)); notes = u.notes; tunables = u.tunables; writes = u.writes });
+  whole = subst IsWhole (sym is) (added_whole st thread k bins within new.owed new.owed.whole);
 }
 
 -- ---- trays

@@ -222,6 +222,7 @@ pub record IsOwed (st : SerialState) (n : ℕ) : Type 0 where
   pub may : CanAttach st.book n
   pub other : 0 < n
   pub below : n < 64
+  pub whole : IsWhole st
 
 -- each fast bin of an arena has room for one more
 abbrev pub HasSlotRoom : SerialState → ℕ → Type 0

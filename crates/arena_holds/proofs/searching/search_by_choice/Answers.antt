@@ -1,7 +1,8 @@
 use Rattle.std.proofs.Common.{inl, inr}
 use Rattle.arena_holds.specs.Places.{in_cache}
 use Rattle.arena_core.proofs.Opens.{on_err}
-use Rattle.arena_holds.proofs.Carrying.{carries_short, carries_then, served_after}
+use Rattle.arena_holds.proofs.Carrying.{carries_short, carries_then}
+use Rattle.arena_holds.proofs.Opened.{served_opened}
 use Rattle.arena_holds.proofs.Searches.{chosen_in, chosen_new, chosen_refused}
 use Rattle.arena_holds.proofs.RunningShort.{short_chosen, short_unopened, short_new}
 use Rattle.arena_holds.proofs.searching.search_by_choice.Goals as goal
@@ -13,7 +14,7 @@ returns-then-not-branch-clause-finds g c =
 
 pub search_in-requires-clause-served : goal.search_in-requires-clause-served
 search_in-requires-clause-served g c = λ k l.
-    served_after g.met.P.Places.laws.same c.requires.served (c.in_ok-open_arena-in-New.ensures.opens.carries (in_cache c.args.cache.now))
+    served_opened g.met.P.Places.laws.same c.requires.reached (c.in_ok-open_arena-in-New.ensures.opens.carries (in_cache c.args.cache.now)) c.in_ok-open_arena-in-New.ensures.opens.whole
 
 pub search_in-requires-clause-writer : goal.search_in-requires-clause-writer
 search_in-requires-clause-writer g c = λ k l. (c.in_ok-open_arena-in-New.ensures.opens.carries (in_cache c.args.cache.now)).writes c.args.who.now c.requires.writer

@@ -22,10 +22,10 @@ invariant_of-self-in_default c = chosen_serial c.self.inside c.choose-choice.new
 
 pub returns-in-Free : goal.returns-in-Free
 returns-in-Free c =
-    chosen c.self.inside c.args.self.now c.attach.new.self c.args.thread c.args.fresh c.args.t.now (Free c.in-Free.a) c.self.view_is c.requires.tunables c.self.invariant
+    chosen c.self.inside c.args.self.now c.attach.new.self c.args.thread c.args.fresh c.args.t.now (Free c.in-Free.a) c.self.view_is c.requires.tunables c.requires.whole c.self.invariant
     (sym c.in-Free.is ∙ c.choose-choice.ensures.choice) (after_free c)
 
 pub returns-in_default : goal.returns-in_default
 returns-in_default c =
-    chosen c.self.inside c.args.self.now c.choose-choice.new.self c.args.thread c.args.fresh c.args.t.now c.choose-choice.result c.self.view_is c.requires.tunables c.self.invariant
+    chosen c.self.inside c.args.self.now c.choose-choice.new.self c.args.thread c.args.fresh c.args.t.now c.choose-choice.result c.self.view_is c.requires.tunables c.requires.whole c.self.invariant
     c.choose-choice.ensures.choice (after_other c)
