@@ -1,5 +1,5 @@
 -- What a hold of an arena needs of what was lent, and what it keeps.
-use Rattle.std.proofs.Common.{◌≡◌, ℕ, ◌+◌, ◌-◌, ◌≤◌, Bool, true, false, ◌&&◌, cond, List, [], Option, Some, None, inl, inr, Result, Ok, Err, refl, sym, ap, ◌∙◌, subst, arith}
+use Rattle.std.proofs.Common.{◌≡◌, ℕ, ◌+◌, ◌-◌, ◌≤◌, Bool, true, false, ◌&&◌, cond, List, [], ◌∷◌, ◌++◌, append-nil, Option, Some, None, inl, inr, Result, Ok, Err, refl, sym, ap, ◌∙◌, subst, arith}
 use Rattle.std.specs.Prelude.{nat_eq, IfSome, IsSome, IfOk, IfErr, OnOk, OnErr}
 use Rattle.std.proofs.lemmas.Bool.{ltb-false}
 use Rattle.chunk_tags.specs.BinOrder.{once, same_chunk}
@@ -12,7 +12,7 @@ use Rattle.address_space.specs.Spaces.{map_length, map_start}
 use Rattle.address_space.specs.declared.space.Space.{Space}
 use Rattle.thread_cache.specs.Caches.{CacheValue, structure_of}
 use Rattle.thread_cache.specs.Held.{IsSoundCache}
-use Rattle.arena_rules.specs.PlainArena.{Plain, IsSound}
+use Rattle.arena_rules.specs.PlainArena.{Plain, IsSound, times_used}
 use Rattle.arena_rules.specs.MainPlaces.{covers, IsPlaced}
 use Rattle.arena_rules.specs.Rules.{heap_windows_of}
 use Rattle.arena_rules.proofs.Covered.{covers_adds}
@@ -23,10 +23,12 @@ use Rattle.consolidate_trim.specs.Holds.{Chunks, no_chunk, one_chunk, IsBacked, 
 use Rattle.consolidate_trim.specs.Outside.{Means, Outside, ways}
 use Rattle.consolidate_trim.proofs.HoldSteps.{block_is, block_other}
 use Rattle.arena_growth.specs.Ledgers.{stage}
-use Rattle.arena_growth.specs.Asking.{IsReady, IsSearchable, AllowsMaps, beside_arena}
+use Rattle.arena_growth.specs.Asking.{found_of, IsReady, IsSearchable, AllowsMaps, beside_arena}
+use Rattle.arena_growth.specs.declared.found.Found.{Found}
 use Rattle.arena_growth.specs.declared.found.Found.TheVariants as finds
-use Rattle.arena_core.specs.Arenas.{Held, held, Records, RecordsShort, FailsShort, GivesShort}
-use Rattle.arena_core.specs.Replay.{IsReplay, chunk_at}
+use Rattle.arena_core.specs.Arenas.{Held, held, recorded, Records, RecordsShort, FailsShort, GivesShort}
+use Rattle.arena_core.specs.Replay.{IsReplay, ended_of, chunk_at}
+use Rattle.arena_core.specs.declared.journal.Ended.TheVariants.{Short}
 use Rattle.arena_core.specs.Shown.{MappedShown, ShowsMapped, EndsCounted, StopsCounted}
 use Rattle.arena_core.specs.Journal.{Recorded}
 use Rattle.arena_core.proofs.Mapped.{IsFramed, walked_frame, walked_to_end, walked_short, rules_map_within}
@@ -38,7 +40,9 @@ use Rattle.realloc_align.specs.Calls.{ResizesBlock, FailsResize}
 use Rattle.realloc_align.specs.declared.to_size.Resized.{Resized}
 use Rattle.arena_holds.specs.Places.{both_of, KeptArena, PlaceWays, PlaceLaws, IsLent, IsServed, Carries, standing, Hands, weight_of, in_cache, as_chunk_of, as_mapped, as_mapped_bytes, as_mapped_byte, given_byte, Covers, new_arena}
 use Rattle.arena_holds.specs.Holding.{SearchesArena}
-use Rattle.arena_holds.specs.Returning.{IsReturn, IsUnlocked, IsAccounted, IsNoted}
+use Rattle.arena_holds.specs.Returning as port
+use Rattle.arena_holds.specs.Returning.{AreOf, PortWalks, IsReturn, IsUnlocked, IsAccounted, IsNoted}
+use Rattle.arena_holds.proofs.PortWalking.{port_walks}
 use Rattle.arena_holds.proofs.CachedBlocks.{in_lists-nothing}
 
 -- ---- what a block weighs
@@ -101,81 +105,172 @@ searchable tuned = record { pad = tuned.pad; fast = tuned.fast; main = tuned.mai
 
 -- ---- after
 
--- the arena after a hold, as it is given back
-pub record IsLeft (before after : Plain) : Type 0 where
-  pub number : after.number ≡ before.number
-  pub sound : IsSound after
-  pub placed : IsPlaced after
-  pub windows : after.windows ≡ before.windows
+-- what a hold leaves, as it is given back, these chunks having been in hand
+pub record IsLeft {H K : Type 0} (m : Means H K) (who : Who) (given : Chunks) (before after : Held H K) : Type 0 where
+  pub number : after.arena.number ≡ before.arena.number
+  pub sound : IsSound after.arena
+  pub placed : IsPlaced after.arena
+  pub windows : after.arena.windows ≡ before.arena.windows
+  pub goes : PortWalks m.fast m.dials before.outside.port after.outside.port
+  pub entries : List Recorded
+  pub grew : after.journal ≡ before.journal ++ entries
+  pub whose : AreOf who entries
+  pub covered : (e : Chunk) → times_used e before.arena + m.fast.stock after.outside.port e
+      ≤ times_used e after.arena + (m.fast.stock before.outside.port e + (times_cached before.arena.number before.outside.cache e + given e))
+
+left_same : {H K : Type 0} (m : Means H K) (who : Who) (given : Chunks) (before after : Held H K) → IsSound before.arena → IsPlaced before.arena → after ≡ before → IsLeft m who given before after
+left_same {H = H} {K = K} m who given before after sound placed same = subst (λ (h : Held H K). IsLeft m who given before h) (sym same) (record {
+  number = refl;
+  sound = sound;
+  placed = placed;
+  windows = refl;
+  goes = port.port_stays;
+  entries = [];
+  grew = sym (append-nil before.journal);
+  whose = tt;
+  covered = λ e. omega arith;
+})
+
+left_recorded : {H K : Type 0} (m : Means H K) (t : Tunables) (who : Who) (act : Act) (before after : Held H K) (given : Chunks) (found : Found) → IsPlaced before.arena →
+    Records m t who act before given found after → IsLeft m who given before after
+left_recorded m t who act before after given found placed r =
+    let b = r.balances in
+    record {
+      number = b.number;
+      sound = b.sound;
+      placed = b.placed placed;
+      windows = b.windows;
+      goes = port_walks {m = m} r.walks.walks;
+      entries = recorded who act r.said (ended_of act (found_of found)) ∷ [];
+      grew = r.added;
+      whose = (refl, tt);
+      covered = λ e. omega (arith, b.kept e);
+    }
+
+left_short : {H K : Type 0} (m : Means H K) (t : Tunables) (who : Who) (act : Act) (before after : Held H K) (given : Chunks) → IsPlaced before.arena →
+    RecordsShort m t who act before given after → IsLeft m who given before after
+left_short m t who act before after given placed r =
+    let b = r.loses in
+    record {
+      number = b.number;
+      sound = b.sound;
+      placed = b.placed placed;
+      windows = b.windows;
+      goes = port_walks {m = m} r.stops.reaches.walks;
+      entries = recorded who act r.said Short ∷ [];
+      grew = r.added;
+      whose = (refl, tt);
+      covered = λ e. omega (arith, b.kept e);
+    }
 
 pub left_searched : {H K : Type 0} (m : Means H K) (t : Tunables) (who : Who) (act : Act) (before after : Held H K) (result : Result (Option Block) NoMemory) → IsSound before.arena → IsPlaced before.arena →
-    IfOk result (λ block. SearchesArena m t who act before block after) → OnErr result (FailsShort m t who act before no_chunk after) → IsLeft before.arena after.arena
-left_searched m t who act before after (Ok block) sound placed searches short =
-    let b = searches.records.balances in record { number = b.number; sound = b.sound; placed = b.placed placed; windows = b.windows }
-left_searched {H = H} {K = K} m t who act before after (Err e) sound placed searches short = elim short [
-  | inl same ↦ record {
-    number = ap (λ (h : Held H K). h.arena.number) same;
-    sound = subst (λ (h : Held H K). IsSound h.arena) (sym same) sound;
-    placed = subst (λ (h : Held H K). IsPlaced h.arena) (sym same) placed;
-    windows = ap (λ (h : Held H K). h.arena.windows) same;
-  }
-  | inr records ↦ let b = records.loses in record { number = b.number; sound = b.sound; placed = b.placed placed; windows = b.windows }
+    IfOk result (λ block. SearchesArena m t who act before block after) → OnErr result (FailsShort m t who act before no_chunk after) → IsLeft m who no_chunk before after
+left_searched m t who act before after (Ok block) sound placed searches short = left_recorded m t who act before after no_chunk searches.found placed searches.records
+left_searched m t who act before after (Err e) sound placed searches short = elim short [
+  | inl same ↦ left_same m who no_chunk before after sound placed same
+  | inr records ↦ left_short m t who act before after no_chunk placed records
 ]
 
 pub left_given : {H K : Type 0} (m : Means H K) (t : Tunables) (who : Who) (b : Block) (before after : Held H K) (result : Result (Unit {0}) GiveShort) → IsSound before.arena → IsPlaced before.arena →
     OnOk result (Records m t who (acts.Give b.addr b.size) before (one_chunk (chunk_at b.addr b.size)) finds.Nowhere after) →
-    IfErr result (λ e. GivesShort m t who b before e.back after) → IsLeft before.arena after.arena
-left_given m t who b before after (Ok done) sound placed records short =
-    let l = records.balances in record { number = l.number; sound = l.sound; placed = l.placed placed; windows = l.windows }
+    IfErr result (λ e. GivesShort m t who b before e.back after) → IsLeft m who (one_chunk (chunk_at b.addr b.size)) before after
+left_given m t who b before after (Ok done) sound placed records short = left_recorded m t who (acts.Give b.addr b.size) before after (one_chunk (chunk_at b.addr b.size)) finds.Nowhere placed records
 left_given {H = H} {K = K} m t who b before after (Err e) sound placed records short =
-    let cases : (o : Option Block) → GivesShort m t who b before o after → IsLeft before.arena after.arena = elim [
-      | Some back ↦ λ h. record {
-        number = ap (λ (x : Held H K). x.arena.number) h.1;
-        sound = subst (λ (x : Held H K). IsSound x.arena) (sym h.1) sound;
-        placed = subst (λ (x : Held H K). IsPlaced x.arena) (sym h.1) placed;
-        windows = ap (λ (x : Held H K). x.arena.windows) h.1;
-      }
-      | None ↦ λ h. let l = h.loses in record { number = l.number; sound = l.sound; placed = l.placed placed; windows = l.windows }
+    let cases : (o : Option Block) → GivesShort m t who b before o after → IsLeft m who (one_chunk (chunk_at b.addr b.size)) before after = elim [
+      | Some back ↦ λ h. left_same m who (one_chunk (chunk_at b.addr b.size)) before after sound placed h.1
+      | None ↦ λ h. left_short m t who (acts.Give b.addr b.size) before after (one_chunk (chunk_at b.addr b.size)) placed h
     ] in
     cases e.back short
+
+left_unsized : {H K : Type 0} (m : Means H K) (t : Tunables) (who : Who) (b : Block) (nb : ℕ) (before after : Held H K) (back : Option Block) → IsSound before.arena → IsPlaced before.arena →
+    FailsResize m t who b nb before back after → IsLeft m who (one_chunk (chunk_at b.addr b.size)) before after
+left_unsized m t who b nb before after None sound placed h = absurd h
+left_unsized m t who b nb before after (Some back) sound placed h = elim h [
+  | inl same ↦ left_same m who (one_chunk (chunk_at b.addr b.size)) before after sound placed same.1
+  | inr r ↦
+      let l = r.spares in
+      record {
+        number = l.number;
+        sound = l.sound;
+        placed = l.placed placed;
+        windows = l.windows;
+        goes = port_walks {m = m} r.stops.reaches.walks;
+        entries = recorded who (acts.Resize b.addr b.size nb) r.said Short ∷ [];
+        grew = r.added;
+        whose = (refl, tt);
+        covered = λ e. omega (arith, l.kept e);
+      }
+]
 
 pub left_resized : {H K : Type 0} (m : Means H K) (t : Tunables) (who : Who) (b : Block) (nb : ℕ) (before after : Held H K) (result : Result Resized GiveShort) → IsSound before.arena → IsPlaced before.arena →
-    IfOk result (λ r. ResizesBlock m t who b nb before r after) → IfErr result (λ e. FailsResize m t who b nb before e.back after) → IsLeft before.arena after.arena
+    IfOk result (λ r. ResizesBlock m t who b nb before r after) → IfErr result (λ e. FailsResize m t who b nb before e.back after) → IsLeft m who (one_chunk (chunk_at b.addr b.size)) before after
 left_resized m t who b nb before after (Ok r) sound placed resizes short =
-    let l = resizes.records.balances in record { number = l.number; sound = l.sound; placed = l.placed placed; windows = l.windows }
-left_resized {H = H} {K = K} m t who b nb before after (Err e) sound placed resizes short =
-    let cases : (o : Option Block) → FailsResize m t who b nb before o after → IsLeft before.arena after.arena = elim [
-      | Some back ↦ elim [
-        | inl same ↦ record {
-          number = ap (λ (x : Held H K). x.arena.number) same.1;
-          sound = subst (λ (x : Held H K). IsSound x.arena) (sym same.1) sound;
-          placed = subst (λ (x : Held H K). IsPlaced x.arena) (sym same.1) placed;
-          windows = ap (λ (x : Held H K). x.arena.windows) same.1;
-        }
-        | inr stops ↦ let l = stops.spares in record { number = l.number; sound = l.sound; placed = l.placed placed; windows = l.windows }
-      ]
-      | None ↦ λ h. absurd h
-    ] in
-    cases e.back short
+    left_recorded m t who (acts.Resize b.addr b.size nb) before after (one_chunk (chunk_at b.addr b.size)) resizes.found placed resizes.records
+left_resized m t who b nb before after (Err e) sound placed resizes short = left_unsized m t who b nb before after e.back sound placed short
+
+-- the chunks in hand are among the blocks of the caller
+pub in_hand_searched : (n : ℕ) (cache : CacheValue) (e : Chunk) → times_cached n cache e + no_chunk e ≤ in_cache cache (as_chunk_of n e)
+in_hand_searched n cache e = omega (arith, cached_is n cache e)
+
+pub in_hand_given : (n : ℕ) (b : Block) (e : Chunk) → b.arena ≡ Some n → times_cached n None e + one_chunk (chunk_at b.addr b.size) e ≤ as_chunk_of n e b
+in_hand_given n b e arena = omega (arith, chunk_is n e b arena)
+
+pub in_hand_resized : (n : ℕ) (b : Block) (cache : CacheValue) (e : Chunk) → b.arena ≡ Some n →
+    times_cached n cache e + one_chunk (chunk_at b.addr b.size) e ≤ both_of (λ weigh. weigh b) (in_cache cache) (as_chunk_of n e)
+in_hand_resized n b cache e arena = omega (arith, chunk_is n e b arena, cached_is n cache e)
 
 -- it may be given back
-pub is_return : {P H D : Type 0} (ways : PlaceWays P H D) (fast : Fast H) (dials : Dialled H) (words : Dialled D) (p q : P) (a : ℕ) (port : H) (k k' : KeptArena) (t : Tunables) →
-    PlaceLaws ways fast dials words → ways.lent p a port (Some k) q → ways.tunables p ≡ t → IsLeft k.arena k'.arena →
-    ((start : Plain) → IsReplay t start k.journal k.arena → IsReplay t start k'.journal k'.arena) → IsReturn ways k' q
-is_return ways fast dials words p q a port k k' t laws lent tuned left replay =
-    let is : IsLent ways fast dials p a port k = laws.lends p q a port k lent in
+pub is_return : {P H D K : Type 0} (ways : PlaceWays P H D) (m : Means H K) (words : Dialled D) (p q : P) (a : ℕ) (port left : H) (cache now : CacheValue) (space later : Space K) (k k' : KeptArena) (t : Tunables) (who : Who) (given : Chunks) (hands : Hands) →
+    ways.writes p who → PlaceLaws ways m.fast m.dials words → ways.lent p a port (Some k) q → ways.tunables p ≡ t → ways.serves false p hands →
+    ((e : Chunk) → times_cached k.arena.number cache e + given e ≤ hands (as_chunk_of k.arena.number e)) →
+    IsLeft m who given (held k.arena port cache space k.journal) (held k'.arena left now later k'.journal) →
+    ((start : Plain) → IsReplay t start k.journal k.arena → IsReplay t start k'.journal k'.arena) → IsReturn ways m.fast m.dials k' left q
+is_return ways m words p q a port left cache now space later k k' t who given hands writes laws lent tuned served within behind replay =
+    let is : IsLent ways m.fast m.dials p a port k = laws.lends p q a port k lent in
+    let covered : (e : Chunk) → times_used e k.arena + m.fast.stock left e ≤ times_used e k'.arena + (m.fast.stock port e + hands (as_chunk_of k.arena.number e)) =
+    λ e. omega (arith, behind.covered e, within e) in
     record {
       places = p;
       arena = a;
       port = port;
       before = k;
       lent = lent;
-      number = left.number ∙ is.number;
-      sound = left.sound;
-      placed = left.placed;
-      heaps = λ other. left.windows ∙ is.heaps (subst (λ (n : ℕ). nat_eq n 0 ≡ false) left.number other);
+      goes = behind.goes;
+      entries = behind.entries;
+      grew = behind.grew;
+      who = who;
+      writes = writes;
+      whose = behind.whose;
+      hands = hands;
+      served = served;
+      covered = λ e. subst (λ (n : ℕ). times_used e k.arena + m.fast.stock left e ≤ times_used e k'.arena + (m.fast.stock port e + hands (as_chunk_of n e))) is.number (covered e);
+      number = behind.number ∙ is.number;
+      sound = behind.sound;
+      placed = behind.placed;
+      heaps = λ other. behind.windows ∙ is.heaps (subst (λ (n : ℕ). nat_eq n 0 ≡ false) behind.number other);
       replays = subst (λ (x : Tunables). IsReplay x (new_arena x a) k'.journal k'.arena) (sym tuned) (replay (new_arena t a) (subst (λ (x : Tunables). IsReplay x (new_arena x a) k.journal k.arena) tuned is.replays));
     }
+
+-- how the port of a hold went that memory was too short for
+pub fails_walks : {H K : Type 0} (m : Means H K) {t : Tunables} {who : Who} {act : Act} {before after : Held H K} {given : Chunks} → FailsShort m t who act before given after →
+    PortWalks m.fast m.dials before.outside.port after.outside.port
+fails_walks {H = H} {K = K} m {before = before} h = elim h [
+  | inl same ↦ subst (λ (x : Held H K). PortWalks m.fast m.dials before.outside.port x.outside.port) (sym same) port.port_stays
+  | inr r ↦ port_walks {m = m} r.stops.reaches.walks
+]
+
+pub gives_walks : {H K : Type 0} (m : Means H K) (t : Tunables) (who : Who) (b : Block) (before after : Held H K) (back : Option Block) → GivesShort m t who b before back after →
+    PortWalks m.fast m.dials before.outside.port after.outside.port
+gives_walks {H = H} {K = K} m t who b before after (Some c) h = subst (λ (x : Held H K). PortWalks m.fast m.dials before.outside.port x.outside.port) (sym h.1) port.port_stays
+gives_walks m t who b before after None h = port_walks {m = m} h.stops.reaches.walks
+
+pub unsized_walks : {H K : Type 0} (m : Means H K) (t : Tunables) (who : Who) (b : Block) (nb : ℕ) (before after : Held H K) (back : Option Block) → FailsResize m t who b nb before back after →
+    PortWalks m.fast m.dials before.outside.port after.outside.port
+unsized_walks m t who b nb before after None h = absurd h
+unsized_walks {H = H} {K = K} m t who b nb before after (Some c) h = elim h [
+  | inl same ↦ subst (λ (x : Held H K). PortWalks m.fast m.dials before.outside.port x.outside.port) (sym same.1) port.port_stays
+  | inr r ↦ port_walks {m = m} r.stops.reaches.walks
+]
 
 -- ---- the account of a hold
 

@@ -1,6 +1,7 @@
 pub mod Going
 pub mod CachedBlocks
 pub mod Carrying
+pub mod PortWalking
 pub mod Holds
 pub mod Founds
 pub mod Taken

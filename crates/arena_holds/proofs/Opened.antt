@@ -32,7 +32,7 @@ use Rattle.arena_holds.specs.Going as going
 use Rattle.arena_holds.specs.Going.{Opened, here}
 use Rattle.arena_holds.specs.Holding.{OpensArena}
 use Rattle.arena_holds.specs.Places.{with_journal, PlaceWays, Setting, Standing, standing, Carries, IsServed, IsReached, both_of, Hands, new_arena}
-use Rattle.arena_holds.specs.Returning.{IsAside, IsUndone, IsUnseen, IsNew, IsAdded}
+use Rattle.arena_holds.specs.Returning.{AreOf, IsAside, IsUndone, IsUnseen, IsNew, IsAdded}
 use Rattle.arena_holds.proofs.Carrying.{SameLaw, unseen_keeps}
 
 -- ---- the thread's space
@@ -173,8 +173,8 @@ unused e a len = refl
 
 -- it may be put into its place
 pub is_new : {P H D K M : Type 0} (ways : PlaceWays P H D) (plain : M → Plain) (port : Port K) (t : Tunables) (who : Who) (p : P) (a bytes : ℕ) (ground : M) (journal : List Recorded) (s z : Space K) →
-    ways.owed p a → 0 < a → ways.tunables p ≡ t → OpensAs plain port t who a bytes s ground journal z → IsReplay t (closed_arena t a) journal (plain ground) → IsNew ways (with_journal (plain ground) journal) p
-is_new ways plain port t who p a bytes ground journal s z owed other tuned opens replays =
+    ways.owed p a → ways.writes p who → 0 < a → ways.tunables p ≡ t → OpensAs plain port t who a bytes s ground journal z → IsReplay t (closed_arena t a) journal (plain ground) → IsNew ways (with_journal (plain ground) journal) p
+is_new ways plain port t who p a bytes ground journal s z owed writes other tuned opens replays =
     let b : Plain = plain ground in
     let is = opened_is t bytes (closed_arena t a) b opens.walks.said (ends_as_walked opens.walks.walks) in
     let number : b.number ≡ a = ap (λ (x : Plain). x.number) is.1 in
@@ -187,6 +187,9 @@ is_new ways plain port t who p a bytes ground journal s z owed other tuned opens
       heaps = ap (λ (x : Plain). x.windows) is.1 ∙ ap heap_windows_of (sym tuned);
       replays = subst (λ (n : ℕ). IsReplay (ways.tunables p) (new_arena (ways.tunables p) n) journal b) (sym number)
           (subst (λ (x : Tunables). IsReplay x (new_arena x a) journal b) (sym tuned) (subst (λ (x : Plain). IsReplay t x journal b) (sym start) replays));
+      who = who;
+      writes = writes;
+      whose = subst (λ (js : List Recorded). AreOf who js) (sym opens.journal_is) (refl, tt);
       unused = λ e. ap (times_used e) is.1 ∙ unused e (closed_arena t a) is.0;
     }
 

@@ -1,15 +1,17 @@
 -- What was lent comes back (this project's own): an arena with its port, and the words.
-use Rattle.std.specs.Prelude.{◌≡◌, ℕ, ◌+◌, ◌≤◌, Bool, false, List, [], ◌∷◌, Option, Some, None, is_some, IsTrue, Result, Ok, Err, IfOk, if◌then◌else◌}
+use Rattle.std.specs.Prelude.{◌≡◌, ℕ, ◌+◌, ◌≤◌, Bool, false, List, [], ◌∷◌, ◌++◌, Option, Some, None, is_some, IsTrue, Result, Ok, Err, IfOk, if◌then◌else◌}
 use Rattle.chunk_tags.specs.declared.block.Block.{Block}
 use Rattle.chunk_tags.specs.declared.tiles.Chunk.{Chunk}
 use Rattle.chunk_tags.specs.declared.tunables.Tunables.{Tunables}
 use Rattle.mapped_chunks.specs.DialPorts.{DialStep, Reads, Raises, Maps, Unmaps, Remaps, Dialled}
 use Rattle.mapped_chunks.specs.Mappings.{AllSteps}
-use Rattle.fast_bins.specs.FastPorts.{Fast}
+use Rattle.fast_bins.specs.FastPorts.{Fast, FastStep, Did, Idles}
 use Rattle.arena_rules.specs.PlainArena.{IsSound, is_main, times_used}
 use Rattle.arena_rules.specs.MainPlaces.{IsPlaced}
 use Rattle.arena_rules.specs.Rules.{heap_windows_of}
+use Rattle.arena_core.specs.Journal.{Recorded}
 use Rattle.arena_core.specs.declared.journal.Who.{Who}
+use Rattle.std.specs.List.{AllByRecursion}
 use Rattle.arena_core.specs.Replay.{IsReplay}
 use Rattle.arena_core.specs.Shown.{MappedShown}
 use Rattle.arena_choice.specs.Books.{BookValue}
@@ -22,13 +24,34 @@ use Rattle.arena_holds.specs.declared.trays.Empty.{Empty}
 use Rattle.arena_holds.specs.BookChanges.{BookChange, Chooses, Undoes}
 use Rattle.arena_holds.specs.Places.{KeptArena, PlaceWays, Hands, both_of, as_chunk_of, as_mapped, as_mapped_bytes, Covers, new_arena}
 
--- An arena that comes back with its port: it was lent, is sound, and is what the replay of its journal gives.
-pub record IsReturn {P H D : Type 0} (ways : PlaceWays P H D) (k : KeptArena) (q : P) : Type 0 where
+-- What was done at a lent port, in order: steps of its fast bins and of the words, and room that was made.
+pub data PortWalks {H : Type 0} (fast : Fast H) (dials : Dialled H) : H → H → Type 0 where
+  port_stays : {h : H} → PortWalks fast dials h h
+  port_steps : {h i j : H} {s : FastStep} → Did fast h s i → PortWalks fast dials i j → PortWalks fast dials h j
+  word_steps : {h i j : H} {s : DialStep} → dials.step h s i → PortWalks fast dials i j → PortWalks fast dials h j
+  port_rests : {h i j : H} → Idles fast h i → PortWalks fast dials i j → PortWalks fast dials h j
+
+-- entries of one line
+abbrev pub AreOf : Who → List Recorded → Type 0
+AreOf who entries = AllByRecursion (λ (e : Recorded). e.who ≡ who) entries
+
+-- An arena that comes back with its port: it was lent with a port that then went so, is sound, and is what the replay of its
+-- journal gives; the journal has entries more. The chunks that aren't used any more were the caller's or the port's.
+pub record IsReturn {P H D : Type 0} (ways : PlaceWays P H D) (fast : Fast H) (dials : Dialled H) (k : KeptArena) (left : H) (q : P) : Type 0 where
   pub places : P
   pub arena : ℕ
   pub port : H
   pub before : KeptArena
   pub lent : ways.lent places arena port (Some before) q
+  pub goes : PortWalks fast dials port left
+  pub entries : List Recorded
+  pub grew : k.journal ≡ before.journal ++ entries
+  pub who : Who
+  pub writes : ways.writes places who
+  pub whose : AreOf who entries
+  pub hands : Hands
+  pub served : ways.serves false places hands
+  pub covered : (e : Chunk) → times_used e before.arena + fast.stock left e ≤ times_used e k.arena + (fast.stock port e + hands (as_chunk_of arena e))
   pub number : k.arena.number ≡ arena
   pub sound : IsSound k.arena
   pub placed : IsPlaced k.arena
@@ -64,9 +87,9 @@ pub record IsUnlocked {P H D : Type 0} (ways : PlaceWays P H D) (fast : Fast H) 
   pub writes : (who : Who) → ways.writes places who → ways.writes new who
 
 -- what unlocking keeps, whatever was lent
-abbrev pub Unlocks : {P H D : Type 0} → PlaceWays P H D → Fast H → P → H → KeptArena → P → Type 0
-Unlocks {P} {H} ways fast lending left after new =
-    (places : P) (a : ℕ) (port : H) (before : KeptArena) → ways.lent places a port (Some before) lending →
+abbrev pub Unlocks : {P H D : Type 0} → PlaceWays P H D → Fast H → Dialled H → P → H → KeptArena → P → Type 0
+Unlocks {P} {H} ways fast dials lending left after new =
+    (places : P) (a : ℕ) (port : H) (before : KeptArena) → ways.lent places a port (Some before) lending → PortWalks fast dials port left →
     IsUnlocked ways fast places a port before left after new
 
 -- ---- the words
@@ -176,6 +199,9 @@ pub record IsNew {P H D : Type 0} (ways : PlaceWays P H D) (k : KeptArena) (p : 
   pub placed : IsPlaced k.arena
   pub heaps : k.arena.windows ≡ heap_windows_of (ways.tunables p)
   pub replays : IsReplay (ways.tunables p) (new_arena (ways.tunables p) k.arena.number) k.journal k.arena
+  pub who : Who
+  pub writes : ways.writes p who
+  pub whose : AreOf who k.journal
   pub unused : (e : Chunk) → times_used e k.arena ≡ 0
 
 -- It was put into its place, and a thread attached to it.

@@ -59,9 +59,10 @@ pub trait Places {
 
     /// Gives an arena back, and unlocks it.
     fn unlock(&mut self, hold: Self::Hold, arena: Arena<Self::Ground>)
-        requires lent { IsReturn ways (kept_of Self.Ground.plain arena) self.old }
+        requires lent { IsReturn ways Self.Hold.fast Self.Hold.dials
+            (kept_of Self.Ground.plain arena) hold self.old }
         ensures gave { ways.gave self.old hold (kept_of Self.Ground.plain arena) self.new }
-        ensures unlocked { Unlocks ways Self.Hold.fast self.old hold
+        ensures unlocked { Unlocks ways Self.Hold.fast Self.Hold.dials self.old hold
             (kept_of Self.Ground.plain arena) self.new };
 
     /// Lends the words, outside all holds.

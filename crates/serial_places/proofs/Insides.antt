@@ -17,6 +17,8 @@ use Rattle.arena_choice.specs.declared.choice.Choice.TheVariants.{Attached, Free
 use Rattle.arena_holds.specs.BookChanges.{Chooses, attached_where_free, book_after}
 use Rattle.arena_holds.specs.Places.{both_of}
 use Rattle.arena_holds.specs.Returning.{IsReturn, IsUnseen, IsNew, IsAdded, IsChosen, IsTaken}
+use Rattle.serial_places.specs.Joined.{joined_fast, joined_dials}
+use Rattle.mapped_chunks.specs.PlainDials.{plain_dials}
 use Rattle.serial_places.specs.Playing.{PlainPort}
 use Rattle.serial_places.specs.declared.serial.Serial.TheInside.{Inside}
 use Rattle.serial_places.specs.declared.slot.Slot.{Slot}
@@ -117,14 +119,14 @@ with_back_is i now n arena port view =
     ∙ ap (λ (v : SerialState). let st : SerialState = record v { slots = put_in v.slots n (slot_with (kept_ground arena) port.bins); dials = port.dials; lent = None } in st) view
 
 -- the number of the arena that is lent
-pub lent_within : (i : Inside) (now : SerialState) (n : ℕ) (arena : Arena GroundView) → seen i ≡ now → IsReturn state_ways (kept_ground arena) now → i.lent ≡ Some n → n < length now.slots
+pub lent_within : (i : Inside) (now : SerialState) (n : ℕ) (arena : Arena GroundView) {port : PlainPort} → seen i ≡ now → IsReturn state_ways (joined_fast plain_fast) (joined_dials plain_dials) (kept_ground arena) port now → i.lent ≡ Some n → n < length now.slots
 lent_within i now n arena view r lent =
     let from : now.lent ≡ Some n = ap (λ (st : SerialState). st.lent) (sym view) ∙ lent in
     let here : r.arena ≡ n = same_some r.arena n (ap (λ (st : SerialState). st.lent) r.lent.left) from in
     let within : r.arena < length r.places.slots = some_within r.places.slots r.arena _ r.lent.slot in
     omega (arith, within, here, ap (λ (st : SerialState). length st.slots) r.lent.left, length-set r.places.slots r.arena (let none : Option KeptSlot = None in none))
 
-pub back_serial : (i : Inside) (now : SerialState) (m n : ℕ) (arena : Arena GroundView) (port : PlainPort) (lent : Option ℕ) → seen i ≡ now → IsReturn state_ways (kept_ground arena) now →
+pub back_serial : (i : Inside) (now : SerialState) (m n : ℕ) (arena : Arena GroundView) (port : PlainPort) (lent : Option ℕ) → seen i ≡ now → IsReturn state_ways (joined_fast plain_fast) (joined_dials plain_dials) (kept_ground arena) port now →
     i.lent ≡ Some n → m ≡ n → lent ≡ None → IsSerial (seen i) → IsSerial (with_back i m arena port lent)
 back_serial i now m n arena port lent view r was same none s =
     let from : now.lent ≡ Some n = ap (λ (st : SerialState). st.lent) (sym view) ∙ was in

@@ -13,6 +13,10 @@ use Rattle.arena_choice.specs.Choices.{attached_book}
 use Rattle.arena_choice.proofs.BookLaws.{sound_attached, in_listed}
 use Rattle.arena_holds.specs.Places.{KeptArena, new_arena}
 use Rattle.arena_holds.specs.Returning.{IsReturn, IsNew}
+use Rattle.serial_places.specs.Joined.{joined_fast, joined_dials}
+use Rattle.serial_places.specs.Playing.{PlainPort}
+use Rattle.fast_bins.specs.PlainBins.{plain_fast}
+use Rattle.mapped_chunks.specs.PlainDials.{plain_dials}
 use Rattle.fast_bins.specs.PlainBins.{PlainBins}
 use Rattle.serial_places.specs.Trays.{IsHeldTray}
 use Rattle.serial_places.specs.declared.slot.Slot.{Slot}
@@ -59,7 +63,7 @@ pub kept_at : (st : SerialState) (n : ℕ) (slot : KeptSlot) → slot_in st.slot
 kept_at st n slot e s = subst (λ (o : Option KeptSlot). IfSome o (IsKeptIn st.tunables st.book.list n)) e (s.kept n)
 
 -- an arena that comes back
-pub kept_back : (q : SerialState) (k : KeptArena) (bins : PlainBins) (n : ℕ) → IsReturn state_ways k q → q.lent ≡ Some n → IsKeptIn q.tunables q.book.list n (slot_with k bins)
+pub kept_back : (q : SerialState) (k : KeptArena) (bins : PlainBins) (n : ℕ) {left : PlainPort} → IsReturn state_ways (joined_fast plain_fast) (joined_dials plain_dials) k left q → q.lent ≡ Some n → IsKeptIn q.tunables q.book.list n (slot_with k bins)
 kept_back q k bins n r lent =
     let here : r.arena ≡ n = (let from : q.lent ≡ Some r.arena = ap (λ (s : SerialState). s.lent) r.lent.left in cc) in
     let t : r.places.tunables ≡ q.tunables = sym (ap (λ (s : SerialState). s.tunables) r.lent.left) in

@@ -167,7 +167,8 @@ impl Places for Serial {
     type Dial = PlainDials;
 
     ghost use Rattle.fast_bins.specs.PlainBins.{plain_fast};
-    ghost use Rattle.serial_places.specs.Joined.{joined_fast};
+    ghost use Rattle.mapped_chunks.specs.PlainDials.{plain_dials};
+    ghost use Rattle.serial_places.specs.Joined.{joined_fast, joined_dials};
     ghost use Rattle.arena_holds.specs.Returning.{IsReturn, Unlocks, IsNew, IsAdded};
     ghost use Rattle.serial_places.specs.LawsOfPlaces.{serial_laws};
     ghost use Rattle.serial_places.specs.SerialWays.{kept_ground, state_ways};
@@ -201,10 +202,11 @@ impl Places for Serial {
     }
 
     fn unlock(&mut self, hold: Both<PlainFast, PlainDials>, arena: Arena<Ground>)
-        requires lent { IsReturn state_ways (kept_ground arena) self.old }
+        requires lent { IsReturn state_ways (joined_fast plain_fast) (joined_dials plain_dials)
+            (kept_ground arena) hold self.old }
         ensures gave { state_ways.gave self.old hold (kept_ground arena) self.new }
-        ensures unlocked { Unlocks state_ways (joined_fast plain_fast) self.old hold
-            (kept_ground arena) self.new }
+        ensures unlocked { Unlocks state_ways (joined_fast plain_fast) (joined_dials plain_dials)
+            self.old hold (kept_ground arena) self.new }
     {
         let Both { bins, dials } = hold;
         let a = self.lent.take().unwrap();

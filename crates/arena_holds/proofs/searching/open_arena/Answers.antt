@@ -11,7 +11,7 @@ add-requires g c =
     let replay = rw c.in-Ok-Some.field-0-is at c.in-Ok-Some.ensures.replay in
     record {
       new = is_new g.P.Places.ways g.P.Ground.Moves.plain g.K.Kernel.port c.args.t.now c.args.who.now c.args.p.now c.args.a c.args.bytes c.in-Ok-Some.arena.ground.value c.in-Ok-Some.arena.journal.items
-          c.args.space.now c.open.new.space c.requires.owed (g.met.P.Places.laws.owes c.args.p.now c.args.a c.requires.owed).0 c.requires.tunables opened replay;
+          c.args.space.now c.open.new.space c.requires.owed c.requires.writer (g.met.P.Places.laws.owes c.args.p.now c.args.a c.requires.owed).0 c.requires.tunables opened replay;
     }
 
 pub returns-in-Ok-Some-clause-opens : goal.returns-in-Ok-Some-clause-opens

@@ -15,7 +15,7 @@ returns-clause-gave c =
     (sym c.take.ensures.value ∙ c.unwrap-a.ensures) c.from.ensures c.take.ensures.after
 
 pub returns-clause-unlocked : goal.returns-clause-unlocked
-returns-clause-unlocked c = λ places a port before lent.
+returns-clause-unlocked c = λ places a port before lent goes.
     unlocked places c.args.self.now (with_back c.self.inside c.from.result c.args.arena c.args.hold c.take.new.self) a port c.args.hold before (kept_ground c.args.arena) lent
     (gave_slot c.self.inside c.args.self.now c.from.result c.unwrap-a.result c.args.arena c.args.hold c.take.new.self c.self.view_is
     (sym c.take.ensures.value ∙ c.unwrap-a.ensures) c.from.ensures c.take.ensures.after)
