@@ -15,6 +15,7 @@ pub mod Heaps
 pub mod KeptMappings
 pub mod Lookups
 pub mod MainPlaces
+pub mod MainWindows
 pub mod Mapped
 pub mod Merging
 pub mod Moved

@@ -17,3 +17,4 @@ pub mod Resize
 pub mod Align
 pub mod Mapped
 pub mod KeptMappings
+pub mod MainWindows
