@@ -21,6 +21,7 @@ pub mod Merging
 pub mod Moved
 pub mod NewTops
 pub mod Own
+pub mod OwnWindows
 pub mod Resizes
 pub mod Rows
 pub mod Sorting
