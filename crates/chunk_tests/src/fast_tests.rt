@@ -1,15 +1,28 @@
 //! The fast bins of one order of calls.
 
-ghost use Rattle.std.specs.Prelude.{◌<◌};
+ghost use Rattle.std.specs.Prelude.{◌≡◌, ◌+◌, ◌<◌, OnOk};
+ghost use Rattle.chunk_tags.specs.BinOrder.{once, fast_chunk};
+ghost use Rattle.chunk_tags.specs.declared.tiles.Chunk.{Chunk as Piece};
+ghost use Rattle.fast_bins.specs.PlainBins.{plain_fast};
 
 use chunk_tags::{Addr, NoMemory};
 use fast_bins::{FastPort, PlainFast};
 use std::alloc::Global;
 use std::test::Fail;
 
-/// Pushes a chunk, where there is memory.
+/// Fast bins with no chunk.
+fn no_chunks(alloc: Global) -> PlainFast
+    ensures { (e : Piece) → plain_fast.stock result e ≡ 0 }
+{
+    PlainFast::new(alloc)
+}
+
+/// Pushes a chunk that isn't there, where there is memory.
 fn put<P: FastPort>(port: &mut P, bin: u8, at: u64) -> Result<(), NoMemory>
-    requires { bin < 10 }
+    requires bin { bin < 10 }
+    requires fresh { P.fast.stock port.old (fast_chunk bin at) ≡ 0 }
+    ensures { OnOk result ((e : Piece)
+        → P.fast.stock port.new e ≡ P.fast.stock port.old e + once e (fast_chunk bin at)) }
 {
     port.make_room()?;
     port.push(bin, Addr(at));
@@ -18,7 +31,7 @@ fn put<P: FastPort>(port: &mut P, bin: u8, at: u64) -> Result<(), NoMemory>
 
 /// Fast bin 1 with two chains, of two chunks and of one, and a chunk of its own; and fast bin 9 with a chunk.
 fn with_chains(alloc: Global) -> Result<PlainFast, NoMemory> {
-    let mut bins = PlainFast::new(alloc);
+    let mut bins = no_chunks(alloc);
     put(&mut bins, 1, 0x10)?;
     put(&mut bins, 1, 0x20)?;
     bins.take_all(1);
@@ -61,7 +74,7 @@ fn a_chain_goes_before_the_private_list(rt: HostRuntime) -> Result<(), Fail> {
 
 #[test]
 fn a_push_sets_the_flag(rt: HostRuntime) -> Result<(), Fail> {
-    let mut bins = PlainFast::new(rt.alloc());
+    let mut bins = no_chunks(rt.alloc());
     let new = bins.flag();
     put(&mut bins, 0, 0x10)?;
     let pushed = bins.flag();

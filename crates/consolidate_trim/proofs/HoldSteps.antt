@@ -180,6 +180,11 @@ fast_chunk_is c chunk =
     let same : fast_size_at (fast_index_of c.size) ≡ c.size = omega (arith, chunk.0, chunk.1) in
     λ i. record { at = c.at; size = same i }
 
+-- the port doesn't have it
+pub fresh_in_bin : {P : Type 0} {fast : Fast P} {a : Plain} {port q : P} {bin : ℕ} (c : Chunk) → IsBacked fast a port (one_chunk c) → Idles fast port q → bin ≡ fast_index_of c.size → fast.stock q (fast_chunk bin c.at) ≡ 0
+fresh_in_bin {fast = fast} {q = q} c backed idles is =
+    ap (λ (n : ℕ). fast.stock q (fast_chunk n c.at)) is ∙ (ap (fast.stock q) (fast_chunk_is c (hand_size c backed)) ∙ hand_new c (idled_backed backed idles))
+
 pub passes_push : {P K : Type 0} {m : Means P K} {t : Tunables} {h : Hold P K} {q : P} {bin : ℕ} (c : Chunk) → IsBacked m.fast h.arena h.port (one_chunk c) → IsChunkSize c.size → bin ≡ fast_index_of c.size → Did m.fast h.port (fasts.Pushes bin c.at) q →
     Passes m t (Does (Pushes (fast_index_of c.size) c.at) (Stop h.arena)) (one_chunk c) h (Stop h.arena) no_chunk (hold h.arena q h.cache h.space h.said)
 passes_push {m = m} {h = h} {q = q} c backed chunk is did =

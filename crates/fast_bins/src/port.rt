@@ -1,6 +1,7 @@
 //! A port to the fast bins of an arena.
 
 ghost use Rattle.std.specs.Prelude.{◌≡◌, ◌<◌, IsTrue, OnOk, OnErr};
+ghost use Rattle.chunk_tags.specs.BinOrder.{fast_chunk};
 ghost use Rattle.fast_bins.specs.FastPorts.{Fast, Flags, Clears, Pushes, Pops, Gathers, Owns, Did, Idles, HasRoom, fast_bin_count};
 
 use chunk_tags::{Addr, NoMemory};
@@ -29,10 +30,11 @@ pub trait FastPort {
     fn clear_flag(&mut self)
         ensures { Did fast self.old Clears self.new };
 
-    /// Pushes a chunk of a bin's size, and sets the flag. No memory is asked for.
+    /// Pushes a chunk of a bin's size that the stock doesn't have, and sets the flag. No memory is asked for.
     fn push(&mut self, bin: u8, at: Addr)
         requires bin { bin < fast_bin_count }
         requires room { IsTrue (fast.room self.old bin) }
+        requires fresh { fast.stock self.old (fast_chunk bin at) ≡ 0 }
         ensures { Did fast self.old (Pushes bin at) self.new };
 
     /// The front of a bin, which leaves it. `None` exactly where chain and list were empty.

@@ -71,7 +71,7 @@ pub slot_seen : (i : Inside) (now : SerialState) (n : ℕ) (s : Slot) → seen i
 slot_seen i now n s view at =
     ap (λ (st : SerialState). slot_in st.slots n) (sym view) ∙ (slot-map kept_slot i.arenas.items n ∙ ap (option_map kept_slot) at)
 
-now_serial : (i : Inside) (now : SerialState) → seen i ≡ now → IsSerial (seen i) → IsSerial now
+pub now_serial : (i : Inside) (now : SerialState) → seen i ≡ now → IsSerial (seen i) → IsSerial now
 now_serial i now view s = subst IsSerial view s
 
 -- an arena that is there is in the list

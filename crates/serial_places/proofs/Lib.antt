@@ -1,5 +1,6 @@
 pub mod Joining
 pub mod Playing
+mod Pushing
 pub mod Slots
 pub mod SerialBooks
 pub mod SerialKeeps

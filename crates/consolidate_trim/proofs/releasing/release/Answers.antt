@@ -2,7 +2,7 @@ use Rattle.std.proofs.Common.{ap, sym, arith}
 use Rattle.std.proofs.lemmas.Result.{err_from_is_err_and}
 use Rattle.chunk_tags.specs.declared.tiles.Chunk.{Chunk}
 use Rattle.consolidate_trim.proofs.Carried.{carries_then, carries_short, carries_ends}
-use Rattle.consolidate_trim.proofs.HoldSteps.{hand_size, idled_backed, passes_as, passes_room, passes_idled, passes_release, passes_stash, passes_push, after_room_true, after_room_fast, after_room_given}
+use Rattle.consolidate_trim.proofs.HoldSteps.{hand_size, idled_backed, passes_as, passes_room, passes_idled, passes_release, passes_stash, fresh_in_bin, passes_push, after_room_true, after_room_fast, after_room_given}
 use Rattle.consolidate_trim.proofs.releasing.release.Goals as goal
 
 pub returns-in_err-make_room-clause-gives : goal.returns-in_err-make_room-clause-gives
@@ -28,6 +28,9 @@ returns-then-room-clause-gives g c =
 
 pub fast_index-requires-clause-chunk : goal.fast_index-requires-clause-chunk
 fast_index-requires-clause-chunk g c = hand_size c.args.c c.requires.backed
+
+pub push-requires-clause-fresh : goal.push-requires-clause-fresh
+push-requires-clause-fresh g c = fresh_in_bin c.args.c c.requires.backed c.make_room-2.ensures.idle c.fast_index.ensures
 
 pub returns-then-c-t-clause-gives : goal.returns-then-c-t-clause-gives
 returns-then-c-t-clause-gives g c =

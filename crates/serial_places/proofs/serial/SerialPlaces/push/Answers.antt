@@ -2,6 +2,7 @@ use Rattle.std.proofs.Common.{◌≡◌, ◌<◌, length, Some, IsTrue, sym, ap,
 use Rattle.std.specs.Option.{is_some, option_copied_mut}
 use Rattle.serial_places.specs.SerialWays.{slot_in, is_there}
 use Rattle.serial_places.proofs.Insides.{inside_within, read_slot, read_there, slot_seen, slot_serial, known_alone, pushed_slot, gone_slot}
+use Rattle.serial_places.proofs.Pushing.{fresh_slot}
 use Rattle.serial_places.proofs.SerialLaws.{room_at}
 use Rattle.serial_places.proofs.serial.SerialPlaces.push.Goals as goal
 
@@ -27,6 +28,10 @@ pub push-requires-clause-room : goal.push-requires-clause-room
 push-requires-clause-room c =
     room_at c.args.self.now c.unwrap-a.result _ c.fast_index.result (slot_seen c.self.inside c.args.self.now c.unwrap-a.result c.unwrap-slot.result.now c.self.view_is (at_slot c))
     (c.requires.room c.unwrap-a.result c.unwrap-a.ensures) (omega (arith, c.fast_index.ensures, c.requires.fast))
+
+pub push-requires-clause-fresh : goal.push-requires-clause-fresh
+push-requires-clause-fresh c =
+    fresh_slot c.self.inside c.args.self.now c.unwrap-a.result c.unwrap-slot.result.now c.args.b c.fast_index.result c.self.view_is c.self.invariant (at_slot c) c.unwrap-a.ensures c.requires.chunk c.fast_index.ensures c.requires.served
 
 at_slot_2 : (c : goal.After-self-1) → slot_in c.self.inside.arenas.items c.unwrap-a.result ≡ Some c.unwrap-slot.result.now
 at_slot_2 c =
