@@ -18,6 +18,7 @@ use Rattle.arena_core.specs.declared.journal.Who.{Who}
 use Rattle.arena_core.specs.Journal.{Recorded}
 use Rattle.arena_core.specs.Replay.{IsReplay}
 use Rattle.arena_core.specs.Shown.{MappedShown, ShowsMapped}
+use Rattle.arena_choice.specs.Books as arena_books
 use Rattle.arena_choice.specs.Books.{BookValue}
 use Rattle.arena_holds.specs.BookChanges.{BookChange}
 use Rattle.consolidate_trim.specs.Holds.{is_block_of}
@@ -190,9 +191,9 @@ pub record MayLengthen (b : Block) (own len : ℕ) : Type 0 where
   pub fits : mapping_bytes b < len → own + len ≤ map_length
 
 -- what is true of places: as often the same blocks are given out, or fewer; a lent arena is such; main is there where each
--- arena of the book is, and the arena of a block that is given out is there; the number of a new arena isn't main's; a mapping
--- that fits its thread's window may be counted; and a mapped chunk may be counted no more, or with another length that fits
--- its thread's window
+-- arena of the book is, and the arena of a block that is given out is there; the number of a new arena isn't main's; a book
+-- that is found is sound; a mapping that fits its thread's window may be counted; and a mapped chunk may be counted no more, or
+-- with another length that fits its thread's window
 pub record PlaceLaws {P H D : Type 0} (ways : PlaceWays P H D) (fast : Fast H) (dials : Dialled H) (words : Dialled D) : Type 0 where
   pub apart : AreApart fast dials
   pub shows : ShowsMapped fast dials ways.shown
@@ -203,6 +204,7 @@ pub record PlaceLaws {P H D : Type 0} (ways : PlaceWays P H D) (fast : Fast H) (
   pub home : (p : P) → ways.whole p → IsTrue (ways.there p 0)
   pub known : (p : P) (b : Block) (others : Hands) (a : ℕ) → ways.serves false p (both_of (λ weigh. weigh b) others) → b.arena ≡ Some a → IsTrue (ways.there p a)
   pub owes : (p : P) (a : ℕ) → ways.owed p a → (0 < a) × (a < 64)
+  pub books : (p q : P) (change : BookChange) (book : BookValue) → ways.booked p change book q → arena_books.IsSound book
   pub maps : (p q : P) (d : D) (own others len : ℕ) → ways.dials_lent p d q → ways.notes p own others → own + len ≤ map_length → words.allows d (Maps len)
   pub unmaps : (p q : P) (d : D) (b : Block) (others : Hands) → ways.dials_lent p d q → ways.serves false p (both_of (λ weigh. weigh b) others) → b.arena ≡ None →
       words.allows d (Unmaps (mapping_bytes b))

@@ -18,6 +18,7 @@ use Rattle.mapped_chunks.specs.declared.plain.DialState.{DialState}
 use Rattle.mapped_chunks.specs.declared.plain.PlainDials.{PlainDials}
 use Rattle.arena_rules.specs.PlainArena.{times_used}
 use Rattle.arena_choice.specs.Numbers.{has}
+use Rattle.arena_choice.specs.Books as books
 use Rattle.arena_choice.specs.Books.{BookValue}
 use Rattle.arena_choice.specs.Choices.{attached_book, choice_of}
 use Rattle.arena_choice.specs.declared.choice.Choice.{Choice}
@@ -307,19 +308,19 @@ booked_aside st book = record {
 booked_whole : (st : SerialState) (book : BookValue) → KeepsList st.book book → IsWhole st → IsWhole (record st { book = book })
 booked_whole st book k w = record { main = w.main; listed = λ n h. w.listed n (ap (has n) (sym k.list) ∙ h) }
 
-pub is_undone : (st new : SerialState) (a : ℕ) → new ≡ record st { book = book_after st.tunables (Undoes a) st.book } → KeepsList st.book (book_after st.tunables (Undoes a) st.book) → IsOwed st a → IsUndone state_ways a st new
-is_undone st new a is k o = record {
+pub is_undone : (st new : SerialState) (a : ℕ) → new ≡ record st { book = book_after st.tunables (Undoes a) st.book } → KeepsList st.book (book_after st.tunables (Undoes a) st.book) → books.IsSound st.book → IsOwed st a → IsUndone state_ways a st new
+is_undone st new a is k s o = record {
   book = st.book;
-  booked = record { was = refl; left = is };
+  booked = record { was = refl; sound = s; left = is };
   aside = subst (λ (x : SerialState). IsAside state_ways st x) (sym is) (booked_aside st (book_after st.tunables (Undoes a) st.book));
   whole = subst IsWhole (sym is) (booked_whole st (book_after st.tunables (Undoes a) st.book) k o.whole);
 }
 
-pub is_booked : (st new : SerialState) (change : BookChange) → new ≡ record st { book = book_after st.tunables change st.book } → KeepsList st.book (book_after st.tunables change st.book) →
+pub is_booked : (st new : SerialState) (change : BookChange) → new ≡ record st { book = book_after st.tunables change st.book } → KeepsList st.book (book_after st.tunables change st.book) → books.IsSound st.book →
     IsBooked state_ways st change new
-is_booked st new change is k = record {
+is_booked st new change is k s = record {
   book = st.book;
-  booked = record { was = refl; left = is };
+  booked = record { was = refl; sound = s; left = is };
   unseen = subst (λ (s : SerialState). IsUnseen state_ways st (λ _. 0) (λ _. 0) s) (sym is) (booked_unseen st (book_after st.tunables change st.book) k);
 }
 
@@ -330,7 +331,7 @@ is_chosen st new thread fresh t choice tunables w s is chosen k =
     let after : new ≡ record st { book = book_after st.tunables (Chooses thread fresh) st.book } = is ∙ ap (λ (x : Tunables). let r : SerialState = record st { book = book_after x (Chooses thread fresh) st.book } in r) tunables in
     record {
       book = st.book;
-      booked = record { was = refl; left = after };
+      booked = record { was = refl; sound = s.sound; left = after };
       choice_is = chosen;
       aside = subst (λ (x : SerialState). IsAside state_ways st x) (sym is) (booked_aside st (book_after t (Chooses thread fresh) st.book));
       allowed = rw (is, chosen) (allowed_by (record st { book = book_after t (Chooses thread fresh) st.book }) (choice_of st.book thread fresh t) (booked_whole st (book_after t (Chooses thread fresh) st.book) k w) (usable st thread fresh t s.sound w));

@@ -133,6 +133,7 @@ serial_laws = record {
   home = λ p w. w.main;
   known = known;
   owes = λ p n o. (o.other, o.below);
+  books = λ p q change book h. h.sound;
   maps = λ p q d own others len h n le. may_map p d own others len h.told n le;
   unmaps = unmaps;
   remaps = remaps;

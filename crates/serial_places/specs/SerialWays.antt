@@ -271,9 +271,10 @@ pub record DialsOut (old : SerialState) (d : PlainDials) (new : SerialState) : T
   pub told : d ≡ old.dials
   pub left : new ≡ old
 
--- something was done at the book
+-- something was done at the book, which was sound
 pub record BookedState (old : SerialState) (change : BookChange) (book : BookValue) (new : SerialState) : Type 0 where
   pub was : book ≡ old.book
+  pub sound : books.IsSound book
   pub left : new ≡ record old { book = book_after old.tunables change old.book }
 
 -- a new arena was put into its slot, with empty fast bins, and a thread attached to it
