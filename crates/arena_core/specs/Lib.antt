@@ -8,8 +8,8 @@ pub mod Journal
 pub mod Kept
 pub mod Tellings
 pub mod Replay
+pub mod KeptArenas
 pub mod Arenas
 pub mod Opening
 pub mod Examples
 pub mod Shown
-pub mod KeptArenas

@@ -21,23 +21,9 @@ use Rattle.arena_core.specs.Shown.{MappedShown, ShowsMapped}
 use Rattle.arena_choice.specs.Books as arena_books
 use Rattle.arena_choice.specs.Books.{BookValue}
 use Rattle.arena_holds.specs.BookChanges.{BookChange}
+pub use Rattle.arena_core.specs.KeptArenas.{KeptArena, with_journal, kept_of, new_arena}
 use Rattle.consolidate_trim.specs.Holds.{is_block_of}
 use Rattle.consolidate_trim.specs.Outside.{Means, AreApart}
-
--- an arena between two holds: what it is, and the journal of its holds
-pub record KeptArena : Type 0 where
-  pub arena : Plain
-  pub journal : List Recorded
-
-abbrev pub with_journal : Plain → List Recorded → KeptArena
-with_journal arena journal = record { arena = arena; journal = journal }
-
-abbrev pub kept_of : {M : Type 0} → (M → Plain) → Arena M → KeptArena
-kept_of plain a = with_journal (plain a.ground.value) a.journal.items
-
--- the arena with a number, before its first entry
-abbrev pub new_arena : Tunables → ℕ → Plain
-new_arena t a = if nat_eq a 0 then empty_main else closed_arena t a
 
 -- how many trays there are
 abbrev pub tray_count : ℕ

@@ -1,5 +1,6 @@
 -- The places for one order of calls (this project's own): the arenas with their fast bins stand in slots by their numbers, but
 -- while one is lent to a hold; and the words, the book of arenas and the trays beside them. Nothing waits.
+pub use Rattle.arena_core.specs.KeptArenas.{IsKept}
 use Rattle.std.specs.Prelude.{◌≡◌, ℕ, ◌+◌, ◌*◌, ◌<◌, ◌≤◌, Bool, true, false, List, [], ◌∷◌, ◌++◌, length, map, replicate, flat_map, Option, Some, None, is_some, IfSome, IsTrue, option_map, Result, slice_index_or, slice_set}
 use Rattle.std.specs.Option.{option_and_then}
 use Rattle.chunk_tags.specs.Sizes.{fast_index_of}
@@ -101,15 +102,6 @@ state_at slots dials book trays lent t = record {
   lent = lent;
   tunables = t;
 }
-
--- An arena in the slot with its number, as it always is between two holds: sound, in its windows, and what the replay of its
--- journal gives.
-pub record IsKept (t : Tunables) (n : ℕ) (k : KeptArena) : Type 0 where
-  pub number : k.arena.number ≡ n
-  pub sound : IsSound k.arena
-  pub placed : IsPlaced k.arena
-  pub heaps : is_main k.arena ≡ false → k.arena.windows ≡ heap_windows_of t
-  pub replays : IsReplay t (new_arena t n) k.journal k.arena
 
 -- what stands in a slot is such, and is in the book's list of arenas
 pub record IsKeptIn (t : Tunables) (list : List ℕ) (n : ℕ) (s : KeptSlot) : Type 0 where
