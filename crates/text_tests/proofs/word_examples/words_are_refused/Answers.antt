@@ -24,5 +24,6 @@ returns c = record {
   hyphens = refl;
   value_of_a_flag = refl;
   summary_of_threads = refl;
+  summary_of_a_trim = refl;
   one_of_a_pair = refl;
 }

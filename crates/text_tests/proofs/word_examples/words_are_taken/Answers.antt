@@ -16,4 +16,5 @@ returns c = record {
   a_cached_size = refl;
   threads = refl;
   a_pair = refl;
+  a_pad = refl;
 }
