@@ -1,0 +1,9 @@
+pub mod Later
+pub mod DialChanges
+pub mod DialSteps
+pub mod DialParts
+pub mod DialBounds
+pub mod DialGathers
+pub mod DialFrames
+pub mod DialEnds
+pub mod DialCalls

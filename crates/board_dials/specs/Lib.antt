@@ -1,0 +1,2 @@
+pub mod DialPlays
+pub mod DialEnds

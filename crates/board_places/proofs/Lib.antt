@@ -1,0 +1,2 @@
+pub mod PlaceGathers
+pub mod PlaceHolds

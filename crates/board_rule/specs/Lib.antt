@@ -1,0 +1,16 @@
+pub use Rattle.arena_core.specs.KeptArenas
+pub use Rattle.board_types.specs.Layouts
+pub use Rattle.board_types.specs.Views
+pub use Rattle.board_types.specs.Flat
+pub use Rattle.board_types.specs.Passes
+pub use Rattle.board_types.specs.Law
+pub use Rattle.board_types.specs.Weights
+pub use Rattle.board_types.specs.Plays
+pub use Rattle.board_types.specs.Homes
+pub use Rattle.board_types.specs.Chains
+pub use Rattle.board_types.specs.Starts
+pub use Rattle.board_types.specs.Faces
+pub use Rattle.board_types.specs.Trays
+pub use Rattle.board_types.specs.Places
+pub use Rattle.board_types.specs.TunedWords
+pub use Rattle.board_types.specs.Dials
