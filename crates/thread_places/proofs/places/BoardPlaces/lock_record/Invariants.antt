@@ -1,0 +1,5 @@
+use Rattle.std.proofs.Common.{◌≡◌, option_map}
+use Rattle.thread_places.proofs.places.BoardPlaces.lock_record.Given as goal
+
+abbrev pub invariant-loop : goal.invariant-loop
+invariant-loop g l = (option_map g.B.BoardPass.view l.self.pass ≡ option_map g.B.BoardPass.view l.fn.self.pass) × ((l.self.polls ≡ l.fn.self.polls) × (l.self.who ≡ l.fn.self.who))

@@ -1,0 +1,4 @@
+pub mod BoardWays
+pub mod BoardLaws
+pub mod ListedTold
+pub mod BoardLists
